@@ -1,8 +1,8 @@
 // R-9: the change-over of a sound state in the middle of a search, from a pool of four-word nodes to one of two-word nodes in the front of the same words.
 // It asks nothing of its caller; its contract is an equation with a definition of the crate semantics.
-ghost use Rattle.semantics.specs.Convert.{convertWith};
+ghost use Rattle.semantics.specs.Convert.{convert_with};
 ghost use Rattle.semantics.specs.Promises.{parts, Fits, IsConvert, IsConvertWith};
-ghost use Rattle.semantics.specs.Remembering.{convertRemembering};
+ghost use Rattle.semantics.specs.Remembering.{convert_remembering};
 
 mod checking;
 mod pack;
@@ -22,7 +22,7 @@ pub fn convert_on(
     work: &mut [u32],
 ) -> u32
     requires { Fits (parts numbers.now deques.now frames.now) }
-    ensures { IsConvert (convertWith (parts numbers.now deques.now frames.now) pool.old work.old)
+    ensures { IsConvert (convert_with (parts numbers.now deques.now frames.now) pool.old work.old)
         pool.new work.new result }
 {
     let refused = check_number(check_old(numbers, deques, frames, pool, work));
@@ -44,7 +44,7 @@ pub fn convert(
     pool: &mut [u32],
     work: &mut [u32],
 ) -> u32
-    ensures { IsConvertWith (convertRemembering (parts numbers.now deques.now frames.now) memory.old pool.old work.old)
+    ensures { IsConvertWith (convert_remembering (parts numbers.now deques.now frames.now) memory.old pool.old work.old)
         memory.new pool.new work.new result }
 {
     if !fit(numbers, deques, memory) {

@@ -3,7 +3,7 @@ ghost use Rattle.std.specs.Prelude.{◌≡◌, cond, ◌*◌, ◌<◌, ◌≤◌
 ghost use Rattle.words.specs.Basics.{none};
 ghost use Rattle.packed.specs.Pool.{links};
 ghost use Rattle.packed.specs.Pack.{converted};
-ghost use Rattle.conversion.specs.Promises.{nodePacked};
+ghost use Rattle.conversion.specs.Promises.{node_packed};
 
 use packed::{NODE_WORDS, NONE, links_of};
 
@@ -26,7 +26,7 @@ pub fn packed_content(holders: u32, left: u32, right: u32, value: u32) -> u32
 // Node i: its four words are zero before its two words are stored, which stand before them, or first among them if i is 0.
 pub fn pack_node(pool: &mut [u32], nodes: u32, i: usize)
     requires { (4 * nodes ≤ length pool.old) × (i < nodes) }
-    ensures { pool.new ≡ nodePacked pool.old i }
+    ensures { pool.new ≡ node_packed pool.old i }
 {
     let from = OLD_NODE_WORDS * i;
     let holders = pool[from];

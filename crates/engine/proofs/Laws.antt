@@ -2,17 +2,17 @@
 use Rattle.std.proofs.Common.{◌≡◌, ℕ, zero, suc, ◌-◌, ◌<◌, ◌≤◌, Bool, true, false, not, ◌&&◌, ◌||◌, eqb, ltb, List, [], sym, refl, ap, ◌∙◌, inl, inr, arith, le-ltb, lt-ltb, eq-eqb, ne_eqb}
 use native.Mathlib.Decide.{ℕ_discrete}
 use Rattle.words.specs.Basics.{all}
-use Rattle.words.specs.Tests.{decided, true≢false, neither, not-false, lt_of, ge-of}
-use Rattle.words.specs.Counting.{all-at}
-use Rattle.frames.specs.Widths.{maxWorkers}
+use Rattle.words.specs.Tests.{decided, true≢false, neither, not-false, lt_of, ge_of}
+use Rattle.words.specs.Counting.{all_at}
+use Rattle.frames.specs.Widths.{max_workers}
 use Rattle.frames.specs.Deques.{size}
 use Rattle.semantics.specs.declared.Head.{Head}
 use Rattle.engine.specs.declared.Acting.{Acting}
 use Rattle.semantics.specs.declared.Refusal.{Refusal}
 use Rattle.semantics.specs.declared.Refusal.TheVariants.{NoWorker, MainReturned, WorkerIdle, ThiefBusy, NoVictim}
-use Rattle.semantics.specs.Core.{actingTests, stealTests}
-use Rattle.semantics.specs.Answers.{refusalNumber}
-use Rattle.engine.specs.Promises.{core, refusalBy, SizesIn, IsActing}
+use Rattle.semantics.specs.Core.{acting_tests, steal_tests}
+use Rattle.semantics.specs.Answers.{refusal_number}
+use Rattle.engine.specs.Promises.{core, refusal_by, SizesIn, IsActing}
 use Rattle.engine.proofs.Steps.{refusal-some}
 
 -- ---- all idle
@@ -22,8 +22,8 @@ and-true true = refl
 and-true false = refl
 
 -- one number less, of which f holds
-pub all-less : (f : ℕ → Bool) (n : ℕ) → 0 < n → f (n - 1) ≡ true → all (n - 1) f ≡ all n f
-all-less f n h e =
+pub all_less : (f : ℕ → Bool) (n : ℕ) → 0 < n → f (n - 1) ≡ true → all (n - 1) f ≡ all n f
+all_less f n h e =
     let s : n ≡ suc (n - 1) = omega arith in
     and-true (all (n - 1) f) ∙ ap (λ b. all (n - 1) f && b) (sym e) ∙ ap (λ (k : ℕ). all k f) (sym s)
 
@@ -36,8 +36,8 @@ all_from f n (suc m) h a = elim (ℕ_discrete n (suc m)) [
 ]
 
 -- some number below n, of which f does not hold
-pub all-not : (n : ℕ) (f : ℕ → Bool) (i : ℕ) → i < n → f i ≡ false → all n f ≡ false
-all-not n f i b e = elim (decided (all n f)) [ inl t ↦ absurd (true≢false (sym (all-at n f t i b) ∙ e)) | inr t ↦ t ]
+pub all_not : (n : ℕ) (f : ℕ → Bool) (i : ℕ) → i < n → f i ≡ false → all n f ≡ false
+all_not n f i b e = elim (decided (all n f)) [ inl t ↦ absurd (true≢false (sym (all_at n f t i b) ∙ e)) | inr t ↦ t ]
 
 -- no number is left
 pub all_none : (f : ℕ → Bool) (n : ℕ) → n ≤ 0 → all n f ≡ true
@@ -50,48 +50,48 @@ module _ (h : Head) (ds : List ℕ) where
   idles = all h.numbers.workers (λ w. eqb (size ds w) 0)
 
   -- those that do not exist are idle too
-  pub idles-is : SizesIn h.numbers.workers ds → all maxWorkers (λ w. eqb (size ds w) 0) ≡ idles
-  idles-is s = all_from (λ w. eqb (size ds w) 0) h.numbers.workers maxWorkers s.workers-le (λ w b l. eq-eqb (size ds w) 0 (s.absent w b l))
+  pub idles_is : SizesIn h.numbers.workers ds → all max_workers (λ w. eqb (size ds w) 0) ≡ idles
+  idles_is s = all_from (λ w. eqb (size ds w) 0) h.numbers.workers max_workers s.workers_le (λ w b l. eq-eqb (size ds w) 0 (s.absent w b l))
 
   -- a worker that is not idle
   busy : (w n : ℕ) → w < h.numbers.workers → n ≡ size ds w → (n ≡ 0 → ⊥) → idles ≡ false
-  busy w n l e z = all-not h.numbers.workers (λ v. eqb (size ds v) 0) w l (ne_eqb (size ds w) 0 (λ q. z (e ∙ q)))
+  busy w n l e z = all_not h.numbers.workers (λ v. eqb (size ds v) 0) w l (ne_eqb (size ds w) 0 (λ q. z (e ∙ q)))
 
   module _ (w : ℕ) where
     -- refused
-    pub is-refused : (a : Acting) (r : Refusal) → a.refused ≡ true → a.refusal ≡ refusalNumber r → refusalBy (actingTests (core h [] ds [] []) w) ≡ refusalNumber r → IsActing (core h [] ds [] []) w a
-    is-refused a r t e k = record { refuses = λ _. (e ∙ sym k, λ z. refusal-some r (sym e ∙ z)); passes = λ f. absurd (true≢false (sym t ∙ f)) }
+    pub is_refused : (a : Acting) (r : Refusal) → a.refused ≡ true → a.refusal ≡ refusal_number r → refusal_by (acting_tests (core h [] ds [] []) w) ≡ refusal_number r → IsActing (core h [] ds [] []) w a
+    is_refused a r t e k = record { refuses = λ _. (e ∙ sym k, λ z. refusal-some r (sym e ∙ z)); passes = λ f. absurd (true≢false (sym t ∙ f)) }
 
-    pub acting-no-worker : h.numbers.workers ≤ w → refusalBy (actingTests (core h [] ds [] []) w) ≡ refusalNumber NoWorker
-    acting-no-worker l = rw (le-ltb w h.numbers.workers l)
+    pub acting_no_worker : h.numbers.workers ≤ w → refusal_by (acting_tests (core h [] ds [] []) w) ≡ refusal_number NoWorker
+    acting_no_worker l = rw (le-ltb w h.numbers.workers l)
 
-    pub acting-passes : (n : ℕ) → w < h.numbers.workers → n ≡ size ds w → (n ≡ 0 → ⊥) → refusalBy (actingTests (core h [] ds [] []) w) ≡ 0
-    acting-passes n l e z = rw (lt-ltb w h.numbers.workers l, busy w n l e z, ne_eqb (size ds w) 0 (λ q. z (e ∙ q)))
+    pub acting_passes : (n : ℕ) → w < h.numbers.workers → n ≡ size ds w → (n ≡ 0 → ⊥) → refusal_by (acting_tests (core h [] ds [] []) w) ≡ 0
+    acting_passes n l e z = rw (lt-ltb w h.numbers.workers l, busy w n l e z, ne_eqb (size ds w) 0 (λ q. z (e ∙ q)))
 
-    pub acting-main-returned : w < h.numbers.workers → idles ≡ true → refusalBy (actingTests (core h [] ds [] []) w) ≡ refusalNumber MainReturned
+    pub acting-main-returned : w < h.numbers.workers → idles ≡ true → refusal_by (acting_tests (core h [] ds [] []) w) ≡ refusal_number MainReturned
     acting-main-returned l a = rw (lt-ltb w h.numbers.workers l, a)
 
-    pub acting-idle : (n : ℕ) → w < h.numbers.workers → n ≡ size ds w → n ≡ 0 → idles ≡ false → refusalBy (actingTests (core h [] ds [] []) w) ≡ refusalNumber WorkerIdle
+    pub acting-idle : (n : ℕ) → w < h.numbers.workers → n ≡ size ds w → n ≡ 0 → idles ≡ false → refusal_by (acting_tests (core h [] ds [] []) w) ≡ refusal_number WorkerIdle
     acting-idle n l e z a = rw (lt-ltb w h.numbers.workers l, a, eq-eqb (size ds w) 0 (sym e ∙ z))
 
     module _ (v : ℕ) where
-      pub steal-no-worker : h.numbers.workers ≤ w → refusalNumber NoWorker ≡ refusalBy (stealTests (core h [] ds [] []) w v)
-      steal-no-worker l = rw (le-ltb w h.numbers.workers l)
+      pub steal_no_worker : h.numbers.workers ≤ w → refusal_number NoWorker ≡ refusal_by (steal_tests (core h [] ds [] []) w v)
+      steal_no_worker l = rw (le-ltb w h.numbers.workers l)
 
       module _ (l : w < h.numbers.workers) (n : ℕ) (e : n ≡ size ds w) where
-        pub steal-busy : (n ≡ 0 → ⊥) → refusalNumber ThiefBusy ≡ refusalBy (stealTests (core h [] ds [] []) w v)
-        steal-busy z = rw (lt-ltb w h.numbers.workers l, busy w n l e z, ne_eqb (size ds w) 0 (λ q. z (e ∙ q)))
+        pub steal_busy : (n ≡ 0 → ⊥) → refusal_number ThiefBusy ≡ refusal_by (steal_tests (core h [] ds [] []) w v)
+        steal_busy z = rw (lt-ltb w h.numbers.workers l, busy w n l e z, ne_eqb (size ds w) 0 (λ q. z (e ∙ q)))
 
         module _ (z : n ≡ 0) (b : Bool) (eb : b ≡ (not (ltb v h.numbers.workers) || ltb (size ds v) 2)) where
-          pub steal-passes : b ≡ false → 0 ≡ refusalBy (stealTests (core h [] ds [] []) w v)
-          steal-passes f =
+          pub steal_passes : b ≡ false → 0 ≡ refusal_by (steal_tests (core h [] ds [] []) w v)
+          steal_passes f =
               let q = neither (not (ltb v h.numbers.workers)) (ltb (size ds v) 2) (sym eb ∙ f) in
               let lv : v < h.numbers.workers = lt_of (not-false (ltb v h.numbers.workers) q.0) in
-              let two : 2 ≤ size ds v = ge-of q.1 in
+              let two : 2 ≤ size ds v = ge_of q.1 in
               rw (lt-ltb w h.numbers.workers l, busy v (size ds v) lv refl (λ o. omega arith), eq-eqb (size ds w) 0 (sym e ∙ z), lt-ltb v h.numbers.workers lv, q.1)
 
-          pub steal-main-returned : idles ≡ true → refusalNumber MainReturned ≡ refusalBy (stealTests (core h [] ds [] []) w v)
+          pub steal-main-returned : idles ≡ true → refusal_number MainReturned ≡ refusal_by (steal_tests (core h [] ds [] []) w v)
           steal-main-returned a = rw (lt-ltb w h.numbers.workers l, a)
 
-          pub steal-no-victim : b ≡ true → idles ≡ false → refusalNumber NoVictim ≡ refusalBy (stealTests (core h [] ds [] []) w v)
-          steal-no-victim t a = rw (lt-ltb w h.numbers.workers l, a, eq-eqb (size ds w) 0 (sym e ∙ z), ← eb, t)
+          pub steal_no_victim : b ≡ true → idles ≡ false → refusal_number NoVictim ≡ refusal_by (steal_tests (core h [] ds [] []) w v)
+          steal_no_victim t a = rw (lt-ltb w h.numbers.workers l, a, eq-eqb (size ds w) 0 (sym e ∙ z), ← eb, t)

@@ -1,14 +1,14 @@
 // Document 01's words for the answers.
 ghost use Rattle.std.specs.Prelude.{◌≡◌};
-ghost use Rattle.frames.specs.Steps.{returnedNumber, syncedNumber};
-ghost use Rattle.semantics.specs.Answers.{refusalNumber};
+ghost use Rattle.frames.specs.Steps.{returned_number, synced_number};
+ghost use Rattle.semantics.specs.Answers.{refusal_number};
 
 use frames::{Returned, Synced};
 use semantics::Refusal;
 
 // "Refused, in checking order": the number of a refusal.
 pub fn refusal_number(refusal: Refusal) -> u32
-    ensures { result ≡ refusalNumber refusal }
+    ensures { result ≡ refusal_number refusal }
 {
     match refusal {
         Refusal::Values => 1,
@@ -37,7 +37,7 @@ pub fn refusal_number(refusal: Refusal) -> u32
 }
 
 pub fn returned_number(outcome: Returned) -> u32
-    ensures { result ≡ returnedNumber outcome }
+    ensures { result ≡ returned_number outcome }
 {
     match outcome {
         Returned::Continued => 0,
@@ -49,7 +49,7 @@ pub fn returned_number(outcome: Returned) -> u32
 }
 
 pub fn synced_number(outcome: Synced) -> u32
-    ensures { result ≡ syncedNumber outcome }
+    ensures { result ≡ synced_number outcome }
 {
     match outcome {
         Synced::Passed => 0,

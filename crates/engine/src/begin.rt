@@ -1,10 +1,10 @@
 // The start, over parts that have their lengths: refusals 1, 2, 21 and 3, the first state and the initial pool.
 ghost use Rattle.std.specs.Prelude.{◌≡◌, ◌≤◌};
-ghost use Rattle.frames.specs.Widths.{maxPlaces};
-ghost use Rattle.frames.specs.Frames.{firstFree};
-ghost use Rattle.semantics.specs.Entries.{wholeNodes, firstNumbers, startWith};
+ghost use Rattle.frames.specs.Widths.{max_places};
+ghost use Rattle.frames.specs.Frames.{first_free};
+ghost use Rattle.semantics.specs.Entries.{whole_nodes, first_numbers, start_with};
 ghost use Rattle.semantics.specs.Promises.{parts, Fits, IsStart};
-ghost use Rattle.engine.specs.Promises.{refusalBy, startTests};
+ghost use Rattle.engine.specs.Promises.{refusal_by, start_tests};
 ghost use Rattle.soundness.specs.Layout.{two_words};
 
 use crate::answers::refusal_number;
@@ -18,7 +18,7 @@ use words::clear_all;
 
 // 1, 2, 21 and 3, of the workers, the initial values, the table's places and the pool's whole nodes, or 0.
 pub fn start_refusal(workers: u32, n: usize, places: usize, nodes: usize) -> u32
-    ensures { result ≡ refusalBy (startTests workers n places nodes) }
+    ensures { result ≡ refusal_by (start_tests workers n places nodes) }
 {
     if (n == 0) | (n > 256) {
         return refusal_number(Refusal::Values);
@@ -37,21 +37,21 @@ pub fn start_refusal(workers: u32, n: usize, places: usize, nodes: usize) -> u32
 
 // The pool's whole nodes.
 pub fn whole_nodes(pool: &[u32]) -> usize
-    ensures { result ≡ wholeNodes two_words pool.now }
+    ensures { result ≡ whole_nodes two_words pool.now }
 {
     pool.len() / NODE_WORDS
 }
 
 // The first free place of a table with so many, after a start.
 fn first_free(places: u32) -> u32
-    ensures { result ≡ firstFree places }
+    ensures { result ≡ first_free places }
 {
     if places == 1 { NONE } else { 1 }
 }
 
 // The numbers of the first state.
 pub fn first_numbers(workers: u32, n: u32, nodes: u32, free_node: u32, places: u32) -> Numbers
-    ensures { result ≡ firstNumbers workers n nodes free_node places }
+    ensures { result ≡ first_numbers workers n nodes free_node places }
 {
     Numbers {
         workers,
@@ -73,7 +73,7 @@ pub fn start_on(
     pool: &mut [u32],
 ) -> u32
     requires { Fits (parts numbers.old deques.old frames.old) }
-    ensures { IsStart (startWith two_words workers values.now frames.old pool.old)
+    ensures { IsStart (start_with two_words workers values.now frames.old pool.old)
         numbers.new deques.new frames.new pool.new result }
 {
     let nodes = whole_nodes(pool);

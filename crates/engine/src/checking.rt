@@ -1,16 +1,16 @@
 // Soundness, checked once a call: numbers first, then frames and deques, then the pool, then the memory.
 ghost use Rattle.std.specs.Prelude.{◌≡◌, ℕ, ◌≤◌, true, ◌||◌, List, length, ◌==◌, nat_eq, slice_index};
 ghost use Rattle.words.specs.Basics.{all};
-ghost use Rattle.frames.specs.Widths.{dequeWords};
+ghost use Rattle.frames.specs.Widths.{deque_words};
 ghost use Rattle.frames.specs.declared.Frame.{Frame};
-ghost use Rattle.soundness.specs.Numbers.{numberCount, totalCount, numbersIn, totalsIn};
-ghost use Rattle.soundness.specs.Soundness.{numbersSound};
+ghost use Rattle.soundness.specs.Numbers.{number_count, total_count, numbers_in, totals_in};
+ghost use Rattle.soundness.specs.Soundness.{numbers_sound};
 ghost use Rattle.soundness.specs.declared.Checked.TheVariants.{Sound};
-ghost use Rattle.semantics.specs.Entries.{isSound};
+ghost use Rattle.semantics.specs.Entries.{is_sound};
 ghost use Rattle.semantics.specs.Promises.{parts, Fits};
-ghost use Rattle.semantics.specs.Remembering.{rightMemory, withMemory};
-ghost use Rattle.engine.specs.Promises.{tablesChecked, IsCheck};
-ghost use Rattle.memory.specs.Memory.{memoryWords};
+ghost use Rattle.semantics.specs.Remembering.{right_memory, with_memory};
+ghost use Rattle.engine.specs.Promises.{tables_checked, IsCheck};
+ghost use Rattle.memory.specs.Memory.{memory_words};
 ghost use Rattle.soundness.specs.Layout.{two_words};
 
 use crate::numbers::{numbers_in, totals_zero};
@@ -24,7 +24,7 @@ use soundness::{Checked, Numbers};
 
 // With a table of so many places.
 pub fn check_numbers(numbers: Numbers, places: usize, pool: &[u32]) -> bool
-    ensures { (fs : List Frame) → length fs ≡ places → result ≡ numbersSound two_words numbers fs pool.now }
+    ensures { (fs : List Frame) → length fs ≡ places → result ≡ numbers_sound two_words numbers fs pool.now }
 {
     let table = (1 <= numbers.places)
         & ((numbers.places <= 256) & (places == numbers.places as usize));
@@ -37,8 +37,8 @@ pub fn check_numbers(numbers: Numbers, places: usize, pool: &[u32]) -> bool
 
 // R-5: the totals, "zero while Main lives"; end is one more than the last place where a frame lives, or 0.
 pub fn totals_right(numbers: &[u32], end: u32) -> bool
-    requires { length numbers.now ≡ numberCount }
-    ensures { result ≡ (end == 0 || all totalCount (λ i. nat_eq (slice_index (totalsIn numbers.now) i) 0)) }
+    requires { length numbers.now ≡ number_count }
+    ensures { result ≡ (end == 0 || all total_count (λ i. nat_eq (slice_index (totals_in numbers.now) i) 0)) }
 {
     (end == 0) | totals_zero(numbers)
 }
@@ -50,8 +50,8 @@ pub fn check_tables(
     frames: &[Frame],
     pool: &[u32],
 ) -> FramesChecked
-    requires { length deques.now ≡ dequeWords }
-    ensures { result ≡ tablesChecked numbers deques.now frames.now pool.now }
+    requires { length deques.now ≡ deque_words }
+    ensures { result ≡ tables_checked numbers deques.now frames.now pool.now }
 {
     if !check_numbers(numbers, frames.len(), pool) {
         return FramesChecked::Bad;
@@ -69,8 +69,8 @@ pub fn check_rest(
     work: &mut [u32],
     tables: FramesChecked,
 ) -> Checked
-    requires { Fits (parts numbers.now deques.now frames.now) × ((numbersIn numbers.now).nodes ≤ length work.old)
-        × (tables ≡ tablesChecked (numbersIn numbers.now) deques.now frames.now pool.now) }
+    requires { Fits (parts numbers.now deques.now frames.now) × ((numbers_in numbers.now).nodes ≤ length work.old)
+        × (tables ≡ tables_checked (numbers_in numbers.now) deques.now frames.now pool.now) }
     ensures { IsCheck (parts numbers.now deques.now frames.now) pool.now work.old work.new result }
 {
     let n = numbers_in(numbers);
@@ -118,9 +118,9 @@ pub fn check_leaves(
     memory: &[u32],
     pool: &[u32],
 ) -> Checked
-    requires { Fits (parts numbers.now deques.now frames.now) × (length memory.now ≡ memoryWords)
-        × ((free : ℕ) → checked ≡ Sound free → isSound two_words (parts numbers.now deques.now frames.now) pool.now ≡ true) }
-    ensures { result ≡ withMemory checked (rightMemory two_words (parts numbers.now deques.now frames.now) pool.now memory.now) }
+    requires { Fits (parts numbers.now deques.now frames.now) × (length memory.now ≡ memory_words)
+        × ((free : ℕ) → checked ≡ Sound free → is_sound two_words (parts numbers.now deques.now frames.now) pool.now ≡ true) }
+    ensures { result ≡ with_memory checked (right_memory two_words (parts numbers.now deques.now frames.now) pool.now memory.now) }
 {
     let Checked::Sound(free) = checked else {
         return checked;

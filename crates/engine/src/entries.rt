@@ -1,11 +1,11 @@
 // The start, the tape, the report, the save and the reading, on all inputs: a part of the state that has another length than it must have is refused first, by 99,
 // and nothing changes. The memory (R-10) is a part of the state: a start and a reading leave it zero.
 ghost use Rattle.std.specs.Prelude.{◌≡◌, ◌*◌, ◌&&◌, length, ◌==◌};
-ghost use Rattle.frames.specs.Widths.{dequeWords};
-ghost use Rattle.soundness.specs.Numbers.{numberCount};
+ghost use Rattle.frames.specs.Widths.{deque_words};
+ghost use Rattle.soundness.specs.Numbers.{number_count};
 ghost use Rattle.semantics.specs.Promises.{parts, lent, IsStartWith, IsTapeWith, IsSave, IsLoadWith, IsReportWith};
-ghost use Rattle.semantics.specs.Remembering.{startRemembering, tapeRemembering, reportRemembering, saveRemembering, loadRemembering};
-ghost use Rattle.memory.specs.Memory.{memoryWords};
+ghost use Rattle.semantics.specs.Remembering.{start_remembering, tape_remembering, report_remembering, save_remembering, load_remembering};
+ghost use Rattle.memory.specs.Memory.{memory_words};
 ghost use Rattle.soundness.specs.Layout.{two_words};
 
 use crate::Taped;
@@ -22,7 +22,7 @@ use words::clear_all;
 
 // Has each part of words its length?
 pub fn fit(numbers: &[u32], deques: &[u32], memory: &[u32]) -> bool
-    ensures { result ≡ (length numbers.now == numberCount && length deques.now == dequeWords) && (length memory.now == memoryWords) }
+    ensures { result ≡ (length numbers.now == number_count && length deques.now == deque_words) && (length memory.now == memory_words) }
 {
     ((numbers.len() == NUMBER_COUNT) & (deques.len() == DEQUE_WORDS))
         & (memory.len() == MEMORY_WORDS)
@@ -44,7 +44,7 @@ pub fn start(
     values: &[u32],
     pool: &mut [u32],
 ) -> u32
-    ensures { IsStartWith (startRemembering two_words (parts numbers.old deques.old frames.old) memory.old workers values.now pool.old)
+    ensures { IsStartWith (start_remembering two_words (parts numbers.old deques.old frames.old) memory.old workers values.now pool.old)
         numbers.new deques.new frames.new memory.new pool.new result }
 {
     if !fit(numbers, deques, memory) {
@@ -64,7 +64,7 @@ pub fn tape(
     bytes: &[u8],
     answers: &mut [u32],
 ) -> Taped
-    ensures { IsTapeWith (tapeRemembering two_words (parts numbers.old deques.old frames.old) memory.old pool.old work.old bytes.now answers.old)
+    ensures { IsTapeWith (tape_remembering two_words (parts numbers.old deques.old frames.old) memory.old pool.old work.old bytes.now answers.old)
         numbers.new deques.new frames.new memory.new pool.new work.new answers.new result.result result.visits }
 {
     if !fit(numbers, deques, memory) {
@@ -95,7 +95,7 @@ pub fn report(
     clocks: &mut [u64],
     report: &mut [u64],
 ) -> u32
-    ensures { IsReportWith (reportRemembering two_words (parts numbers.old deques.old frames.old) memory.old workers values.now pool.old bytes.now
+    ensures { IsReportWith (report_remembering two_words (parts numbers.old deques.old frames.old) memory.old workers values.now pool.old bytes.now
         (lent work.old answers.old clocks.old report.old))
         numbers.new deques.new frames.new memory.new pool.new work.new answers.new clocks.new report.new result }
 {
@@ -120,7 +120,7 @@ pub fn save(
     work: &mut [u32],
     target: &mut [u8],
 ) -> u32
-    ensures { IsSave (saveRemembering two_words (parts numbers.now deques.now frames.now) memory.now pool.now work.old target.old)
+    ensures { IsSave (save_remembering two_words (parts numbers.now deques.now frames.now) memory.now pool.now work.old target.old)
         work.new target.new result }
 {
     if !fit(numbers, deques, memory) {
@@ -138,7 +138,7 @@ pub fn load(
     work: &mut [u32],
     image: &[u8],
 ) -> u32
-    ensures { IsLoadWith (loadRemembering two_words (parts numbers.old deques.old frames.old) memory.old pool.old work.old image.now)
+    ensures { IsLoadWith (load_remembering two_words (parts numbers.old deques.old frames.old) memory.old pool.old work.old image.now)
         numbers.new deques.new frames.new memory.new pool.new work.new result }
 {
     if !fit(numbers, deques, memory) {

@@ -1,18 +1,18 @@
 // Saving and reading an image, over parts of words that have their lengths and a table of any length: document 02's R-1, as R-6 changes it.
 ghost use Rattle.std.specs.Prelude.{◌≡◌, ◌*◌, ◌≤◌, ◌&&◌, length, if◌then◌else◌, ◌==◌, nat_le, nat_lt};
-ghost use Rattle.frames.specs.Widths.{maxPlaces};
-ghost use Rattle.soundness.specs.Numbers.{numbersIn, numberCount};
+ghost use Rattle.frames.specs.Widths.{max_places};
+ghost use Rattle.soundness.specs.Numbers.{numbers_in, number_count};
 ghost use Rattle.soundness.specs.Soundness.{cleared};
-ghost use Rattle.image.specs.Widths.{blockBytes};
+ghost use Rattle.image.specs.Widths.{block_bytes};
 ghost use Rattle.image.specs.declared.ImageCheck.TheVariants.{Good};
-ghost use Rattle.image.specs.Image.{imageBytes, imageCheck, nodesIn, placesIn};
+ghost use Rattle.image.specs.Image.{image_bytes, image_check, nodes_in, places_in};
 ghost use Rattle.semantics.specs.declared.Refusal.TheVariants.{Work, Target};
-ghost use Rattle.semantics.specs.Answers.{refusalNumber};
-ghost use Rattle.semantics.specs.Images.{recordsZero, nodesZero, loadRead, loadWith};
-ghost use Rattle.semantics.specs.Remembering.{saveRemembering};
-ghost use Rattle.memory.specs.Memory.{memoryWords};
+ghost use Rattle.semantics.specs.Answers.{refusal_number};
+ghost use Rattle.semantics.specs.Images.{records_zero, nodes_zero, load_read, load_with};
+ghost use Rattle.semantics.specs.Remembering.{save_remembering};
+ghost use Rattle.memory.specs.Memory.{memory_words};
 ghost use Rattle.semantics.specs.Promises.{parts, Fits, IsSave, IsLoad};
-ghost use Rattle.engine.specs.Promises.{imageNumber, IsRechecked, IsLoading};
+ghost use Rattle.engine.specs.Promises.{image_number, IsRechecked, IsLoading};
 ghost use Rattle.soundness.specs.Layout.{two_words};
 
 use crate::answers::refusal_number;
@@ -28,8 +28,8 @@ use words::{clear_all, clear_first};
 
 // 19, "the target is too short", or 0.
 pub fn target_number(numbers: &[u32], target: &[u8]) -> u32
-    requires { length numbers.now ≡ numberCount }
-    ensures { result ≡ (if nat_lt (length target.now) (imageBytes two_words (numbersIn numbers.now).places (numbersIn numbers.now).nodes) then refusalNumber Target else 0) }
+    requires { length numbers.now ≡ number_count }
+    ensures { result ≡ (if nat_lt (length target.now) (image_bytes two_words (numbers_in numbers.now).places (numbers_in numbers.now).nodes) then refusal_number Target else 0) }
 {
     let first = numbers_in(numbers);
     if (target.len() as u64) < image_bytes(first.places, first.nodes) {
@@ -48,8 +48,8 @@ pub fn save_on(
     work: &mut [u32],
     target: &mut [u8],
 ) -> u32
-    requires { Fits (parts numbers.now deques.now frames.now) × (length memory.now ≡ memoryWords) }
-    ensures { IsSave (saveRemembering two_words (parts numbers.now deques.now frames.now) memory.now pool.now work.old target.old)
+    requires { Fits (parts numbers.now deques.now frames.now) × (length memory.now ≡ memory_words) }
+    ensures { IsSave (save_remembering two_words (parts numbers.now deques.now frames.now) memory.now pool.now work.old target.old)
         work.new target.new result }
 {
     let checked = check_parts(numbers, deques, frames, pool, work);
@@ -67,7 +67,7 @@ pub fn save_on(
 
 // 17 and 18, or 0.
 pub fn image_number(checked: ImageCheck) -> u32
-    ensures { result ≡ imageNumber checked }
+    ensures { result ≡ image_number checked }
 {
     match checked {
         ImageCheck::WrongLength => refusal_number(Refusal::Blocks),
@@ -78,7 +78,7 @@ pub fn image_number(checked: ImageCheck) -> u32
 
 // 5 for an image of so many nodes, or 0.
 pub fn work_number(nodes: u32, work: &[u32]) -> u32
-    ensures { result ≡ (if nat_lt (length work.now) nodes then refusalNumber Work else 0) }
+    ensures { result ≡ (if nat_lt (length work.now) nodes then refusal_number Work else 0) }
 {
     if (nodes as usize) > work.len() {
         return refusal_number(Refusal::Work);
@@ -88,8 +88,8 @@ pub fn work_number(nodes: u32, work: &[u32]) -> u32
 
 // Has the lent table just the image's places, not more than there can be, and the pool its nodes?
 pub fn takes(image: &[u8], places: usize, pool: &[u32]) -> bool
-    requires { blockBytes ≤ length image.now }
-    ensures { result ≡ (places == placesIn image.now) && (nat_le places maxPlaces && nat_le (2 * nodesIn image.now) (length pool.now)) }
+    requires { block_bytes ≤ length image.now }
+    ensures { result ≡ (places == places_in image.now) && (nat_le places max_places && nat_le (2 * nodes_in image.now) (length pool.now)) }
 {
     let recorded = places_in(image) as usize;
     let nodes = nodes_in(image) as usize;
@@ -98,7 +98,7 @@ pub fn takes(image: &[u8], places: usize, pool: &[u32]) -> bool
 
 // "6 when reading leaves every whole node of the pool zero"
 pub fn clear_nodes(pool: &mut [u32])
-    ensures { pool.new ≡ nodesZero two_words pool.old }
+    ensures { pool.new ≡ nodes_zero two_words pool.old }
 {
     let nodes = pool.len() / NODE_WORDS;
     clear_first(pool, NODE_WORDS * nodes);
@@ -113,7 +113,7 @@ pub fn unsound() -> u32
 
 // 6 when reading, by R-6 with "every record of the table zero too".
 pub fn refuse_read(frames: &mut [Frame], pool: &mut [u32]) -> u32
-    ensures { (result ≡ 6) × (frames.new ≡ recordsZero frames.old) × (pool.new ≡ nodesZero two_words pool.old) }
+    ensures { (result ≡ 6) × (frames.new ≡ records_zero frames.old) × (pool.new ≡ nodes_zero two_words pool.old) }
 {
     clear_frames(frames);
     clear_nodes(pool);
@@ -128,7 +128,7 @@ pub fn check_read(
     pool: &mut [u32],
     work: &mut [u32],
 ) -> u32
-    requires { Fits (parts numbers.now deques.now frames.old) × ((numbersIn numbers.now).nodes ≤ length work.old) }
+    requires { Fits (parts numbers.now deques.now frames.old) × ((numbers_in numbers.now).nodes ≤ length work.old) }
     ensures { IsRechecked (parts numbers.now deques.now frames.old) pool.old work.old
         frames.new pool.new work.new result }
 {
@@ -148,8 +148,8 @@ pub fn read_good(
     work: &mut [u32],
     image: &[u8],
 ) -> u32
-    requires { Fits (parts numbers.old deques.old frames.old) × (imageCheck two_words image.now ≡ Good) × (nodesIn image.now ≤ length work.old) }
-    ensures { IsLoading (loadRead two_words frames.old pool.old (cleared (nodesIn image.now) work.old) image.now)
+    requires { Fits (parts numbers.old deques.old frames.old) × (image_check two_words image.now ≡ Good) × (nodes_in image.now ≤ length work.old) }
+    ensures { IsLoading (load_read two_words frames.old pool.old (cleared (nodes_in image.now) work.old) image.now)
         numbers.new deques.new frames.new pool.new work.new result }
 {
     if !takes(image, frames.len(), pool) {
@@ -170,7 +170,7 @@ pub fn read_image(
     image: &[u8],
 ) -> u32
     requires { Fits (parts numbers.old deques.old frames.old) }
-    ensures { IsLoading (loadWith two_words frames.old pool.old work.old image.now)
+    ensures { IsLoading (load_with two_words frames.old pool.old work.old image.now)
         numbers.new deques.new frames.new pool.new work.new result }
 {
     let wrong = image_number(check_image(image));
@@ -194,7 +194,7 @@ pub fn load_on(
     image: &[u8],
 ) -> u32
     requires { Fits (parts numbers.old deques.old frames.old) }
-    ensures { IsLoad (loadWith two_words frames.old pool.old work.old image.now)
+    ensures { IsLoad (load_with two_words frames.old pool.old work.old image.now)
         numbers.new deques.new frames.new pool.new work.new result }
 {
     let refused = read_image(numbers, deques, frames, pool, work, image);

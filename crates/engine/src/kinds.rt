@@ -4,14 +4,14 @@
 ghost use Rattle.std.specs.Prelude.{◌≡◌, suc, ◌-◌, ◌<◌, true, [], length};
 ghost use Rattle.words.specs.Basics.{plus};
 ghost use Rattle.packed.specs.Links.{IsShared};
-ghost use Rattle.packed.specs.Pool.{firstShared};
-ghost use Rattle.frames.specs.Frames.{frameAt};
-ghost use Rattle.frames.specs.Steps.{syncedNumber};
-ghost use Rattle.soundness.specs.Numbers.{numbersIn, totalsIn, numberCount};
+ghost use Rattle.packed.specs.Pool.{first_shared};
+ghost use Rattle.frames.specs.Frames.{frame_at};
+ghost use Rattle.frames.specs.Steps.{synced_number};
+ghost use Rattle.soundness.specs.Numbers.{numbers_in, totals_in, number_count};
 ghost use Rattle.model.specs.declared.Step.TheVariants.{Spawn, Return, Steal, Sync, Read, Write, Fold};
-ghost use Rattle.semantics.specs.Core.{stepOn};
+ghost use Rattle.semantics.specs.Core.{step_on};
 ghost use Rattle.semantics.specs.Ranges.{Ready, Recalls};
-ghost use Rattle.engine.specs.Promises.{core, renewed, headAfter, Leaves, LeavesOthers, Answers, kindOn, ActsAt, LeavesVisited};
+ghost use Rattle.engine.specs.Promises.{core, renewed, head_after, Leaves, LeavesOthers, Answers, kind_on, ActsAt, LeavesVisited};
 ghost use Rattle.soundness.specs.Layout.{two_words};
 
 use crate::answers::{refusal_number, synced_number};
@@ -82,7 +82,7 @@ pub fn no_record(h: Head) -> Out
 
 // A spawn's answer.
 pub fn spawned(h: Head, free_place: u32, depth: u32) -> Out
-    ensures { (headAfter h result ≡ renewed h h.numbers.free_node free_place h.free_count) × (result.first ≡ 101) × (result.second ≡ plus depth 1) }
+    ensures { (head_after h result ≡ renewed h h.numbers.free_node free_place h.free_count) × (result.first ≡ 101) × (result.second ≡ plus depth 1) }
 {
     Out {
         free_node: h.numbers.free_node,
@@ -95,14 +95,14 @@ pub fn spawned(h: Head, free_place: u32, depth: u32) -> Out
 
 // A sync's answer.
 pub fn waited(h: Head, outcome: Synced) -> Out
-    ensures { Answers h result 104 (syncedNumber outcome) }
+    ensures { Answers h result 104 (synced_number outcome) }
 {
     unchanged(h, 104, synced_number(outcome))
 }
 
 // A write's answer, with new nodes.
 pub fn written(h: Head, free_node: u32, free_count: u32) -> Out
-    ensures { (headAfter h result ≡ renewed h free_node h.numbers.free_place free_count) × (result.first ≡ 106) × (result.second ≡ free_count) }
+    ensures { (head_after h result ≡ renewed h free_node h.numbers.free_place free_count) × (result.first ≡ 106) × (result.second ≡ free_count) }
 {
     Out {
         free_node,
@@ -131,7 +131,7 @@ pub fn spawn_at(
 ) -> Out
     requires { Ready (core h [] deques.old frames.old pool.old) × ActsAt (core h [] deques.old frames.old pool.old) w n p }
     ensures { LeavesOthers h result deques.old frames.old pool.old deques.new frames.new pool.new
-        (λ c. kindOn c (Spawn w)) }
+        (λ c. kind_on c (Spawn w)) }
 {
     if h.numbers.free_place == NONE {
         return frames_full(h);
@@ -153,7 +153,7 @@ pub fn sync_at(
 ) -> Out
     requires { Ready (core h [] deques.old frames.old pool.old) × ActsAt (core h [] deques.old frames.old pool.old) w n p }
     ensures { LeavesOthers h result deques.old frames.old pool.old deques.new frames.new pool.new
-        (λ c. kindOn c (Sync w)) }
+        (λ c. kind_on c (Sync w)) }
 {
     let f = frame_at(frames, p);
     let outcome = sync_frame(deques, frames, w, n, p, f);
@@ -174,7 +174,7 @@ pub fn value_at(
 ) -> Visited
     requires { Ready (core h [] deques.old frames.old pool.old) × Recalls (core h [] deques.old frames.old pool.old) memory.old
         × ActsAt (core h [] deques.old frames.old pool.old) w n p }
-    ensures { LeavesVisited kindOn (Read w x) h result deques.old frames.old pool.old memory.old
+    ensures { LeavesVisited kind_on (Read w x) h result deques.old frames.old pool.old memory.old
         deques.new frames.new pool.new memory.new }
 {
     if x >= h.numbers.splitters {
@@ -208,9 +208,9 @@ pub fn write_new(
     found: FirstShared,
 ) -> Visited
     requires { Ready (core h [] deques.old frames.old pool.old) × Recalls (core h [] deques.old frames.old pool.old) memory.old
-        × ActsAt (core h [] deques.old frames.old pool.old) w n p × (x < h.numbers.splitters) × (root ≡ (frameAt frames.old p).root) × (found.shared ≡ true)
-        × IsShared h.height found.shared found.level found.node found.above (firstShared h.height pool.old root root x) × (found.visits ≡ suc (h.height - found.level)) }
-    ensures { LeavesVisited kindOn (Write w x v) h result deques.old frames.old pool.old memory.old
+        × ActsAt (core h [] deques.old frames.old pool.old) w n p × (x < h.numbers.splitters) × (root ≡ (frame_at frames.old p).root) × (found.shared ≡ true)
+        × IsShared h.height found.shared found.level found.node found.above (first_shared h.height pool.old root root x) × (found.visits ≡ suc (h.height - found.level)) }
+    ensures { LeavesVisited kind_on (Write w x v) h result deques.old frames.old pool.old memory.old
         deques.new frames.new pool.new memory.new }
 {
     if h.free_count <= found.level {
@@ -248,7 +248,7 @@ pub fn write_at(
 ) -> Visited
     requires { Ready (core h [] deques.old frames.old pool.old) × Recalls (core h [] deques.old frames.old pool.old) memory.old
         × ActsAt (core h [] deques.old frames.old pool.old) w n p }
-    ensures { LeavesVisited kindOn (Write w x v) h result deques.old frames.old pool.old memory.old
+    ensures { LeavesVisited kind_on (Write w x v) h result deques.old frames.old pool.old memory.old
         deques.new frames.new pool.new memory.new }
 {
     if x >= h.numbers.splitters {
@@ -278,7 +278,7 @@ pub fn fold_in(
 ) -> Out
     requires { Ready (core h [] deques.old frames.old pool.old) × ActsAt (core h [] deques.old frames.old pool.old) w n p }
     ensures { LeavesOthers h result deques.old frames.old pool.old deques.new frames.new pool.new
-        (λ c. kindOn c (Fold w reducer v)) }
+        (λ c. kind_on c (Fold w reducer v)) }
 {
     if reducer >= REDUCERS {
         return no_reducer(h);
@@ -296,7 +296,7 @@ pub fn step_spawn(
 ) -> Out
     requires { Ready (core h [] deques.old frames.old pool.old) }
     ensures { LeavesOthers h result deques.old frames.old pool.old deques.new frames.new pool.new
-        (λ c. stepOn two_words c (Spawn w)) }
+        (λ c. step_on two_words c (Spawn w)) }
 {
     let a = acting(h, deques, w);
     if a.refused {
@@ -313,9 +313,9 @@ pub fn step_return(
     pool: &mut [u32],
     w: u32,
 ) -> Out
-    requires { (length numbers.old ≡ numberCount) × Ready (core h (totalsIn numbers.old) deques.old frames.old pool.old) }
-    ensures { (numbersIn numbers.new ≡ numbersIn numbers.old) × Leaves h result (totalsIn numbers.new) deques.new frames.new pool.new
-        (stepOn two_words (core h (totalsIn numbers.old) deques.old frames.old pool.old) (Return w)) }
+    requires { (length numbers.old ≡ number_count) × Ready (core h (totals_in numbers.old) deques.old frames.old pool.old) }
+    ensures { (numbers_in numbers.new ≡ numbers_in numbers.old) × Leaves h result (totals_in numbers.new) deques.new frames.new pool.new
+        (step_on two_words (core h (totals_in numbers.old) deques.old frames.old pool.old) (Return w)) }
 {
     let a = acting(h, deques, w);
     if a.refused {
@@ -327,7 +327,7 @@ pub fn step_return(
 pub fn step_sync(h: Head, deques: &mut [u32], frames: &mut [Frame], pool: &mut [u32], w: u32) -> Out
     requires { Ready (core h [] deques.old frames.old pool.old) }
     ensures { LeavesOthers h result deques.old frames.old pool.old deques.new frames.new pool.new
-        (λ c. stepOn two_words c (Sync w)) }
+        (λ c. step_on two_words c (Sync w)) }
 {
     let a = acting(h, deques, w);
     if a.refused {
@@ -346,7 +346,7 @@ pub fn step_read(
     x: u32,
 ) -> Visited
     requires { Ready (core h [] deques.old frames.old pool.old) × Recalls (core h [] deques.old frames.old pool.old) memory.old }
-    ensures { LeavesVisited (stepOn two_words) (Read w x) h result deques.old frames.old pool.old memory.old
+    ensures { LeavesVisited (step_on two_words) (Read w x) h result deques.old frames.old pool.old memory.old
         deques.new frames.new pool.new memory.new }
 {
     let a = acting(h, deques, w);
@@ -367,7 +367,7 @@ pub fn step_write(
     v: u32,
 ) -> Visited
     requires { Ready (core h [] deques.old frames.old pool.old) × Recalls (core h [] deques.old frames.old pool.old) memory.old }
-    ensures { LeavesVisited (stepOn two_words) (Write w x v) h result deques.old frames.old pool.old memory.old
+    ensures { LeavesVisited (step_on two_words) (Write w x v) h result deques.old frames.old pool.old memory.old
         deques.new frames.new pool.new memory.new }
 {
     let a = acting(h, deques, w);
@@ -388,7 +388,7 @@ pub fn step_fold(
 ) -> Out
     requires { Ready (core h [] deques.old frames.old pool.old) }
     ensures { LeavesOthers h result deques.old frames.old pool.old deques.new frames.new pool.new
-        (λ c. stepOn two_words c (Fold w reducer v)) }
+        (λ c. step_on two_words c (Fold w reducer v)) }
 {
     let a = acting(h, deques, w);
     if a.refused {
@@ -407,7 +407,7 @@ pub fn step_steal(
 ) -> Out
     requires { Ready (core h [] deques.old frames.old pool.old) }
     ensures { LeavesOthers h result deques.old frames.old pool.old deques.new frames.new pool.new
-        (λ c. stepOn two_words c (Steal w v)) }
+        (λ c. step_on two_words c (Steal w v)) }
 {
     let refusal = steal_refusal(h, deques, w, v);
     if refusal != 0 {

@@ -1,16 +1,16 @@
 // The state's numbers and totals in their lent words.
 ghost use Rattle.std.specs.Prelude.{◌≡◌, length, replicate, if◌then◌else◌, nat_eq, slice_index, slice_set};
 ghost use Rattle.words.specs.Basics.{none, all};
-ghost use Rattle.soundness.specs.Numbers.{numbersIn, numberWords, totalsIn, numberCount, totalCount};
-ghost use Rattle.reducers.specs.Reducers.{viewWords};
+ghost use Rattle.soundness.specs.Numbers.{numbers_in, number_words, totals_in, number_count, total_count};
+ghost use Rattle.reducers.specs.Reducers.{view_words};
 
 use frames::NONE;
 use reducers::View;
 use soundness::Numbers;
 
 pub fn numbers_in(numbers: &[u32]) -> Numbers
-    requires { length numbers.now ≡ numberCount }
-    ensures { result ≡ numbersIn numbers.now }
+    requires { length numbers.now ≡ number_count }
+    ensures { result ≡ numbers_in numbers.now }
 {
     Numbers {
         workers: numbers[0],
@@ -24,8 +24,8 @@ pub fn numbers_in(numbers: &[u32]) -> Numbers
 
 // The totals are zero: no search has ended.
 pub fn put_numbers(numbers: &mut [u32], n: Numbers)
-    requires { length numbers.old ≡ numberCount }
-    ensures { numbers.new ≡ numberWords n (replicate totalCount 0) }
+    requires { length numbers.old ≡ number_count }
+    ensures { numbers.new ≡ number_words n (replicate total_count 0) }
 {
     numbers[0] = n.workers;
     numbers[1] = n.splitters;
@@ -41,7 +41,7 @@ pub fn put_numbers(numbers: &mut [u32], n: Numbers)
 
 // The first free node and the first free place, which alone change in a run.
 pub fn put_free(numbers: &mut [u32], node: u32, place: u32)
-    requires { length numbers.old ≡ numberCount }
+    requires { length numbers.old ≡ number_count }
     ensures { numbers.new ≡ slice_set (slice_set numbers.old 3 node) 4 place }
 {
     numbers[3] = node;
@@ -50,8 +50,8 @@ pub fn put_free(numbers: &mut [u32], node: u32, place: u32)
 
 // Main's view, at its end.
 pub fn put_totals(numbers: &mut [u32], view: View)
-    requires { length numbers.old ≡ numberCount }
-    ensures { (totalsIn numbers.new ≡ viewWords view) × (numbersIn numbers.new ≡ numbersIn numbers.old) }
+    requires { length numbers.old ≡ number_count }
+    ensures { (totals_in numbers.new ≡ view_words view) × (numbers_in numbers.new ≡ numbers_in numbers.old) }
 {
     numbers[5] = view.sum.value;
     numbers[6] = view.min.value;
@@ -61,8 +61,8 @@ pub fn put_totals(numbers: &mut [u32], view: View)
 
 // A frame ends: if it is Main, its view becomes the totals.
 pub fn end_totals(numbers: &mut [u32], parent: u32, view: View)
-    requires { length numbers.old ≡ numberCount }
-    ensures { (totalsIn numbers.new ≡ (if nat_eq parent none then viewWords view else totalsIn numbers.old)) × (numbersIn numbers.new ≡ numbersIn numbers.old) }
+    requires { length numbers.old ≡ number_count }
+    ensures { (totals_in numbers.new ≡ (if nat_eq parent none then view_words view else totals_in numbers.old)) × (numbers_in numbers.new ≡ numbers_in numbers.old) }
 {
     if parent == NONE {
         put_totals(numbers, view);
@@ -71,8 +71,8 @@ pub fn end_totals(numbers: &mut [u32], parent: u32, view: View)
 
 // Are all four zero?
 pub fn totals_zero(numbers: &[u32]) -> bool
-    requires { length numbers.now ≡ numberCount }
-    ensures { result ≡ all totalCount (λ i. nat_eq (slice_index (totalsIn numbers.now) i) 0) }
+    requires { length numbers.now ≡ number_count }
+    ensures { result ≡ all total_count (λ i. nat_eq (slice_index (totals_in numbers.now) i) 0) }
 {
     (((numbers[5] == 0) & (numbers[6] == 0)) & (numbers[7] == 0)) & (numbers[8] == 0)
 }

@@ -1,13 +1,13 @@
 // A step of any kind, a record, and the tape.
 ghost use Rattle.std.specs.Prelude.{◌≡◌, ◌+◌, ◌-◌, ◌*◌, ◌/◌, ◌%◌, ◌^◌, ◌<◌, ◌≤◌, ◌&&◌, ◌≢◌, length, nat_le, slice_set};
-ghost use Rattle.soundness.specs.Numbers.{numbersIn, totalsIn, numberCount};
-ghost use Rattle.model.specs.Record.{decodeAt};
+ghost use Rattle.soundness.specs.Numbers.{numbers_in, totals_in, number_count};
+ghost use Rattle.model.specs.Record.{decode_at};
 ghost use Rattle.model.specs.declared.Decoded.TheVariants.{Valid};
-ghost use Rattle.semantics.specs.Core.{stepOn};
-ghost use Rattle.semantics.specs.Remembering.{memoryOver, visitsOver};
-ghost use Rattle.semantics.specs.Entries.{recordOn, recordsFrom, recordsResult, runOn};
+ghost use Rattle.semantics.specs.Core.{step_on};
+ghost use Rattle.semantics.specs.Remembering.{memory_over, visits_over};
+ghost use Rattle.semantics.specs.Entries.{record_on, records_from, records_result, run_on};
 ghost use Rattle.semantics.specs.Ranges.{Kept, Ready, Remembers, Recalls};
-ghost use Rattle.engine.specs.Promises.{core, renewed, Leaves, stepBy, RemembersRecord};
+ghost use Rattle.engine.specs.Promises.{core, renewed, Leaves, step_by, RemembersRecord};
 ghost use Rattle.soundness.specs.Layout.{two_words};
 
 use crate::kinds::{
@@ -23,7 +23,7 @@ use semantics::Head;
 
 // A step's kind and what it holds.
 pub fn fields_of(step: Step) -> Fields
-    ensures { stepBy result ≡ step }
+    ensures { step_by result ≡ step }
 {
     match step {
         Step::Spawn(w) => Fields {
@@ -70,9 +70,9 @@ pub fn control_step(
     pool: &mut [u32],
     r: Fields,
 ) -> Out
-    requires { (length numbers.old ≡ numberCount) × Ready (core h (totalsIn numbers.old) deques.old frames.old pool.old) × (r.kind ≢ 5) × (r.kind ≢ 6) }
-    ensures { (numbersIn numbers.new ≡ numbersIn numbers.old) × Leaves h result (totalsIn numbers.new) deques.new frames.new pool.new
-        (stepOn two_words (core h (totalsIn numbers.old) deques.old frames.old pool.old) (stepBy r)) }
+    requires { (length numbers.old ≡ number_count) × Ready (core h (totals_in numbers.old) deques.old frames.old pool.old) × (r.kind ≢ 5) × (r.kind ≢ 6) }
+    ensures { (numbers_in numbers.new ≡ numbers_in numbers.old) × Leaves h result (totals_in numbers.new) deques.new frames.new pool.new
+        (step_on two_words (core h (totals_in numbers.old) deques.old frames.old pool.old) (step_by r)) }
 {
     if r.kind == 1 {
         return step_spawn(h, deques, frames, pool, r.w);
@@ -106,11 +106,11 @@ pub fn take_step(
     memory: &mut [u32],
     r: Fields,
 ) -> Visited
-    requires { (length numbers.old ≡ numberCount) × Ready (core h (totalsIn numbers.old) deques.old frames.old pool.old)
-        × Recalls (core h (totalsIn numbers.old) deques.old frames.old pool.old) memory.old }
-    ensures { (numbersIn numbers.new ≡ numbersIn numbers.old) × Leaves h result.out (totalsIn numbers.new) deques.new frames.new pool.new
-        (stepOn two_words (core h (totalsIn numbers.old) deques.old frames.old pool.old) (stepBy r))
-        × RemembersRecord (core h (totalsIn numbers.old) deques.old frames.old pool.old) memory.old (Valid (stepBy r)) memory.new result.visits }
+    requires { (length numbers.old ≡ number_count) × Ready (core h (totals_in numbers.old) deques.old frames.old pool.old)
+        × Recalls (core h (totals_in numbers.old) deques.old frames.old pool.old) memory.old }
+    ensures { (numbers_in numbers.new ≡ numbers_in numbers.old) × Leaves h result.out (totals_in numbers.new) deques.new frames.new pool.new
+        (step_on two_words (core h (totals_in numbers.old) deques.old frames.old pool.old) (step_by r))
+        × RemembersRecord (core h (totals_in numbers.old) deques.old frames.old pool.old) memory.old (Valid (step_by r)) memory.new result.visits }
 {
     if r.kind == 5 {
         return step_read(h, deques, frames, pool, memory, r.w, r.x);
@@ -136,11 +136,11 @@ pub fn step_record(
     tape: &[u8],
     at: usize,
 ) -> Visited
-    requires { (length numbers.old ≡ numberCount) × Ready (core h (totalsIn numbers.old) deques.old frames.old pool.old)
-        × Recalls (core h (totalsIn numbers.old) deques.old frames.old pool.old) memory.old × (at + 8 ≤ length tape.now) }
-    ensures { (numbersIn numbers.new ≡ numbersIn numbers.old) × Leaves h result.out (totalsIn numbers.new) deques.new frames.new pool.new
-        (recordOn two_words (core h (totalsIn numbers.old) deques.old frames.old pool.old) (decodeAt tape.now at))
-        × RemembersRecord (core h (totalsIn numbers.old) deques.old frames.old pool.old) memory.old (decodeAt tape.now at) memory.new result.visits }
+    requires { (length numbers.old ≡ number_count) × Ready (core h (totals_in numbers.old) deques.old frames.old pool.old)
+        × Recalls (core h (totals_in numbers.old) deques.old frames.old pool.old) memory.old × (at + 8 ≤ length tape.now) }
+    ensures { (numbers_in numbers.new ≡ numbers_in numbers.old) × Leaves h result.out (totals_in numbers.new) deques.new frames.new pool.new
+        (record_on two_words (core h (totals_in numbers.old) deques.old frames.old pool.old) (decode_at tape.now at))
+        × RemembersRecord (core h (totals_in numbers.old) deques.old frames.old pool.old) memory.old (decode_at tape.now at) memory.new result.visits }
 {
     let decoded = decode(tape, at);
     let Decoded::Valid(step) = decoded else {
@@ -207,15 +207,15 @@ pub fn run_records(
     from: usize,
     to: usize,
 ) -> Ran
-    requires { (length numbers.old ≡ numberCount) × Kept two_words (core h (totalsIn numbers.old) deques.old frames.old pool.old)
-        × Remembers two_words (core h (totalsIn numbers.old) deques.old frames.old pool.old) memory.old × (2 * (length tape.now / 8) ≤ length answers.old)
+    requires { (length numbers.old ≡ number_count) × Kept two_words (core h (totals_in numbers.old) deques.old frames.old pool.old)
+        × Remembers two_words (core h (totals_in numbers.old) deques.old frames.old pool.old) memory.old × (2 * (length tape.now / 8) ≤ length answers.old)
         × (from ≤ to) × (to ≤ length tape.now / 8) }
-    ensures { (numbersIn numbers.new ≡ numbersIn numbers.old)
-        × (recordsResult (core result.head (totalsIn numbers.new) deques.new frames.new pool.new) answers.new
-        ≡ runOn two_words (recordsResult (core h (totalsIn numbers.old) deques.old frames.old pool.old) answers.old) (2 * from) (recordsFrom (to - from) tape.now (8 * from)))
+    ensures { (numbers_in numbers.new ≡ numbers_in numbers.old)
+        × (records_result (core result.head (totals_in numbers.new) deques.new frames.new pool.new) answers.new
+        ≡ run_on two_words (records_result (core h (totals_in numbers.old) deques.old frames.old pool.old) answers.old) (2 * from) (records_from (to - from) tape.now (8 * from)))
         × (result.head ≡ renewed h result.head.numbers.free_node result.head.numbers.free_place result.head.free_count)
-        × (memory.new ≡ memoryOver two_words (core h (totalsIn numbers.old) deques.old frames.old pool.old) memory.old (recordsFrom (to - from) tape.now (8 * from)))
-        × (result.visits ≡ visitsOver two_words (core h (totalsIn numbers.old) deques.old frames.old pool.old) memory.old (recordsFrom (to - from) tape.now (8 * from)) % 2 ^ 64) }
+        × (memory.new ≡ memory_over two_words (core h (totals_in numbers.old) deques.old frames.old pool.old) memory.old (records_from (to - from) tape.now (8 * from)))
+        × (result.visits ≡ visits_over two_words (core h (totals_in numbers.old) deques.old frames.old pool.old) memory.old (records_from (to - from) tape.now (8 * from)) % 2 ^ 64) }
 {
     let mut free_node = h.numbers.free_node;
     let mut free_place = h.numbers.free_place;

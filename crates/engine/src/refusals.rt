@@ -1,11 +1,11 @@
 // Refusals 8 to 12, tested in the order of document 01. Whether all workers are idle is asked only on the way to a refusal.
 ghost use Rattle.std.specs.Prelude.{◌≡◌, ◌≤◌, true, not, ◌||◌, [], length, nat_eq, nat_lt};
 ghost use Rattle.words.specs.Basics.{all};
-ghost use Rattle.frames.specs.Widths.{maxWorkers, dequeWords};
+ghost use Rattle.frames.specs.Widths.{max_workers, deque_words};
 ghost use Rattle.frames.specs.Deques.{size};
-ghost use Rattle.semantics.specs.Answers.{refusalNumber};
-ghost use Rattle.semantics.specs.Core.{stealTests};
-ghost use Rattle.engine.specs.Promises.{core, refusalBy, SizesIn, IsActing};
+ghost use Rattle.semantics.specs.Answers.{refusal_number};
+ghost use Rattle.semantics.specs.Core.{steal_tests};
+ghost use Rattle.engine.specs.Promises.{core, refusal_by, SizesIn, IsActing};
 
 use crate::Acting;
 use crate::answers::refusal_number;
@@ -14,8 +14,8 @@ use semantics::{Head, Refusal};
 
 // Has every worker an empty deque? Those that do not exist have one, so all eight are asked, and the loop's bound takes no register.
 fn all_idle(deques: &[u32]) -> bool
-    requires { length deques.now ≡ dequeWords }
-    ensures { result ≡ all maxWorkers (λ w. nat_eq (size deques.now w) 0) }
+    requires { length deques.now ≡ deque_words }
+    ensures { result ≡ all max_workers (λ w. nat_eq (size deques.now w) 0) }
 {
     let mut left = MAX_WORKERS;
     while left > 0 {
@@ -29,7 +29,7 @@ fn all_idle(deques: &[u32]) -> bool
 
 // A refusal of an acting frame's step.
 fn refuse(refusal: Refusal) -> Acting
-    ensures { (result.refused ≡ true) × (result.refusal ≡ refusalNumber refusal) }
+    ensures { (result.refused ≡ true) × (result.refusal ≡ refusal_number refusal) }
 {
     Acting {
         refused: true,
@@ -64,7 +64,7 @@ pub fn acting(h: Head, deques: &[u32], w: u32) -> Acting
 
 // Does v not exist, or has it fewer than two frames?
 fn no_victim(workers: u32, deques: &[u32], v: u32) -> bool
-    requires { (length deques.now ≡ dequeWords) × (workers ≤ maxWorkers) }
+    requires { (length deques.now ≡ deque_words) × (workers ≤ max_workers) }
     ensures { result ≡ (not (nat_lt v workers) || nat_lt (size deques.now v) 2) }
 {
     if v >= workers {
@@ -76,7 +76,7 @@ fn no_victim(workers: u32, deques: &[u32], v: u32) -> bool
 // 8, 9, 11 and 12, of a steal, or 0.
 pub fn steal_refusal(h: Head, deques: &[u32], w: u32, v: u32) -> u32
     requires { SizesIn h.numbers.workers deques.now }
-    ensures { result ≡ refusalBy (stealTests (core h [] deques.now [] []) w v) }
+    ensures { result ≡ refusal_by (steal_tests (core h [] deques.now [] []) w v) }
 {
     if w >= h.numbers.workers {
         return refusal_number(Refusal::NoWorker);

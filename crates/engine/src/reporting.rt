@@ -1,17 +1,17 @@
 // R-7: "One call makes a start, runs one tape and makes the report", over parts that have their lengths. The tape runs in turns, a record and the reads, writes
 // and folds after it: these move no deque, so that their clocks are moved when the turn is done, and nothing of the clocks is on the way of a plain tape.
 ghost use Rattle.std.specs.Prelude.{◌≡◌, ℕ, ◌+◌, ◌-◌, ◌*◌, ◌/◌, ◌<◌, ◌≤◌, false, length, slice_index};
-ghost use Rattle.soundness.specs.Numbers.{numbersIn, totalsIn, numberCount};
+ghost use Rattle.soundness.specs.Numbers.{numbers_in, totals_in, number_count};
 ghost use Rattle.soundness.specs.declared.Checked.TheVariants.{Sound};
-ghost use Rattle.semantics.specs.Entries.{core_of, chainFree, checkedState, recordsResult, recordsFrom, recordsOf, runOn, tapeWith, unfitTape};
+ghost use Rattle.semantics.specs.Entries.{core_of, chain_free, checked_state, records_result, records_from, records_of, run_on, tape_with, unfit_tape};
 ghost use Rattle.semantics.specs.Promises.{parts, lent, Fits, IsReport};
 ghost use Rattle.semantics.specs.Ranges.{Kept, Remembers};
-ghost use Rattle.semantics.specs.Remembering.{memoryOver, memoryChecked, reportMemory};
-ghost use Rattle.memory.specs.Memory.{memoryWords, noMemory};
-ghost use Rattle.semantics.specs.Report.{reportDone, reportWith, timingOf};
-ghost use Rattle.semantics.specs.Timing.{timedOver};
-ghost use Rattle.timing.specs.Turns.{timing, kindAt};
-ghost use Rattle.engine.specs.Promises.{core, renewed, IsRun, refusalBy, reportTests};
+ghost use Rattle.semantics.specs.Remembering.{memory_over, memory_checked, report_memory};
+ghost use Rattle.memory.specs.Memory.{memory_words, no_memory};
+ghost use Rattle.semantics.specs.Report.{report_done, report_with, timing_of};
+ghost use Rattle.semantics.specs.Timing.{timed_over};
+ghost use Rattle.timing.specs.Turns.{timing, kind_at};
+ghost use Rattle.engine.specs.Promises.{core, renewed, IsRun, refusal_by, report_tests};
 ghost use Rattle.soundness.specs.Layout.{two_words};
 
 use crate::Turn;
@@ -43,16 +43,16 @@ pub fn run_turn(
     to: usize,
     t: Tally,
 ) -> Turn
-    requires { (length numbers.old ≡ numberCount) × Kept two_words (core h (totalsIn numbers.old) deques.old frames.old pool.old) × (2 * (length tape.now / 8) ≤ length answers.old)
-        × (i < to) × (to ≤ length tape.now / 8) × ((j : ℕ) → i + 1 ≤ j → j < to → 5 ≤ kindAt tape.now j)
+    requires { (length numbers.old ≡ number_count) × Kept two_words (core h (totals_in numbers.old) deques.old frames.old pool.old) × (2 * (length tape.now / 8) ≤ length answers.old)
+        × (i < to) × (to ≤ length tape.now / 8) × ((j : ℕ) → i + 1 ≤ j → j < to → 5 ≤ kind_at tape.now j)
         × (length clocks.old ≡ 2 * length frames.old) × ((j : ℕ) → slice_index clocks.old j ≤ i) × (t.work ≤ i) × (t.span ≤ i)
-        × Remembers two_words (core h (totalsIn numbers.old) deques.old frames.old pool.old) memory.old }
-    ensures { (numbersIn numbers.new ≡ numbersIn numbers.old)
-        × (recordsResult (core (renewed h result.free_node result.free_place result.free_count) (totalsIn numbers.new) deques.new frames.new pool.new) answers.new
-        ≡ runOn two_words (recordsResult (core h (totalsIn numbers.old) deques.old frames.old pool.old) answers.old) (2 * i) (recordsFrom (to - i) tape.now (8 * i)))
+        × Remembers two_words (core h (totals_in numbers.old) deques.old frames.old pool.old) memory.old }
+    ensures { (numbers_in numbers.new ≡ numbers_in numbers.old)
+        × (records_result (core (renewed h result.free_node result.free_place result.free_count) (totals_in numbers.new) deques.new frames.new pool.new) answers.new
+        ≡ run_on two_words (records_result (core h (totals_in numbers.old) deques.old frames.old pool.old) answers.old) (2 * i) (records_from (to - i) tape.now (8 * i)))
         × (timing clocks.new result.work result.span
-        ≡ timedOver two_words (core h (totalsIn numbers.old) deques.old frames.old pool.old) (recordsFrom (to - i) tape.now (8 * i)) (timing clocks.old t.work t.span))
-        × (memory.new ≡ memoryOver two_words (core h (totalsIn numbers.old) deques.old frames.old pool.old) memory.old (recordsFrom (to - i) tape.now (8 * i))) }
+        ≡ timed_over two_words (core h (totals_in numbers.old) deques.old frames.old pool.old) (records_from (to - i) tape.now (8 * i)) (timing clocks.old t.work t.span))
+        × (memory.new ≡ memory_over two_words (core h (totals_in numbers.old) deques.old frames.old pool.old) memory.old (records_from (to - i) tape.now (8 * i))) }
 {
     let p = bottom_of(deques, tape, i);
     let r = rise_of(clocks, frames, tape, i, p);
@@ -93,11 +93,11 @@ pub fn run_timed(
     requires { Fits (parts numbers.old deques.old frames.old) × Kept two_words (core_of (parts numbers.old deques.old frames.old) pool.old free_count)
         × (2 * (length tape.now / 8) ≤ length answers.old) × (length clocks.old ≡ 2 * length frames.old) × ((j : ℕ) → slice_index clocks.old j ≤ 0)
         × Remembers two_words (core_of (parts numbers.old deques.old frames.old) pool.old free_count) memory.old }
-    ensures { IsRun (runOn two_words (recordsResult (core_of (parts numbers.old deques.old frames.old) pool.old free_count) answers.old) 0 (recordsOf tape.now))
+    ensures { IsRun (run_on two_words (records_result (core_of (parts numbers.old deques.old frames.old) pool.old free_count) answers.old) 0 (records_of tape.now))
         numbers.new deques.new frames.new pool.new answers.new
         × (timing clocks.new result.work result.span
-        ≡ timedOver two_words (core_of (parts numbers.old deques.old frames.old) pool.old free_count) (recordsOf tape.now) (timing clocks.old 0 0))
-        × (memory.new ≡ memoryOver two_words (core_of (parts numbers.old deques.old frames.old) pool.old free_count) memory.old (recordsOf tape.now)) }
+        ≡ timed_over two_words (core_of (parts numbers.old deques.old frames.old) pool.old free_count) (records_of tape.now) (timing clocks.old 0 0))
+        × (memory.new ≡ memory_over two_words (core_of (parts numbers.old deques.old frames.old) pool.old free_count) memory.old (records_of tape.now)) }
 {
     let h = head_of(numbers_in(numbers), free_count);
     let records = record_count(tape);
@@ -135,7 +135,7 @@ pub fn report_refusal(
     tape: &[u8],
     answers: &[u32],
 ) -> u32
-    ensures { result ≡ refusalBy (reportTests workers values.now places pool.now work.now tape.now answers.now) }
+    ensures { result ≡ refusal_by (report_tests workers values.now places pool.now work.now tape.now answers.now) }
 {
     let nodes = whole_nodes(pool);
     let refusal = start_refusal(workers, values.len(), places, nodes);
@@ -165,13 +165,13 @@ pub fn report_run(
     report: &mut [u64],
 ) -> u32
     requires { Fits (parts numbers.old deques.old frames.old)
-        × (checkedState two_words (parts numbers.old deques.old frames.old) pool.old work.old ≡ Sound (chainFree two_words (parts numbers.old deques.old frames.old) pool.old))
-        × (unfitTape tape.now answers.old ≡ false) × (length clocks.old ≡ 2 * length frames.old) × (length report.old ≡ 4) × (memory.old ≡ noMemory) }
-    ensures { IsReport (reportDone (tapeWith two_words (parts numbers.old deques.old frames.old) pool.old work.old tape.now answers.old)
-        (timingOf two_words (parts numbers.old deques.old frames.old) pool.old tape.now clocks.old) report.old)
+        × (checked_state two_words (parts numbers.old deques.old frames.old) pool.old work.old ≡ Sound (chain_free two_words (parts numbers.old deques.old frames.old) pool.old))
+        × (unfit_tape tape.now answers.old ≡ false) × (length clocks.old ≡ 2 * length frames.old) × (length report.old ≡ 4) × (memory.old ≡ no_memory) }
+    ensures { IsReport (report_done (tape_with two_words (parts numbers.old deques.old frames.old) pool.old work.old tape.now answers.old)
+        (timing_of two_words (parts numbers.old deques.old frames.old) pool.old tape.now clocks.old) report.old)
         numbers.new deques.new frames.new pool.new work.new answers.new clocks.new report.new result
-        × (memory.new ≡ memoryChecked two_words (checkedState two_words (parts numbers.old deques.old frames.old) pool.old work.old)
-        (parts numbers.old deques.old frames.old) pool.old noMemory (recordsOf tape.now)) }
+        × (memory.new ≡ memory_checked two_words (checked_state two_words (parts numbers.old deques.old frames.old) pool.old work.old)
+        (parts numbers.old deques.old frames.old) pool.old no_memory (records_of tape.now)) }
 {
     let checked = check_parts(numbers, deques, frames, pool, work);
     clear_clocks(clocks);
@@ -204,11 +204,11 @@ pub fn report_on(
     clocks: &mut [u64],
     report: &mut [u64],
 ) -> u32
-    requires { Fits (parts numbers.old deques.old frames.old) × (length clocks.old ≡ 2 * length frames.old) × (length report.old ≡ 4) × (length memory.old ≡ memoryWords) }
-    ensures { IsReport (reportWith two_words (parts numbers.old deques.old frames.old) workers values.now pool.old tape.now
+    requires { Fits (parts numbers.old deques.old frames.old) × (length clocks.old ≡ 2 * length frames.old) × (length report.old ≡ 4) × (length memory.old ≡ memory_words) }
+    ensures { IsReport (report_with two_words (parts numbers.old deques.old frames.old) workers values.now pool.old tape.now
         (lent work.old answers.old clocks.old report.old))
         numbers.new deques.new frames.new pool.new work.new answers.new clocks.new report.new result
-        × (memory.new ≡ reportMemory two_words (parts numbers.old deques.old frames.old) workers values.now pool.old tape.now
+        × (memory.new ≡ report_memory two_words (parts numbers.old deques.old frames.old) workers values.now pool.old tape.now
         (lent work.old answers.old clocks.old report.old)) }
 {
     clear_all(memory);

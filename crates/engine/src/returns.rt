@@ -1,10 +1,10 @@
 // A return: the bottom frame waits, or it ends, and upward from it the frames that waited in their returns for it alone.
 ghost use Rattle.std.specs.Prelude.{◌≡◌, length};
-ghost use Rattle.soundness.specs.Numbers.{numbersIn, totalsIn, numberCount};
+ghost use Rattle.soundness.specs.Numbers.{numbers_in, totals_in, number_count};
 ghost use Rattle.frames.specs.declared.Returned.TheVariants.{Continued, Finished};
 ghost use Rattle.model.specs.declared.Step.TheVariants.{Return};
 ghost use Rattle.semantics.specs.Ranges.{Ready};
-ghost use Rattle.engine.specs.Promises.{core, renewed, Leaves, LeavesEnded, kindOn, ActsAt, EndsFrom, endsFrom};
+ghost use Rattle.engine.specs.Promises.{core, renewed, Leaves, LeavesEnded, kind_on, ActsAt, EndsFrom, ends_from};
 
 use crate::Out;
 use crate::answers::returned_number;
@@ -56,9 +56,9 @@ pub fn end_upward(
     count: u32,
     first: u32,
 ) -> Out
-    requires { (length numbers.old ≡ numberCount) × EndsFrom (core (renewed h node place count) (totalsIn numbers.old) deques.old frames.old pool.old) w 1 first }
-    ensures { (numbersIn numbers.new ≡ numbersIn numbers.old) × Leaves h result (totalsIn numbers.new) deques.new frames.new pool.new
-        (endsFrom (core (renewed h node place count) (totalsIn numbers.old) deques.old frames.old pool.old) w first) }
+    requires { (length numbers.old ≡ number_count) × EndsFrom (core (renewed h node place count) (totals_in numbers.old) deques.old frames.old pool.old) w 1 first }
+    ensures { (numbers_in numbers.new ≡ numbers_in numbers.old) × Leaves h result (totals_in numbers.new) deques.new frames.new pool.new
+        (ends_from (core (renewed h node place count) (totals_in numbers.old) deques.old frames.old pool.old) w first) }
 {
     let mut free_count = count;
     let mut free_node = node;
@@ -96,9 +96,9 @@ pub fn end_bottom(
     n: u32,
     p: u32,
 ) -> Out
-    requires { (length numbers.old ≡ numberCount) × EndsFrom (core h (totalsIn numbers.old) deques.old frames.old pool.old) w n p }
-    ensures { (numbersIn numbers.new ≡ numbersIn numbers.old) × Leaves h result (totalsIn numbers.new) deques.new frames.new pool.new
-        (endsFrom (core h (totalsIn numbers.old) deques.old frames.old pool.old) w p) }
+    requires { (length numbers.old ≡ number_count) × EndsFrom (core h (totals_in numbers.old) deques.old frames.old pool.old) w n p }
+    ensures { (numbers_in numbers.new ≡ numbers_in numbers.old) × Leaves h result (totals_in numbers.new) deques.new frames.new pool.new
+        (ends_from (core h (totals_in numbers.old) deques.old frames.old pool.old) w p) }
 {
     if n != 1 {
         let root = frame_at(frames, p).root;
@@ -137,9 +137,9 @@ pub fn return_at(
     n: u32,
     p: u32,
 ) -> Out
-    requires { (length numbers.old ≡ numberCount) × Ready (core h (totalsIn numbers.old) deques.old frames.old pool.old) × ActsAt (core h (totalsIn numbers.old) deques.old frames.old pool.old) w n p }
-    ensures { (numbersIn numbers.new ≡ numbersIn numbers.old) × Leaves h result (totalsIn numbers.new) deques.new frames.new pool.new
-        (kindOn (core h (totalsIn numbers.old) deques.old frames.old pool.old) (Return w)) }
+    requires { (length numbers.old ≡ number_count) × Ready (core h (totals_in numbers.old) deques.old frames.old pool.old) × ActsAt (core h (totals_in numbers.old) deques.old frames.old pool.old) w n p }
+    ensures { (numbers_in numbers.new ≡ numbers_in numbers.old) × Leaves h result (totals_in numbers.new) deques.new frames.new pool.new
+        (kind_on (core h (totals_in numbers.old) deques.old frames.old pool.old) (Return w)) }
 {
     let f = frame_at(frames, p);
     if f.outstanding != 0 {

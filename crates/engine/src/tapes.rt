@@ -1,11 +1,11 @@
 // A tape, over parts that have their lengths: refusals 4, 5 and 6, then the records.
 ghost use Rattle.std.specs.Prelude.{◌≡◌, ◌*◌, ◌/◌, ◌%◌, ◌^◌, ◌≤◌, length};
-ghost use Rattle.memory.specs.Memory.{memoryWords};
-ghost use Rattle.semantics.specs.Entries.{headOf, core_of, recordsResult, recordsOf, runOn, unfitTape};
-ghost use Rattle.semantics.specs.Remembering.{memoryOver, visitsOver, tapeRemembering};
+ghost use Rattle.memory.specs.Memory.{memory_words};
+ghost use Rattle.semantics.specs.Entries.{head_of, core_of, records_result, records_of, run_on, unfit_tape};
+ghost use Rattle.semantics.specs.Remembering.{memory_over, visits_over, tape_remembering};
 ghost use Rattle.semantics.specs.Promises.{parts, Fits, IsTapeWith};
 ghost use Rattle.semantics.specs.Ranges.{Kept, Remembers};
-ghost use Rattle.engine.specs.Promises.{checkNumber, freeIn, IsRun};
+ghost use Rattle.engine.specs.Promises.{check_number, free_in, IsRun};
 ghost use Rattle.soundness.specs.Layout.{two_words};
 
 use crate::Taped;
@@ -20,14 +20,14 @@ use soundness::{Checked, Numbers};
 
 // 4. "The tape is not a multiple of 8 bytes, or the answer slice has fewer than two words per record."
 pub fn unfit_tape(bytes: &[u8], answers: &[u32]) -> bool
-    ensures { result ≡ unfitTape bytes.now answers.now }
+    ensures { result ≡ unfit_tape bytes.now answers.now }
 {
     (bytes.len() % 8 != 0) | (answers.len() < 2 * (bytes.len() / 8))
 }
 
 // With so many free nodes.
 pub fn head_of(numbers: Numbers, free_count: u32) -> Head
-    ensures { result ≡ headOf numbers free_count }
+    ensures { result ≡ head_of numbers free_count }
 {
     let height = height_of(numbers.splitters);
     Head {
@@ -39,7 +39,7 @@ pub fn head_of(numbers: Numbers, free_count: u32) -> Head
 
 // 5 and 6, or 0.
 pub fn check_number(checked: Checked) -> u32
-    ensures { result ≡ checkNumber checked }
+    ensures { result ≡ check_number checked }
 {
     match checked {
         Checked::NoRoom => refusal_number(Refusal::Work),
@@ -50,7 +50,7 @@ pub fn check_number(checked: Checked) -> u32
 
 // The free nodes that the check counted, if it found the state sound.
 pub fn free_in(checked: Checked) -> u32
-    ensures { result ≡ freeIn checked }
+    ensures { result ≡ free_in checked }
 {
     match checked {
         Checked::NoRoom => 0,
@@ -83,10 +83,10 @@ pub fn run_on(
     requires { Fits (parts numbers.old deques.old frames.old) × Kept two_words (core_of (parts numbers.old deques.old frames.old) pool.old free_count)
         × Remembers two_words (core_of (parts numbers.old deques.old frames.old) pool.old free_count) memory.old
         × (2 * (length bytes.now / 8) ≤ length answers.old) }
-    ensures { IsRun (runOn two_words (recordsResult (core_of (parts numbers.old deques.old frames.old) pool.old free_count) answers.old) 0 (recordsOf bytes.now))
+    ensures { IsRun (run_on two_words (records_result (core_of (parts numbers.old deques.old frames.old) pool.old free_count) answers.old) 0 (records_of bytes.now))
         numbers.new deques.new frames.new pool.new answers.new
-        × (memory.new ≡ memoryOver two_words (core_of (parts numbers.old deques.old frames.old) pool.old free_count) memory.old (recordsOf bytes.now))
-        × (result ≡ visitsOver two_words (core_of (parts numbers.old deques.old frames.old) pool.old free_count) memory.old (recordsOf bytes.now) % 2 ^ 64) }
+        × (memory.new ≡ memory_over two_words (core_of (parts numbers.old deques.old frames.old) pool.old free_count) memory.old (records_of bytes.now))
+        × (result ≡ visits_over two_words (core_of (parts numbers.old deques.old frames.old) pool.old free_count) memory.old (records_of bytes.now) % 2 ^ 64) }
 {
     let first = head_of(numbers_in(numbers), free_count);
     let last = run_records(
@@ -120,8 +120,8 @@ pub fn tape_on(
     bytes: &[u8],
     answers: &mut [u32],
 ) -> Taped
-    requires { Fits (parts numbers.old deques.old frames.old) × (length memory.old ≡ memoryWords) }
-    ensures { IsTapeWith (tapeRemembering two_words (parts numbers.old deques.old frames.old) memory.old pool.old work.old bytes.now answers.old)
+    requires { Fits (parts numbers.old deques.old frames.old) × (length memory.old ≡ memory_words) }
+    ensures { IsTapeWith (tape_remembering two_words (parts numbers.old deques.old frames.old) memory.old pool.old work.old bytes.now answers.old)
         numbers.new deques.new frames.new memory.new pool.new work.new answers.new result.result result.visits }
 {
     if unfit_tape(bytes, answers) {

@@ -5,9 +5,9 @@ mod places;
 mod tallies;
 
 ghost use Rattle.std.specs.Prelude.{◌≡◌, cond, ◌&&◌, ◌-◌, ◌≤◌, leb, length};
-ghost use Rattle.frames.specs.Widths.{maxPlaces, dequeWords};
-ghost use Rattle.soundness.specs.Soundness.{framesSound};
-ghost use Rattle.frame_check.specs.Algorithm.{noCensus, liveEnd, zeros};
+ghost use Rattle.frames.specs.Widths.{max_places, deque_words};
+ghost use Rattle.soundness.specs.Soundness.{frames_sound};
+ghost use Rattle.frame_check.specs.Algorithm.{no_census, live_end, zeros};
 ghost use Rattle.frame_check.specs.declared.FramesChecked.TheVariants.{Bad, Good};
 
 use deques::{deques_fit, tally_deques};
@@ -36,7 +36,7 @@ const TALLY_COUNT: usize = MAX_PLACES as usize;
 
 // Before the first place.
 pub fn no_census() -> Census
-    ensures { result ≡ noCensus }
+    ensures { result ≡ no_census }
 {
     Census {
         mains: 0,
@@ -86,8 +86,8 @@ fn check_with(
     frames: &[Frame],
     tallies: &mut [u32],
 ) -> FramesChecked
-    requires { (length deques.now ≡ dequeWords) × (length frames.now ≤ maxPlaces) × (tallies.old ≡ zeros) }
-    ensures { result ≡ cond (framesSound workers first deques.now frames.now) (Good (liveEnd frames.now)) Bad }
+    requires { (length deques.now ≡ deque_words) × (length frames.now ≤ max_places) × (tallies.old ≡ zeros) }
+    ensures { result ≡ cond (frames_sound workers first deques.now frames.now) (Good (live_end frames.now)) Bad }
 {
     let places = frames.len() as u32;
     if !deques_fit(workers, places, deques) {
@@ -104,8 +104,8 @@ fn check_with(
 
 // first is the first free place.
 pub fn check_frames(workers: u32, first: u32, deques: &[u32], frames: &[Frame]) -> FramesChecked
-    requires { (length deques.now ≡ dequeWords) × (length frames.now ≤ maxPlaces) }
-    ensures { result ≡ cond (framesSound workers first deques.now frames.now) (Good (liveEnd frames.now)) Bad }
+    requires { (length deques.now ≡ deque_words) × (length frames.now ≤ max_places) }
+    ensures { result ≡ cond (frames_sound workers first deques.now frames.now) (Good (live_end frames.now)) Bad }
 {
     let mut tallies = [0u32; TALLY_COUNT];
     check_with(workers, first, deques, frames, &mut tallies)

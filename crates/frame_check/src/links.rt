@@ -2,8 +2,8 @@
 // that all in all no more links are followed than frames live.
 ghost use Rattle.std.specs.Prelude.{◌≡◌, ◌&&◌, ◌≤◌, ◌<◌, eqb, length, get_or};
 ghost use Rattle.words.specs.Basics.{none};
-ghost use Rattle.frames.specs.Widths.{maxPlaces};
-ghost use Rattle.frame_check.specs.Algorithm.{youngerSound, lost, linkNext, manyChildren, linkCount, linkFirst, linksTallied};
+ghost use Rattle.frames.specs.Widths.{max_places};
+ghost use Rattle.frame_check.specs.Algorithm.{younger_sound, lost, link_next, many_children, link_count, link_first, links_tallied};
 
 use super::tallies::{DEQUE_STEP, LINK_STEP};
 use frames::{Frame, NONE, frame_at, frame_or_zero};
@@ -13,7 +13,7 @@ pub const LOST: u32 = NONE - 1;
 
 // Main and an only child name no sibling. The parent's record is g.
 pub fn younger_sound(f: Frame, g: Frame) -> bool
-    ensures { result ≡ youngerSound f g }
+    ensures { result ≡ younger_sound f g }
 {
     (f.younger == NONE) | ((f.depth != 0) & (1 < g.outstanding))
 }
@@ -27,14 +27,14 @@ fn child_of(f: Frame, q: u32) -> bool
 
 // Does a frame f with the word t of the tallies live, and has it two children or more?
 fn many_children(f: Frame, t: u32) -> bool
-    ensures { result ≡ manyChildren f t }
+    ensures { result ≡ many_children f t }
 {
     (f.live == 1) & (1 < t % DEQUE_STEP)
 }
 
 // How many links are followed from the frame f at place q on. None of a frame that does not live; an only child has its own test.
 pub fn link_count(tallies: &[u32], q: u32, f: Frame) -> u32
-    ensures { result ≡ linkCount f (get_or tallies.now q 0) }
+    ensures { result ≡ link_count f (get_or tallies.now q 0) }
 {
     let t = words::word(tallies, q as usize);
     if many_children(f, t) {
@@ -46,7 +46,7 @@ pub fn link_count(tallies: &[u32], q: u32, f: Frame) -> u32
 
 // And from where on: the eldest child, which the sum of the children's links tells.
 pub fn link_first(tallies: &[u32], q: u32, f: Frame) -> u32
-    ensures { result ≡ linkFirst f (get_or tallies.now q 0) }
+    ensures { result ≡ link_first f (get_or tallies.now q 0) }
 {
     let t = words::word(tallies, q as usize);
     if many_children(f, t) {
@@ -58,7 +58,7 @@ pub fn link_first(tallies: &[u32], q: u32, f: Frame) -> u32
 
 // The next younger of the children of the frame at q, after the one at c, whose record is f.
 pub fn link_next(places: u32, q: u32, f: Frame, c: u32) -> u32
-    ensures { result ≡ linkNext places q f c }
+    ensures { result ≡ link_next places q f c }
 {
     if (c < places) & child_of(f, q) {
         f.younger
@@ -76,8 +76,8 @@ pub fn at_end(p: u32) -> bool
 
 // Do the links chain the live children of the frame at q, from the eldest on, if one lives there and has two children or more?
 pub fn siblings_sound(frames: &[Frame], tallies: &[u32], places: u32, q: u32) -> bool
-    requires { (places ≡ length frames.now) × (places ≤ maxPlaces) × (q < places) }
-    ensures { result ≡ linksTallied frames.now tallies.now q }
+    requires { (places ≡ length frames.now) × (places ≤ max_places) × (q < places) }
+    ensures { result ≡ links_tallied frames.now tallies.now q }
 {
     let f = frame_at(frames, q);
     let count = link_count(tallies, q, f);

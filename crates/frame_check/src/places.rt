@@ -1,9 +1,9 @@
 // The frame places: what each has to be, given its tallies, and the free chain.
 ghost use Rattle.std.specs.Prelude.{◌≡◌, ◌&&◌, ◌≤◌, length, get_or};
 ghost use Rattle.words.specs.Basics.{all};
-ghost use Rattle.frames.specs.Widths.{maxPlaces};
-ghost use Rattle.soundness.specs.Soundness.{viewZero};
-ghost use Rattle.frame_check.specs.Algorithm.{parentSound, placedSound, returningSound, liveSound, recordSound, freeSound, freeNext, liveEnd, placeTallied, chainFrom};
+ghost use Rattle.frames.specs.Widths.{max_places};
+ghost use Rattle.soundness.specs.Soundness.{view_zero};
+ghost use Rattle.frame_check.specs.Algorithm.{parent_sound, placed_sound, returning_sound, live_sound, record_sound, free_sound, free_next, live_end, place_tallied, chain_from};
 
 use super::links::{LOST, at_end, siblings_sound, younger_sound};
 use super::tallies::{DEQUE_SPAN, DEQUE_STEP};
@@ -12,7 +12,7 @@ use reducers::View;
 
 // Main has no parent, any other live frame f a live one, one shallower, whose record is g.
 fn parent_sound(places: u32, f: Frame, g: Frame) -> bool
-    ensures { result ≡ parentSound places f g }
+    ensures { result ≡ parent_sound places f g }
 {
     if f.depth == 0 {
         return f.parent == NONE;
@@ -22,20 +22,20 @@ fn parent_sound(places: u32, f: Frame, g: Frame) -> bool
 
 // A live frame with so many children is on one place of the deques, or on none and waits.
 fn placed_sound(f: Frame, children: u32, seen: u32) -> bool
-    ensures { result ≡ placedSound f children seen }
+    ensures { result ≡ placed_sound f children seen }
 {
     ((seen == 1) & (f.suspended == 0)) | ((seen == 0) & ((f.suspended == 1) & (0 < children)))
 }
 
 // R-3, its word of a live frame: 1 if it waits in its return, and then it is suspended, else 0.
 fn returning_sound(f: Frame) -> bool
-    ensures { result ≡ returningSound f }
+    ensures { result ≡ returning_sound f }
 {
     (f.returning == 0) | ((f.returning == 1) & (f.suspended == 1))
 }
 
 fn live_sound(places: u32, f: Frame, g: Frame, children: u32, seen: u32) -> bool
-    ensures { result ≡ liveSound places f g children seen }
+    ensures { result ≡ live_sound places f g children seen }
 {
     (f.outstanding == children)
         & (parent_sound(places, f, g)
@@ -51,7 +51,7 @@ pub fn parent_of(f: Frame) -> u32
 
 // The record f with its parent's record g and its word t of the tallies, if a frame lives there.
 fn record_sound(places: u32, f: Frame, g: Frame, t: u32) -> bool
-    ensures { result ≡ recordSound places f g t }
+    ensures { result ≡ record_sound places f g t }
 {
     if f.live != 1 {
         return true;
@@ -69,14 +69,14 @@ pub fn place_turn(
     tallies: &[u32],
     p: u32,
 ) -> bool
-    ensures { result ≡ (sound && (linked && recordSound places f g (get_or tallies.now p 0))) }
+    ensures { result ≡ (sound && (linked && record_sound places f g (get_or tallies.now p 0))) }
 {
     let t = words::word(tallies, p as usize);
     sound & (linked & record_sound(places, f, g, t))
 }
 
 fn view_zero(v: View) -> bool
-    ensures { result ≡ viewZero v }
+    ensures { result ≡ view_zero v }
 {
     (v.sum.value == 0)
         & ((v.min.value == 0) & ((v.affine.multiplier == 0) & (v.affine.addend == 0)))
@@ -84,7 +84,7 @@ fn view_zero(v: View) -> bool
 
 // A free place: zero but for the link.
 fn free_sound(f: Frame) -> bool
-    ensures { result ≡ freeSound f }
+    ensures { result ≡ free_sound f }
 {
     let v = f.view;
     (f.live == 0)
@@ -96,7 +96,7 @@ fn free_sound(f: Frame) -> bool
 
 // The next free place after p, whose record is f.
 pub fn free_next(places: u32, f: Frame, p: u32) -> u32
-    ensures { result ≡ freeNext places f p }
+    ensures { result ≡ free_next places f p }
 {
     if (p < places) & free_sound(f) {
         f.parent
@@ -107,8 +107,8 @@ pub fn free_next(places: u32, f: Frame, p: u32) -> u32
 
 // The places before end, from which on no frame lives.
 pub fn places_sound(frames: &[Frame], tallies: &[u32], places: u32, end: u32) -> bool
-    requires { (places ≡ length frames.now) × (places ≤ maxPlaces) × (end ≡ liveEnd frames.now) }
-    ensures { result ≡ all (length frames.now) (placeTallied frames.now tallies.now) }
+    requires { (places ≡ length frames.now) × (places ≤ max_places) × (end ≡ live_end frames.now) }
+    ensures { result ≡ all (length frames.now) (place_tallied frames.now tallies.now) }
 {
     let mut sound = true;
     let mut p: u32 = 0;
@@ -124,8 +124,8 @@ pub fn places_sound(frames: &[Frame], tallies: &[u32], places: u32, end: u32) ->
 
 // Has the chain from place first on just so many places, all of them free? No place is on such a chain twice: it would not end.
 pub fn follow_free(frames: &[Frame], places: u32, count: u32, first: u32) -> bool
-    requires { (places ≡ length frames.now) × (places ≤ maxPlaces) }
-    ensures { result ≡ chainFrom frames.now count first }
+    requires { (places ≡ length frames.now) × (places ≤ max_places) }
+    ensures { result ≡ chain_from frames.now count first }
 {
     let mut p = first;
     let mut k: u32 = 0;

@@ -1,7 +1,7 @@
 // How often each place stands somewhere, counted in a word for each place: two counts in one word, and above them what its children's links add up to.
 ghost use Rattle.std.specs.Prelude.{◌≡◌, cond, ◌≤◌, length};
-ghost use Rattle.frames.specs.Widths.{maxPlaces};
-ghost use Rattle.frame_check.specs.Algorithm.{bump, isFlat, step_of, withLive, counted, childTallied, tallyChildren, censusTo};
+ghost use Rattle.frames.specs.Widths.{max_places};
+ghost use Rattle.frame_check.specs.Algorithm.{bump, is_flat, step_of, with_live, counted, child_tallied, tally_children, census_to};
 
 use super::{Census, no_census};
 use frames::{Frame, frame_at};
@@ -34,14 +34,14 @@ fn step_of(c: u32, y: u32) -> u32
 
 // 1 for depth 0, else 0.
 fn flat_in(f: Frame) -> u32
-    ensures { result ≡ cond (isFlat f) 1 0 }
+    ensures { result ≡ cond (is_flat f) 1 0 }
 {
     if f.depth == 0 { 1 } else { 0 }
 }
 
 // Counts the live frame f at place p.
 fn with_live(census: Census, p: u32, f: Frame) -> Census
-    ensures { result ≡ withLive census p f }
+    ensures { result ≡ with_live census p f }
 {
     Census {
         mains: words::add(census.mains, flat_in(f)),
@@ -52,7 +52,7 @@ fn with_live(census: Census, p: u32, f: Frame) -> Census
 
 // Counts the record f at place p, if a frame lives there, and its link at its parent's place.
 pub fn tally_child(tallies: &mut [u32], census: Census, p: u32, f: Frame) -> Census
-    ensures { (tallies.new ≡ childTallied tallies.old p f) × (result ≡ counted census p f) }
+    ensures { (tallies.new ≡ child_tallied tallies.old p f) × (result ≡ counted census p f) }
 {
     if f.live != 1 {
         return census;
@@ -63,9 +63,9 @@ pub fn tally_child(tallies: &mut [u32], census: Census, p: u32, f: Frame) -> Cen
 
 // Counts each place's live children and adds up their links; counts the live frames, and those of depth 0.
 pub fn tally_children(tallies: &mut [u32], frames: &[Frame], places: u32) -> Census
-    requires { (length tallies.old ≡ maxPlaces) × (places ≡ length frames.now) × (places ≤ maxPlaces) }
-    ensures { (tallies.new ≡ tallyChildren frames.now tallies.old)
-        × (result ≡ censusTo frames.now (length frames.now)) }
+    requires { (length tallies.old ≡ max_places) × (places ≡ length frames.now) × (places ≤ max_places) }
+    ensures { (tallies.new ≡ tally_children frames.now tallies.old)
+        × (result ≡ census_to frames.now (length frames.now)) }
 {
     let mut census = no_census();
     let mut p: u32 = 0;

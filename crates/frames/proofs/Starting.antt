@@ -8,7 +8,7 @@ use lib.Dec.{eqb}
 use lib.ListN.{length, set, drop, replicate}
 use Rattle.words.specs.Basics.{none, plus}
 use Rattle.frames.specs.declared.Frame.{Frame}
-use Rattle.frames.specs.Frames.{setFrame, freePlace, mainFrame, initPlaces, initFrames}
+use Rattle.frames.specs.Frames.{set_frame, free_record, main_frame, init_places, init_frames}
 
 -- ---- cleared: the first i records are z, the others as they were
 
@@ -17,8 +17,8 @@ fill_step z i [] l = absurd (omega arith)
 fill_step z zero (x ∷ fs) l = refl
 fill_step z (suc i) (x ∷ fs) l = ap (λ (gs : List Frame). z ∷ gs) (fill_step z i fs (omega arith))
 
-pub fill-turn : (z : Frame) (i : ℕ) (fs gs hs : List Frame) (f : Frame) → i < length fs → f ≡ z → gs ≡ replicate i z ++ drop i fs → hs ≡ set gs i f → hs ≡ replicate (i + 1) z ++ drop (i + 1) fs
-fill-turn z i fs gs hs f l ef eg eh =
+pub fill_turn : (z : Frame) (i : ℕ) (fs gs hs : List Frame) (f : Frame) → i < length fs → f ≡ z → gs ≡ replicate i z ++ drop i fs → hs ≡ set gs i f → hs ≡ replicate (i + 1) z ++ drop (i + 1) fs
+fill_turn z i fs gs hs f l ef eg eh =
     let e : suc i ≡ i + 1 = omega arith in
     eh ∙ ap (λ (g : Frame). set gs i g) ef ∙ ap (λ (ks : List Frame). set ks i z) eg ∙ fill_step z i fs l ∙ ap (λ (k : ℕ). replicate k z ++ drop k fs) e
 
@@ -30,17 +30,17 @@ fill_end z (suc i) (x ∷ fs) a b = ap (λ (gs : List Frame). z ∷ gs) (fill_en
 
 -- ---- the start
 
-pub places-turn : (fs gs : List Frame) (p more next r : ℕ) (f : Frame) → 0 < more → next ≡ plus p 1 → r ≡ cond (eqb (more - 1) 0) none next → f ≡ freePlace r → gs ≡ setFrame fs p f
-    → initPlaces (more - 1) gs next ≡ initPlaces more fs p
-unfolding initPlaces
-places-turn fs gs p more next r f l en er ef eg =
+pub places_turn : (fs gs : List Frame) (p more next r : ℕ) (f : Frame) → 0 < more → next ≡ plus p 1 → r ≡ cond (eqb (more - 1) 0) none next → f ≡ free_record r → gs ≡ set_frame fs p f
+    → init_places (more - 1) gs next ≡ init_places more fs p
+unfolding init_places
+places_turn fs gs p more next r f l en er ef eg =
     let e : more ≡ suc (more - 1) = omega arith in
-    rw (eg, ef, er, en) (sym (ap (λ (n : ℕ). initPlaces n fs p) e))
+    rw (eg, ef, er, en) (sym (ap (λ (n : ℕ). init_places n fs p) e))
 
-pub places-end : (fs : List Frame) (p more : ℕ) → more ≤ 0 → initPlaces more fs p ≡ fs
-unfolding initPlaces
-places-end fs p more h = let e : more ≡ 0 = omega arith in ap (λ (n : ℕ). initPlaces n fs p) e
+pub places_end : (fs : List Frame) (p more : ℕ) → more ≤ 0 → init_places more fs p ≡ fs
+unfolding init_places
+places_end fs p more h = let e : more ≡ 0 = omega arith in ap (λ (n : ℕ). init_places n fs p) e
 
-pub table-starts : (fs gs hs : List Frame) (m : Frame) (r : ℕ) → m ≡ mainFrame 0 → gs ≡ setFrame fs 0 m → r ≡ length fs - 1 → hs ≡ initPlaces r gs 1 → hs ≡ initFrames fs
-unfolding initFrames
-table-starts fs gs hs m r em eg er eh = rw (eh, er, eg, em)
+pub table_starts : (fs gs hs : List Frame) (m : Frame) (r : ℕ) → m ≡ main_frame 0 → gs ≡ set_frame fs 0 m → r ≡ length fs - 1 → hs ≡ init_places r gs 1 → hs ≡ init_frames fs
+unfolding init_frames
+table_starts fs gs hs m r em eg er eh = rw (eh, er, eg, em)

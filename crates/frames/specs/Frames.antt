@@ -2,7 +2,7 @@
 use Rattle.std.specs.Prelude.{cond, List, [], ◌∷◌, ◌++◌, ℕ, zero, suc, ◌-◌, ◌<◌, length, get_or, set, eqb}
 use Rattle.words.specs.Basics.{none, plus}
 use Rattle.reducers.specs.declared.View.{View}
-use Rattle.reducers.specs.Reducers.{identityView, viewWords, zeroView}
+use Rattle.reducers.specs.Reducers.{identity_view, view_words, zero_view}
 use Rattle.reducers.specs.Law.{ViewWord}
 use Rattle.frames.specs.declared.Frame.{Frame}
 
@@ -10,11 +10,11 @@ use Rattle.frames.specs.declared.Frame.{Frame}
 -- gain a word for it, last: 1 on a frame waiting so", that is, returning; R-5: "frame records gain, last, the four view words and the next younger live
 -- sibling or none"
 abbrev pub words_of : Frame → List ℕ
-words_of f = f.live ∷ f.parent ∷ f.depth ∷ f.outstanding ∷ f.suspended ∷ f.root ∷ f.returning ∷ (viewWords f.view ++ f.younger ∷ [])
+words_of f = f.live ∷ f.parent ∷ f.depth ∷ f.outstanding ∷ f.suspended ∷ f.root ∷ f.returning ∷ (view_words f.view ++ f.younger ∷ [])
 
 -- the record of these words
-abbrev pub recordIn : List ℕ → Frame
-recordIn ks =
+abbrev pub record_in : List ℕ → Frame
+record_in ks =
     record {
       live = get_or ks 0 0;
       parent = get_or ks 1 0;
@@ -28,81 +28,81 @@ recordIn ks =
     }
 
 -- a free place: "all but the link to the next being zero"
-abbrev pub freePlace : ℕ → Frame
-freePlace next = record { live = 0; parent = next; depth = 0; outstanding = 0; suspended = 0; root = 0; returning = 0; view = zeroView; younger = 0 }
+abbrev pub free_record : ℕ → Frame
+free_record next = record { live = 0; parent = next; depth = 0; outstanding = 0; suspended = 0; root = 0; returning = 0; view = zero_view; younger = 0 }
 
 -- R-6: "a slice of frame records": the record at place p; past the table there are zeros
-unfoldable pub frameAt : List Frame → ℕ → Frame
-frameAt fs p = get_or fs p (freePlace 0)
+unfoldable pub frame_at : List Frame → ℕ → Frame
+frame_at fs p = get_or fs p (free_record 0)
 
-unfoldable pub setFrame : List Frame → ℕ → Frame → List Frame
-setFrame fs p f = set fs p f
+unfoldable pub set_frame : List Frame → ℕ → Frame → List Frame
+set_frame fs p f = set fs p f
 
 -- ---- single records
 
 -- a record with one part changed: its number of live children, suspended or not, its tree, returning or not, its view, its next younger live sibling
-abbrev pub withOutstanding : Frame → ℕ → Frame
-withOutstanding f n =
+abbrev pub with_outstanding : Frame → ℕ → Frame
+with_outstanding f n =
     record { live = f.live; parent = f.parent; depth = f.depth; outstanding = n; suspended = f.suspended; root = f.root; returning = f.returning; view = f.view; younger = f.younger }
 
-abbrev pub withSuspended : Frame → ℕ → Frame
-withSuspended f s =
+abbrev pub with_suspended : Frame → ℕ → Frame
+with_suspended f s =
     record { live = f.live; parent = f.parent; depth = f.depth; outstanding = f.outstanding; suspended = s; root = f.root; returning = f.returning; view = f.view; younger = f.younger }
 
-abbrev pub withRoot : Frame → ℕ → Frame
-withRoot f r =
+abbrev pub with_root : Frame → ℕ → Frame
+with_root f r =
     record { live = f.live; parent = f.parent; depth = f.depth; outstanding = f.outstanding; suspended = f.suspended; root = r; returning = f.returning; view = f.view; younger = f.younger }
 
-abbrev pub withReturning : Frame → ℕ → Frame
-withReturning f b =
+abbrev pub with_returning : Frame → ℕ → Frame
+with_returning f b =
     record { live = f.live; parent = f.parent; depth = f.depth; outstanding = f.outstanding; suspended = f.suspended; root = f.root; returning = b; view = f.view; younger = f.younger }
 
-abbrev pub withView : Frame → View → Frame
-withView f w =
+abbrev pub with_view : Frame → View → Frame
+with_view f w =
     record { live = f.live; parent = f.parent; depth = f.depth; outstanding = f.outstanding; suspended = f.suspended; root = f.root; returning = f.returning; view = w; younger = f.younger }
 
-abbrev pub withYounger : Frame → ℕ → Frame
-withYounger f y =
+abbrev pub with_younger : Frame → ℕ → Frame
+with_younger f y =
     record { live = f.live; parent = f.parent; depth = f.depth; outstanding = f.outstanding; suspended = f.suspended; root = f.root; returning = f.returning; view = f.view; younger = y }
 
 -- R-3: "suspends the frame as returning"
-abbrev pub asReturning : Frame → Frame
-asReturning f = withReturning (withSuspended f 1) 1
+abbrev pub as_returning : Frame → Frame
+as_returning f = with_returning (with_suspended f 1) 1
 
 -- one live child more
-abbrev pub withChild : Frame → Frame
-withChild f = withOutstanding f (plus f.outstanding 1)
+abbrev pub with_child : Frame → Frame
+with_child f = with_outstanding f (plus f.outstanding 1)
 
 -- one live child less
-abbrev pub withoutChild : Frame → Frame
-withoutChild f = withOutstanding f (f.outstanding - 1)
+abbrev pub without_child : Frame → Frame
+without_child f = with_outstanding f (f.outstanding - 1)
 
 -- R-5: "the continuation begins with the identity": a frame after its spawn
-abbrev pub afterSpawn : Frame → Frame
-afterSpawn f = withView (withChild f) identityView
+abbrev pub after_spawn : Frame → Frame
+after_spawn f = with_view (with_child f) identity_view
 
 -- a spawned child of the frame f at place p: "child of the worker's bottom frame and one deeper"; R-5: "the child inherits", and it is the youngest
-abbrev pub childOf : Frame → ℕ → Frame
-childOf f p = record { live = 1; parent = p; depth = plus f.depth 1; outstanding = 0; suspended = 0; root = f.root; returning = 0; view = f.view; younger = none }
+abbrev pub child_of : Frame → ℕ → Frame
+child_of f p = record { live = 1; parent = p; depth = plus f.depth 1; outstanding = 0; suspended = 0; root = f.root; returning = 0; view = f.view; younger = none }
 
 -- Main, with the tree of this root; R-5: "Main begins with the identities."
-abbrev pub mainFrame : ℕ → Frame
-mainFrame r = record { live = 1; parent = none; depth = 0; outstanding = 0; suspended = 0; root = r; returning = 0; view = identityView; younger = none }
+abbrev pub main_frame : ℕ → Frame
+main_frame r = record { live = 1; parent = none; depth = 0; outstanding = 0; suspended = 0; root = r; returning = 0; view = identity_view; younger = none }
 
 -- ---- the start
 
 -- c free places from place p on, in rising order
-unfoldable pub initPlaces : ℕ → List Frame → ℕ → List Frame
-initPlaces zero fs p = fs
-initPlaces (suc c) fs p = initPlaces c (setFrame fs p (freePlace (cond (eqb c 0) none (plus p 1)))) (plus p 1)
+unfoldable pub init_places : ℕ → List Frame → ℕ → List Frame
+init_places zero fs p = fs
+init_places (suc c) fs p = init_places c (set_frame fs p (free_record (cond (eqb c 0) none (plus p 1)))) (plus p 1)
 
 -- "Frame places are taken and freed the same way, Main in place 0": Main, whose tree's root is node 0, the other places are free
-unfoldable pub initFrames : List Frame → List Frame
-initFrames fs = initPlaces (length fs - 1) (setFrame fs 0 (mainFrame 0)) 1
+unfoldable pub init_frames : List Frame → List Frame
+init_frames fs = init_places (length fs - 1) (set_frame fs 0 (main_frame 0)) 1
 
 -- the first free place of a table of n places then
-abbrev pub firstFree : ℕ → ℕ
-firstFree n = cond (eqb n 1) none 1
+abbrev pub first_free : ℕ → ℕ
+first_free n = cond (eqb n 1) none 1
 
 -- "Words are 32-bit unsigned": a record of words, and a table of such records
 pub record FrameWords (f : Frame) : Type 0 where
@@ -117,4 +117,4 @@ pub record FrameWords (f : Frame) : Type 0 where
   pub younger : f.younger < 4294967296
 
 abbrev pub RecordWords : List Frame → Type 0
-RecordWords fs = (p : ℕ) → FrameWords (frameAt fs p)
+RecordWords fs = (p : ℕ) → FrameWords (frame_at fs p)

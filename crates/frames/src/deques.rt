@@ -1,14 +1,14 @@
 // The deques: for each worker its length, then places for its frames from the top.
 ghost use Rattle.std.specs.Prelude.{◌≡◌, ◌+◌, ◌-◌, ◌≤◌, ◌<◌, length, set, replicate};
 ghost use Rattle.words.specs.Basics.{plus};
-ghost use Rattle.frames.specs.Widths.{maxWorkers, dequePlaces, dequeStride, dequeWords};
-ghost use Rattle.frames.specs.Deques.{size, place, bottom, top, push, pop, shiftUp, dropTop, initDeques};
+ghost use Rattle.frames.specs.Widths.{max_workers, deque_places, deque_stride, deque_words};
+ghost use Rattle.frames.specs.Deques.{size, place, bottom, top, push, pop, shift_up, drop_top, init_deques};
 
 use super::DEQUE_STRIDE;
 
 // How many frames worker w has.
 pub fn size_at(deques: &[u32], w: u32) -> u32
-    requires { (length deques.now ≡ dequeWords) × (w < maxWorkers) }
+    requires { (length deques.now ≡ deque_words) × (w < max_workers) }
     ensures { result ≡ size deques.now w }
 {
     deques[DEQUE_STRIDE * (w as usize)]
@@ -16,7 +16,7 @@ pub fn size_at(deques: &[u32], w: u32) -> u32
 
 // The frame that is k places below worker w's top.
 pub fn place_at(deques: &[u32], w: u32, k: u32) -> u32
-    requires { (length deques.now ≡ dequeWords) × (w < maxWorkers) × (k < dequePlaces) }
+    requires { (length deques.now ≡ deque_words) × (w < max_workers) × (k < deque_places) }
     ensures { result ≡ place deques.now w k }
 {
     deques[DEQUE_STRIDE * (w as usize) + (1 + (k as usize))]
@@ -24,7 +24,7 @@ pub fn place_at(deques: &[u32], w: u32, k: u32) -> u32
 
 // The frame that a thief takes.
 pub fn top_at(deques: &[u32], w: u32) -> u32
-    requires { (length deques.now ≡ dequeWords) × (w < maxWorkers) }
+    requires { (length deques.now ≡ deque_words) × (w < max_workers) }
     ensures { result ≡ top deques.now w }
 {
     deques[DEQUE_STRIDE * (w as usize) + 1]
@@ -32,7 +32,7 @@ pub fn top_at(deques: &[u32], w: u32) -> u32
 
 // The place of the frame that worker w executes, which has n of them.
 pub fn acting_place(deques: &[u32], w: u32, n: u32) -> u32
-    requires { (length deques.now ≡ dequeWords) × (w < maxWorkers) × (n ≡ size deques.now w) × (0 < n) × (n ≤ dequePlaces) }
+    requires { (length deques.now ≡ deque_words) × (w < max_workers) × (n ≡ size deques.now w) × (0 < n) × (n ≤ deque_places) }
     ensures { result ≡ bottom deques.now w }
 {
     let at = DEQUE_STRIDE * (w as usize);
@@ -42,7 +42,7 @@ pub fn acting_place(deques: &[u32], w: u32, n: u32) -> u32
 
 // One deque's words, of which n are frames: a frame more at the bottom.
 fn push_in(deque: &mut [u32], n: u32, p: u32)
-    requires { (dequeStride ≤ length deque.old) × (n < dequePlaces) }
+    requires { (deque_stride ≤ length deque.old) × (n < deque_places) }
     ensures { deque.new ≡ set (set deque.old (1 + n) p) 0 (plus n 1) }
 {
     deque[1 + (n as usize)] = p;
@@ -51,7 +51,7 @@ fn push_in(deque: &mut [u32], n: u32, p: u32)
 
 // The bottom frame taken off.
 fn pop_in(deque: &mut [u32], n: u32)
-    requires { (dequeStride ≤ length deque.old) × (0 < n) × (n ≤ dequePlaces) }
+    requires { (deque_stride ≤ length deque.old) × (0 < n) × (n ≤ deque_places) }
     ensures { deque.new ≡ set (set deque.old n 0) 0 (n - 1) }
 {
     deque[n as usize] = 0;
@@ -60,7 +60,7 @@ fn pop_in(deque: &mut [u32], n: u32)
 
 // A frame more at the bottom of worker w's deque, which has n.
 pub fn push_on(deques: &mut [u32], w: u32, n: u32, p: u32)
-    requires { (length deques.old ≡ dequeWords) × (w < maxWorkers) × (n ≡ size deques.old w) × (n < dequePlaces) }
+    requires { (length deques.old ≡ deque_words) × (w < max_workers) × (n ≡ size deques.old w) × (n < deque_places) }
     ensures { deques.new ≡ push deques.old w p }
 {
     let at = DEQUE_STRIDE * (w as usize);
@@ -69,7 +69,7 @@ pub fn push_on(deques: &mut [u32], w: u32, n: u32, p: u32)
 
 // The bottom frame taken off worker w's deque, which has n.
 pub fn pop_off(deques: &mut [u32], w: u32, n: u32)
-    requires { (length deques.old ≡ dequeWords) × (w < maxWorkers) × (n ≡ size deques.old w) × (0 < n) × (n ≤ dequePlaces) }
+    requires { (length deques.old ≡ deque_words) × (w < max_workers) × (n ≡ size deques.old w) × (0 < n) × (n ≤ deque_places) }
     ensures { deques.new ≡ pop deques.old w }
 {
     let at = DEQUE_STRIDE * (w as usize);
@@ -79,8 +79,8 @@ pub fn pop_off(deques: &mut [u32], w: u32, n: u32)
 // One deque's words, of which n are frames: the top frame sinks to the bottom, one place at a time, and is taken off there.
 // The places that move up are told as worker 0's, whose words come first.
 fn take_in(deque: &mut [u32], n: u32)
-    requires { (dequeStride ≤ length deque.old) × (0 < n) × (n ≤ dequePlaces) }
-    ensures { deque.new ≡ set (set (shiftUp (n - 1) deque.old 0 0) n 0) 0 (n - 1) }
+    requires { (deque_stride ≤ length deque.old) × (0 < n) × (n ≤ deque_places) }
+    ensures { deque.new ≡ set (set (shift_up (n - 1) deque.old 0 0) n 0) 0 (n - 1) }
 {
     let mut k: usize = 1;
     while k < (n as usize) {
@@ -94,8 +94,8 @@ fn take_in(deque: &mut [u32], n: u32)
 
 // The top frame taken off: the rest moves up.
 pub fn top_off(deques: &mut [u32], w: u32)
-    requires { (length deques.old ≡ dequeWords) × (w < maxWorkers) × (0 < size deques.old w) × (size deques.old w ≤ dequePlaces) }
-    ensures { deques.new ≡ dropTop deques.old w }
+    requires { (length deques.old ≡ deque_words) × (w < max_workers) × (0 < size deques.old w) × (size deques.old w ≤ deque_places) }
+    ensures { deques.new ≡ drop_top deques.old w }
 {
     let n = size_at(deques, w);
     let at = DEQUE_STRIDE * (w as usize);
@@ -104,8 +104,8 @@ pub fn top_off(deques: &mut [u32], w: u32)
 
 // The start, whatever the words held: Main, in place 0, is alone on worker 0's deque.
 pub fn init_deques(deques: &mut [u32])
-    requires { length deques.old ≡ dequeWords }
-    ensures { deques.new ≡ initDeques (replicate dequeWords 0) }
+    requires { length deques.old ≡ deque_words }
+    ensures { deques.new ≡ init_deques (replicate deque_words 0) }
 {
     words::clear_all(deques);
     push_on(deques, 0, 0, 0);

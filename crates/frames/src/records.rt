@@ -1,16 +1,16 @@
 // Single frame records by value: those that a step makes or changes, and what is asked of one.
 ghost use Rattle.std.specs.Prelude.{◌≡◌, cond, ◌&&◌, eqb, ltb};
 ghost use Rattle.words.specs.Basics.{none};
-ghost use Rattle.reducers.specs.Reducers.{zeroView, joinView, foldView};
-ghost use Rattle.frames.specs.Frames.{withSuspended, withRoot, withView, withYounger, withoutChild, afterSpawn, asReturning, childOf, freePlace, mainFrame};
-ghost use Rattle.frames.specs.Steps.{waitsNoMore, endsToo};
+ghost use Rattle.reducers.specs.Reducers.{zero_view, join_view, fold_view};
+ghost use Rattle.frames.specs.Frames.{with_suspended, with_root, with_view, with_younger, without_child, after_spawn, as_returning, child_of, free_record, main_frame};
+ghost use Rattle.frames.specs.Steps.{waits_no_more, ends_too};
 
 use super::{Frame, NONE};
 use reducers::{Affine, Min, Sum, View};
 
 // A spawned child of the frame f at place p.
 pub fn child_of(f: Frame, p: u32) -> Frame
-    ensures { result ≡ childOf f p }
+    ensures { result ≡ child_of f p }
 {
     let view = f.view;
     Frame {
@@ -28,7 +28,7 @@ pub fn child_of(f: Frame, p: u32) -> Frame
 
 // A view of zeros.
 fn zero_view() -> View
-    ensures { result ≡ zeroView }
+    ensures { result ≡ zero_view }
 {
     View {
         sum: Sum { value: 0 },
@@ -42,7 +42,7 @@ fn zero_view() -> View
 
 // A free place, with the next one.
 pub fn free_place(next: u32) -> Frame
-    ensures { result ≡ freePlace next }
+    ensures { result ≡ free_record next }
 {
     Frame {
         live: 0,
@@ -59,7 +59,7 @@ pub fn free_place(next: u32) -> Frame
 
 // Main, with the tree of this root.
 pub fn main_frame(root: u32) -> Frame
-    ensures { result ≡ mainFrame root }
+    ensures { result ≡ main_frame root }
 {
     Frame {
         live: 1,
@@ -78,7 +78,7 @@ pub fn main_frame(root: u32) -> Frame
 
 // With another tree.
 pub fn with_root(f: Frame, root: u32) -> Frame
-    ensures { result ≡ withRoot f root }
+    ensures { result ≡ with_root f root }
 {
     let mut g = f;
     g.root = root;
@@ -87,7 +87,7 @@ pub fn with_root(f: Frame, root: u32) -> Frame
 
 // Suspended (1) or not (0).
 pub fn with_suspended(f: Frame, s: u32) -> Frame
-    ensures { result ≡ withSuspended f s }
+    ensures { result ≡ with_suspended f s }
 {
     let mut g = f;
     g.suspended = s;
@@ -96,7 +96,7 @@ pub fn with_suspended(f: Frame, s: u32) -> Frame
 
 // It waits in its return.
 pub fn as_returning(f: Frame) -> Frame
-    ensures { result ≡ asReturning f }
+    ensures { result ≡ as_returning f }
 {
     let mut g = f;
     g.suspended = 1;
@@ -106,7 +106,7 @@ pub fn as_returning(f: Frame) -> Frame
 
 // With another next younger sibling.
 pub fn with_younger(f: Frame, y: u32) -> Frame
-    ensures { result ≡ withYounger f y }
+    ensures { result ≡ with_younger f y }
 {
     let mut g = f;
     g.younger = y;
@@ -115,7 +115,7 @@ pub fn with_younger(f: Frame, y: u32) -> Frame
 
 // After its spawn.
 pub fn after_spawn(f: Frame) -> Frame
-    ensures { result ≡ afterSpawn f }
+    ensures { result ≡ after_spawn f }
 {
     let children = words::add(f.outstanding, 1);
     let identity = View::IDENTITY;
@@ -127,7 +127,7 @@ pub fn after_spawn(f: Frame) -> Frame
 
 // With a live child less.
 pub fn without_child(f: Frame) -> Frame
-    ensures { result ≡ withoutChild f }
+    ensures { result ≡ without_child f }
 {
     let mut g = f;
     g.outstanding = words::sub(f.outstanding, 1);
@@ -136,7 +136,7 @@ pub fn without_child(f: Frame) -> Frame
 
 // A view has joined its own on the left.
 pub fn joined(f: Frame, view: View) -> Frame
-    ensures { result ≡ withView f (joinView view f.view) }
+    ensures { result ≡ with_view f (join_view view f.view) }
 {
     let own = f.view;
     let mut g = f;
@@ -146,7 +146,7 @@ pub fn joined(f: Frame, view: View) -> Frame
 
 // The value v is folded into reducer r of its view; a number that names no reducer folds nothing.
 pub fn folded(f: Frame, r: u32, v: u32) -> Frame
-    ensures { result ≡ withView f (foldView f.view r v) }
+    ensures { result ≡ with_view f (fold_view f.view r v) }
 {
     let own = f.view;
     let mut g = f;
@@ -158,14 +158,14 @@ pub fn folded(f: Frame, r: u32, v: u32) -> Frame
 
 // Is it suspended, with no live child left?
 pub fn waits_no_more(f: Frame) -> bool
-    ensures { result ≡ waitsNoMore f }
+    ensures { result ≡ waits_no_more f }
 {
     (f.suspended == 1) & (f.outstanding == 0)
 }
 
 // Does it, a child of which has ended, end too?
 pub fn ends_too(f: Frame) -> bool
-    ensures { result ≡ endsToo f }
+    ensures { result ≡ ends_too f }
 {
     ((f.suspended == 1) & (f.outstanding == 0)) & (f.returning == 1)
 }

@@ -1,14 +1,14 @@
 // What a spawn, a return, a steal, a sync and a fold do to the deques and the frame table. That the step is not refused is the caller's to see to.
 ghost use Rattle.std.specs.Prelude.{◌≡◌, ◌≢◌, List, ℕ, ◌≤◌, ◌<◌, length};
 ghost use Rattle.words.specs.Basics.{none};
-ghost use Rattle.reducers.specs.Reducers.{foldView};
+ghost use Rattle.reducers.specs.Reducers.{fold_view};
 ghost use Rattle.frames.specs.declared.Frame.{Frame};
 ghost use Rattle.frames.specs.declared.Returned.TheVariants.{Idle, Resumed};
 ghost use Rattle.frames.specs.declared.Synced.TheVariants.{Passed, Suspended};
-ghost use Rattle.frames.specs.Widths.{maxWorkers, maxPlaces, dequePlaces, dequeWords};
-ghost use Rattle.frames.specs.Frames.{frameAt, setFrame, withView, initFrames};
+ghost use Rattle.frames.specs.Widths.{max_workers, max_places, deque_places, deque_words};
+ghost use Rattle.frames.specs.Frames.{frame_at, set_frame, with_view, init_frames};
 ghost use Rattle.frames.specs.Deques.{size};
-ghost use Rattle.frames.specs.Steps.{linkChild, spawn, removeFrame, endFrame, steal};
+ghost use Rattle.frames.specs.Steps.{link_child, spawn, remove_frame, end_frame, steal};
 ghost use Rattle.frames.specs.Promises.{table, Waits, GoesOn, IsSync};
 ghost use Rattle.frames.specs.Ranges.{Acts, EndsIn};
 
@@ -23,8 +23,8 @@ use super::{Frame, NONE, Returned, Synced};
 
 // The frame at place p has so many live children: the youngest of them, if there is one, names the new one, at place g, as its next younger sibling.
 pub fn link_child(frames: &mut [Frame], p: u32, g: u32, children: u32)
-    requires { (length frames.old ≤ maxPlaces) × (children ≡ (frameAt frames.old p).outstanding) }
-    ensures { frames.new ≡ linkChild frames.old p g }
+    requires { (length frames.old ≤ max_places) × (children ≡ (frame_at frames.old p).outstanding) }
+    ensures { frames.new ≡ link_child frames.old p g }
 {
     if children == 0 {
         return;
@@ -43,7 +43,7 @@ pub fn spawn_frame(
     p: u32,
     f: Frame,
 ) -> u32
-    requires { Acts deques.old frames.old w n p f × (n < dequePlaces) × (length frames.old ≤ maxPlaces) × (free < length frames.old) }
+    requires { Acts deques.old frames.old w n p f × (n < deque_places) × (length frames.old ≤ max_places) × (free < length frames.old) }
     ensures { table deques.new frames.new result ≡ spawn (table deques.old frames.old free) w }
 {
     let next = frame_at(frames, free);
@@ -58,8 +58,8 @@ pub fn spawn_frame(
 // The frame at place p, whose parent at place q has other live children, ends. The next one in the order is looked for before any record is read, so that
 // none is held meanwhile: the compiler keeps this a function of its own, and the array of first_from lies on its stack.
 pub fn end_sibling(frames: &mut [Frame], free: u32, p: u32, q: u32)
-    requires { EndsIn frames.old p q × (length frames.old ≤ maxPlaces) × (q ≢ none) × ((frameAt frames.old q).outstanding ≢ 1) }
-    ensures { frames.new ≡ endFrame frames.old free p }
+    requires { EndsIn frames.old p q × (length frames.old ≤ max_places) × (q ≢ none) × ((frame_at frames.old q).outstanding ≢ 1) }
+    ensures { frames.new ≡ end_frame frames.old free p }
 {
     let next = next_after(frames, p, q);
     let f = frame_at(frames, p);
@@ -71,8 +71,8 @@ pub fn end_sibling(frames: &mut [Frame], free: u32, p: u32, q: u32)
 
 // The frame at place p, the only live child of the one at place q, ends.
 pub fn end_alone(frames: &mut [Frame], free: u32, p: u32, q: u32)
-    requires { EndsIn frames.old p q × (q ≢ none) × ((frameAt frames.old q).outstanding ≡ 1) }
-    ensures { frames.new ≡ endFrame frames.old free p }
+    requires { EndsIn frames.old p q × (q ≢ none) × ((frame_at frames.old q).outstanding ≡ 1) }
+    ensures { frames.new ≡ end_frame frames.old free p }
 {
     let f = frame_at(frames, p);
     let g = frame_at(frames, q);
@@ -83,8 +83,8 @@ pub fn end_alone(frames: &mut [Frame], free: u32, p: u32, q: u32)
 // The frame at place p, whose parent is at place q, ends: its place is the first free one, its parent has a live child less, and its view joins the next
 // one's. The test stands in end_frame too: end_sibling then has two callers and stays a function of its own, out of this one's way.
 pub fn end_below(frames: &mut [Frame], free: u32, p: u32, q: u32)
-    requires { EndsIn frames.old p q × (length frames.old ≤ maxPlaces) × (q ≢ none) }
-    ensures { frames.new ≡ endFrame frames.old free p }
+    requires { EndsIn frames.old p q × (length frames.old ≤ max_places) × (q ≢ none) }
+    ensures { frames.new ≡ end_frame frames.old free p }
 {
     let g = frame_at(frames, q);
     if g.outstanding != 1 {
@@ -96,8 +96,8 @@ pub fn end_below(frames: &mut [Frame], free: u32, p: u32, q: u32)
 
 // The same, where the frame may be Main, and q none.
 pub fn end_frame(frames: &mut [Frame], free: u32, p: u32, q: u32)
-    requires { EndsIn frames.old p q × (length frames.old ≤ maxPlaces) }
-    ensures { frames.new ≡ endFrame frames.old free p }
+    requires { EndsIn frames.old p q × (length frames.old ≤ max_places) }
+    ensures { frames.new ≡ end_frame frames.old free p }
 {
     if q == NONE {
         put_frame(frames, p, free_place(free));
@@ -114,7 +114,7 @@ pub fn end_frame(frames: &mut [Frame], free: u32, p: u32, q: u32)
 // The value v is folded into reducer r of the view of the frame at place p; a number that names no reducer folds nothing.
 pub fn fold_at(frames: &mut [Frame], p: u32, r: u32, v: u32)
     requires { p < length frames.old }
-    ensures { frames.new ≡ setFrame frames.old p (withView (frameAt frames.old p) (foldView (frameAt frames.old p).view r v)) }
+    ensures { frames.new ≡ set_frame frames.old p (with_view (frame_at frames.old p) (fold_view (frame_at frames.old p).view r v)) }
 {
     let f = frame_at(frames, p);
     put_frame(frames, p, folded(f, r, v));
@@ -147,7 +147,7 @@ pub fn suspended() -> Synced
 
 // The frame at place q resumes on worker w, whose deque is empty, or the worker is idle.
 pub fn go_on(deques: &mut [u32], frames: &mut [Frame], w: u32, q: u32) -> Returned
-    requires { (length deques.old ≡ dequeWords) × (w < maxWorkers) × (q < length frames.old) × (size deques.old w ≡ 0) }
+    requires { (length deques.old ≡ deque_words) × (w < max_workers) × (q < length frames.old) × (size deques.old w ≡ 0) }
     ensures { GoesOn deques.old frames.old w q deques.new frames.new result }
 {
     let g = frame_at(frames, q);
@@ -164,7 +164,7 @@ pub fn go_on(deques: &mut [u32], frames: &mut [Frame], w: u32, q: u32) -> Return
 
 // Worker w's bottom frame, the n-th, which is at place p, waits in its return.
 pub fn wait_frame(deques: &mut [u32], frames: &mut [Frame], w: u32, n: u32, p: u32)
-    requires { Acts deques.old frames.old w n p (frameAt frames.old p) }
+    requires { Acts deques.old frames.old w n p (frame_at frames.old p) }
     ensures { Waits deques.old frames.old w deques.new frames.new }
 {
     let f = frame_at(frames, p);
@@ -174,7 +174,7 @@ pub fn wait_frame(deques: &mut [u32], frames: &mut [Frame], w: u32, n: u32, p: u
 
 // Worker w takes the top frame of worker v.
 pub fn steal_frame(deques: &mut [u32], w: u32, v: u32)
-    requires { (length deques.old ≡ dequeWords) × (w < maxWorkers) × (v < maxWorkers) × (size deques.old w ≡ 0) × (2 ≤ size deques.old v) × (size deques.old v ≤ dequePlaces) }
+    requires { (length deques.old ≡ deque_words) × (w < max_workers) × (v < max_workers) × (size deques.old w ≡ 0) × (2 ≤ size deques.old v) × (size deques.old v ≤ deque_places) }
     ensures { (fs : List Frame) (free : ℕ) → table deques.new fs free ≡ steal (table deques.old fs free) w v }
 {
     let p = top_at(deques, v);

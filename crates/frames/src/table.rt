@@ -2,7 +2,7 @@
 // whole has no alignment in the compiled module: where loads must be aligned each byte of it is loaded alone, and kept alone on the stack.) What holds
 // the table is walked by hand (proofs, tools/walk); what works on single records is in records.rt.
 ghost use Rattle.std.specs.Prelude.{◌≡◌, ◌<◌, length};
-ghost use Rattle.frames.specs.Frames.{frameAt, setFrame, withoutChild};
+ghost use Rattle.frames.specs.Frames.{frame_at, set_frame, without_child};
 
 use super::Frame;
 use super::records::{free_place, is_place};
@@ -11,7 +11,7 @@ use reducers::{Affine, Min, Sum, View};
 // The record at place p.
 pub fn frame_at(frames: &[Frame], p: u32) -> Frame
     requires { p < length frames.now }
-    ensures { result ≡ frameAt frames.now p }
+    ensures { result ≡ frame_at frames.now p }
 {
     let i = p as usize;
     let live = frames[i].live;
@@ -46,7 +46,7 @@ pub fn frame_at(frames: &[Frame], p: u32) -> Frame
 // Stores the record at place p.
 pub fn put_frame(frames: &mut [Frame], p: u32, f: Frame)
     requires { p < length frames.old }
-    ensures { frames.new ≡ setFrame frames.old p f }
+    ensures { frames.new ≡ set_frame frames.old p f }
 {
     let i = p as usize;
     frames[i].live = f.live;
@@ -66,7 +66,7 @@ pub fn put_frame(frames: &mut [Frame], p: u32, f: Frame)
 // The frame at place p has a live child less. Only that word is stored.
 pub fn lose_child(frames: &mut [Frame], p: u32)
     requires { p < length frames.old }
-    ensures { frames.new ≡ setFrame frames.old p (withoutChild (frameAt frames.old p)) }
+    ensures { frames.new ≡ set_frame frames.old p (without_child (frame_at frames.old p)) }
 {
     let n = words::sub(frames[p as usize].outstanding, 1);
     frames[p as usize].outstanding = n;
@@ -74,7 +74,7 @@ pub fn lose_child(frames: &mut [Frame], p: u32)
 
 // The record at place p, and zeros where p is no place.
 pub fn frame_or_zero(frames: &[Frame], p: u32) -> Frame
-    ensures { result ≡ frameAt frames.now p }
+    ensures { result ≡ frame_at frames.now p }
 {
     if is_place(p, frames.len()) {
         return frame_at(frames, p);

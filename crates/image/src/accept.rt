@@ -1,7 +1,7 @@
 // What an image is refused for, on its bytes alone.
 ghost use Rattle.std.specs.Prelude.{◌≡◌, ◌+◌, ◌*◌, ◌≤◌, length, take, drop, eqb};
-ghost use Rattle.image.specs.Widths.{blockBytes, dataBytes};
-ghost use Rattle.image.specs.Image.{check, wordAt, wordsCalled, blocksCalled, checksHold, allZero, wrongCheck, imageCheck};
+ghost use Rattle.image.specs.Widths.{block_bytes, data_bytes};
+ghost use Rattle.image.specs.Image.{check, word_at, words_called, blocks_called, checks_hold, all_zero, wrong_check, image_check};
 ghost use Rattle.soundness.specs.Layout.{two_words};
 
 use crate::bytes::word_at;
@@ -12,8 +12,8 @@ use crate::{BLOCK_BYTES, DATA_BYTES, DATA_WORDS, ImageCheck, VERSION, VERSION_ST
 
 // Is the check of the block at `at` right?
 fn block_right(image: &[u8], at: usize) -> bool
-    requires { at + blockBytes ≤ length image.now }
-    ensures { result ≡ eqb (wordAt image.now (at + dataBytes)) (check (take dataBytes (drop at image.now))) }
+    requires { at + block_bytes ≤ length image.now }
+    ensures { result ≡ eqb (word_at image.now (at + data_bytes)) (check (take data_bytes (drop at image.now))) }
 {
     let said = word_at(image, at + DATA_BYTES);
     said == block_check(image, at)
@@ -21,8 +21,8 @@ fn block_right(image: &[u8], at: usize) -> bool
 
 // Are the checks of the first n blocks right?
 fn checks_right(image: &[u8], n: usize) -> bool
-    requires { blockBytes * n ≤ length image.now }
-    ensures { result ≡ checksHold n image.now }
+    requires { block_bytes * n ≤ length image.now }
+    ensures { result ≡ checks_hold n image.now }
 {
     let mut k: usize = 0;
     while k < n {
@@ -37,7 +37,7 @@ fn checks_right(image: &[u8], n: usize) -> bool
 // Are the n words from `at` on zero?
 fn zeros(image: &[u8], at: usize, n: usize) -> bool
     requires { at + 4 * n ≤ length image.now }
-    ensures { result ≡ allZero (take (4 * n) (drop at image.now)) }
+    ensures { result ≡ all_zero (take (4 * n) (drop at image.now)) }
 {
     let mut k: usize = 0;
     while k < n {
@@ -51,8 +51,8 @@ fn zeros(image: &[u8], at: usize, n: usize) -> bool
 
 // Is a check wrong, or the rest of the last block not zero? The rest stands just before the last check.
 fn wrong_check(image: &[u8], words: usize, blocks: usize) -> bool
-    requires { (words ≡ wordsCalled two_words image.now) × (blocks ≡ blocksCalled two_words image.now) × (length image.now ≡ blockBytes * blocks) }
-    ensures { result ≡ wrongCheck two_words image.now }
+    requires { (words ≡ words_called two_words image.now) × (blocks ≡ blocks_called two_words image.now) × (length image.now ≡ block_bytes * blocks) }
+    ensures { result ≡ wrong_check two_words image.now }
 {
     if !checks_right(image, blocks) {
         return true;
@@ -63,7 +63,7 @@ fn wrong_check(image: &[u8], words: usize, blocks: usize) -> bool
 
 // 17, 18, or neither.
 pub fn check_image(image: &[u8]) -> ImageCheck
-    ensures { result ≡ imageCheck two_words image.now }
+    ensures { result ≡ image_check two_words image.now }
 {
     if image.len() < BLOCK_BYTES {
         return ImageCheck::WrongLength;

@@ -2,8 +2,8 @@
 ghost use Rattle.std.specs.Prelude.{◌≡◌, ◌+◌, ◌*◌, ◌%◌, ◌≤◌, length, take, drop, replicate};
 ghost use Rattle.std.proofs.lemmas.List.Edits.{sets};
 ghost use Rattle.words.specs.Basics.{plus};
-ghost use Rattle.image.specs.Image.{word_bytes, bytes_of, wordAt, check};
-ghost use Rattle.image.specs.Inner.{wordsAt};
+ghost use Rattle.image.specs.Image.{word_bytes, bytes_of, word_at, check};
+ghost use Rattle.image.specs.Inner.{words_at};
 
 use model::record::number32;
 
@@ -17,7 +17,7 @@ fn low_byte(x: u32) -> u8
 // The word of the four bytes from `at` on.
 pub fn word_at(bytes: &[u8], at: usize) -> u32
     requires { at + 4 ≤ length bytes.now }
-    ensures { result ≡ wordAt bytes.now at }
+    ensures { result ≡ word_at bytes.now at }
 {
     number32(bytes[at], bytes[at + 1], bytes[at + 2], bytes[at + 3])
 }
@@ -66,7 +66,7 @@ pub fn put_zeros(bytes: &mut [u8], at: usize, n: usize)
 // store of them, also where it cannot tell that the slices are apart.
 pub fn read_four(bytes: &[u8], at: usize, to: &mut [u32], j: usize)
     requires { (at + 16 ≤ length bytes.now) × (j + 4 ≤ length to.old) }
-    ensures { to.new ≡ sets to.old j (wordsAt 4 bytes.now at) }
+    ensures { to.new ≡ sets to.old j (words_at 4 bytes.now at) }
 {
     let first = word_at(bytes, at);
     let second = word_at(bytes, at + 4);
@@ -81,7 +81,7 @@ pub fn read_four(bytes: &[u8], at: usize, to: &mut [u32], j: usize)
 // Reads n times four words.
 pub fn read_fours(bytes: &[u8], at: usize, to: &mut [u32], j: usize, n: usize)
     requires { (at + 16 * n ≤ length bytes.now) × (j + 4 * n ≤ length to.old) }
-    ensures { to.new ≡ sets to.old j (wordsAt (4 * n) bytes.now at) }
+    ensures { to.new ≡ sets to.old j (words_at (4 * n) bytes.now at) }
 {
     let mut k: usize = 0;
     while k < n {
@@ -93,7 +93,7 @@ pub fn read_fours(bytes: &[u8], at: usize, to: &mut [u32], j: usize, n: usize)
 // Reads n words, one by one.
 fn read_few(bytes: &[u8], at: usize, to: &mut [u32], j: usize, n: usize)
     requires { (at + 4 * n ≤ length bytes.now) × (j + n ≤ length to.old) }
-    ensures { to.new ≡ sets to.old j (wordsAt n bytes.now at) }
+    ensures { to.new ≡ sets to.old j (words_at n bytes.now at) }
 {
     let mut k: usize = 0;
     while k < n {
@@ -105,7 +105,7 @@ fn read_few(bytes: &[u8], at: usize, to: &mut [u32], j: usize, n: usize)
 // Reads n words, one after the other from `at` on, into `to` from j on.
 pub fn read_run(bytes: &[u8], at: usize, to: &mut [u32], j: usize, n: usize)
     requires { (at + 4 * n ≤ length bytes.now) × (j + n ≤ length to.old) }
-    ensures { to.new ≡ sets to.old j (wordsAt n bytes.now at) }
+    ensures { to.new ≡ sets to.old j (words_at n bytes.now at) }
 {
     let fours = n / 4;
     read_fours(bytes, at, to, j, fours);

@@ -1,11 +1,11 @@
 // The deques in an image: for each worker its length and as many places as the table has.
 ghost use Rattle.std.specs.Prelude.{◌≡◌, ◌+◌, ◌*◌, ◌≤◌, length};
-ghost use Rattle.frames.specs.Widths.{dequePlaces, dequeWords};
-ghost use Rattle.soundness.specs.Numbers.{numberCount};
+ghost use Rattle.frames.specs.Widths.{deque_places, deque_words};
+ghost use Rattle.soundness.specs.Numbers.{number_count};
 ghost use Rattle.image.specs.declared.ImageCheck.TheVariants.{Good};
-ghost use Rattle.image.specs.Widths.{blockBytes, dequesWords};
-ghost use Rattle.image.specs.Image.{blocksFor, dequesFor, placesIn, imageCheck, dequesIn};
-ghost use Rattle.image.specs.Inner.{putWords, sumBefore};
+ghost use Rattle.image.specs.Widths.{block_bytes, deques_words};
+ghost use Rattle.image.specs.Image.{blocks_for, deques_for, places_in, image_check, deques_in};
+ghost use Rattle.image.specs.Inner.{put_words, sum_before};
 ghost use Rattle.soundness.specs.Layout.{two_words};
 
 use crate::NUMBER_COUNT;
@@ -15,10 +15,10 @@ use frames::{DEQUE_STRIDE, MAX_WORKERS};
 
 // Stores the deques as the data's words after the numbers, k places of each. Gives the sum for the words that follow.
 pub fn write_deques(target: &mut [u8], deques: &[u32], k: u32, before: u32) -> u32
-    requires { (length deques.now ≡ dequeWords) × (k ≤ dequePlaces) × (blockBytes * blocksFor (numberCount + dequesWords k) ≤ length target.old)
-        × (before ≡ sumBefore target.old numberCount) }
-    ensures { (target.new ≡ putWords target.old numberCount (dequesFor k deques.now))
-        × (result ≡ sumBefore target.new (numberCount + dequesWords k)) }
+    requires { (length deques.now ≡ deque_words) × (k ≤ deque_places) × (block_bytes * blocks_for (number_count + deques_words k) ≤ length target.old)
+        × (before ≡ sum_before target.old number_count) }
+    ensures { (target.new ≡ put_words target.old number_count (deques_for k deques.now))
+        × (result ≡ sum_before target.new (number_count + deques_words k)) }
 {
     let words = 1 + (k as usize);
     let mut sum = before;
@@ -35,8 +35,8 @@ pub fn write_deques(target: &mut [u8], deques: &[u32], k: u32, before: u32) -> u
 
 // Reads the deques, k places of each; the lent places past them become zero.
 pub fn read_deques(image: &[u8], deques: &mut [u32], k: u32)
-    requires { (imageCheck two_words image.now ≡ Good) × (length deques.old ≡ dequeWords) × (k ≡ placesIn image.now) × (k ≤ dequePlaces) }
-    ensures { deques.new ≡ dequesIn two_words image.now }
+    requires { (image_check two_words image.now ≡ Good) × (length deques.old ≡ deque_words) × (k ≡ places_in image.now) × (k ≤ deque_places) }
+    ensures { deques.new ≡ deques_in two_words image.now }
 {
     words::clear_all(deques);
     let words = 1 + (k as usize);

@@ -1,12 +1,12 @@
 // Reading the words of an image.
 ghost use Rattle.std.specs.Prelude.{◌≡◌, ◌+◌, ◌*◌, ◌^◌, ◌<◌, ◌≤◌, length};
 ghost use Rattle.std.proofs.lemmas.List.Edits.{sets};
-ghost use Rattle.frames.specs.Widths.{maxPlaces, dequeWords};
-ghost use Rattle.soundness.specs.Numbers.{numberCount};
+ghost use Rattle.frames.specs.Widths.{max_places, deque_words};
+ghost use Rattle.soundness.specs.Numbers.{number_count};
 ghost use Rattle.image.specs.declared.ImageCheck.TheVariants.{Good};
-ghost use Rattle.image.specs.Widths.{nodeWords, blockBytes, dataWords};
-ghost use Rattle.image.specs.Image.{blocksFor, firstIn, nodesIn, placesIn, wordsCalled, imageCheck, numberWordsIn, dequesIn, framesIn, poolIn, Lengths, stored, IsRead};
-ghost use Rattle.image.specs.Inner.{wordsAt, readWords};
+ghost use Rattle.image.specs.Widths.{node_words, block_bytes, data_words};
+ghost use Rattle.image.specs.Image.{blocks_for, first_in, nodes_in, places_in, words_called, image_check, number_words_in, deques_in, frames_in, pool_in, Lengths, stored, IsRead};
+ghost use Rattle.image.specs.Inner.{words_at, read_words};
 ghost use Rattle.soundness.specs.Layout.{two_words};
 
 use crate::bytes::{read_four, read_fours, read_run, word_at};
@@ -19,32 +19,32 @@ use packed::NODE_WORDS;
 
 // The first word, which tells the form.
 pub fn first_in(image: &[u8]) -> u32
-    requires { blockBytes ≤ length image.now }
-    ensures { result ≡ firstIn image.now }
+    requires { block_bytes ≤ length image.now }
+    ensures { result ≡ first_in image.now }
 {
     word_at(image, 0)
 }
 
 // The nodes that the first block records, in its third word.
 pub fn nodes_in(image: &[u8]) -> u32
-    requires { blockBytes ≤ length image.now }
-    ensures { result ≡ nodesIn image.now }
+    requires { block_bytes ≤ length image.now }
+    ensures { result ≡ nodes_in image.now }
 {
     word_at(image, 8)
 }
 
 // The places that it records, in its tenth word.
 pub fn places_in(image: &[u8]) -> u32
-    requires { blockBytes ≤ length image.now }
-    ensures { result ≡ placesIn image.now }
+    requires { block_bytes ≤ length image.now }
+    ensures { result ≡ places_in image.now }
 {
     word_at(image, 36)
 }
 
 // The words that its first block calls for.
 pub fn words_called(image: &[u8]) -> usize
-    requires { blockBytes ≤ length image.now }
-    ensures { (result ≡ wordsCalled two_words image.now) × (result < 2 ^ 37) }
+    requires { block_bytes ≤ length image.now }
+    ensures { (result ≡ words_called two_words image.now) × (result < 2 ^ 37) }
 {
     let places = places_in(image);
     let nodes = nodes_in(image);
@@ -53,8 +53,8 @@ pub fn words_called(image: &[u8]) -> usize
 
 // Reads the 127 words of the block b into `to` from j on: 31 times four, and the last four, the first of which is there already.
 fn read_block(image: &[u8], b: usize, to: &mut [u32], j: usize)
-    requires { (blockBytes * (b + 1) ≤ length image.now) × (j + dataWords ≤ length to.old) }
-    ensures { to.new ≡ sets to.old j (wordsAt dataWords image.now (blockBytes * b)) }
+    requires { (block_bytes * (b + 1) ≤ length image.now) × (j + data_words ≤ length to.old) }
+    ensures { to.new ≡ sets to.old j (words_at data_words image.now (block_bytes * b)) }
 {
     let at = BLOCK_BYTES * b;
     read_fours(image, at, to, j, DATA_WORDS / 4);
@@ -63,8 +63,8 @@ fn read_block(image: &[u8], b: usize, to: &mut [u32], j: usize)
 
 // The same for n blocks.
 fn read_blocks(image: &[u8], b: usize, to: &mut [u32], j: usize, n: usize)
-    requires { (blockBytes * (b + n) ≤ length image.now) × (j + dataWords * n ≤ length to.old) }
-    ensures { to.new ≡ sets to.old j (readWords (dataWords * n) image.now (dataWords * b)) }
+    requires { (block_bytes * (b + n) ≤ length image.now) × (j + data_words * n ≤ length to.old) }
+    ensures { to.new ≡ sets to.old j (read_words (data_words * n) image.now (data_words * b)) }
 {
     let mut k: usize = 0;
     while k < n {
@@ -75,8 +75,8 @@ fn read_blocks(image: &[u8], b: usize, to: &mut [u32], j: usize, n: usize)
 
 // Reads n words of the data, from its word i on, into `to` from j on: the rest of a block, whole blocks, a block's beginning.
 pub fn read_words(image: &[u8], i: usize, to: &mut [u32], j: usize, n: usize)
-    requires { (j + n ≤ length to.old) × (blockBytes * blocksFor (i + n) ≤ length image.now) }
-    ensures { to.new ≡ sets to.old j (readWords n image.now i) }
+    requires { (j + n ≤ length to.old) × (block_bytes * blocks_for (i + n) ≤ length image.now) }
+    ensures { to.new ≡ sets to.old j (read_words n image.now i) }
 {
     let first = run_length(i, n);
     read_run(image, place_of(i), to, j, first);
@@ -88,8 +88,8 @@ pub fn read_words(image: &[u8], i: usize, to: &mut [u32], j: usize, n: usize)
 
 // Reads the numbers, the first one without the version.
 fn read_numbers(image: &[u8], numbers: &mut [u32])
-    requires { (imageCheck two_words image.now ≡ Good) × (length numbers.old ≡ numberCount) }
-    ensures { numbers.new ≡ numberWordsIn two_words image.now }
+    requires { (image_check two_words image.now ≡ Good) × (length numbers.old ≡ number_count) }
+    ensures { numbers.new ≡ number_words_in two_words image.now }
 {
     read_words(image, 0, numbers, 0, NUMBER_COUNT);
     numbers[0] = numbers[0] % VERSION_STEP;
@@ -97,10 +97,10 @@ fn read_numbers(image: &[u8], numbers: &mut [u32])
 
 // Reads all but the frame table of an image that is not refused by 17 or 18 and records at most 256 places. Words of the pool past the nodes never change.
 pub fn read_beside(image: &[u8], numbers: &mut [u32], deques: &mut [u32], pool: &mut [u32])
-    requires { (imageCheck two_words image.now ≡ Good) × (length numbers.old ≡ numberCount) × (length deques.old ≡ dequeWords)
-        × (placesIn image.now ≤ maxPlaces) × (nodeWords * nodesIn image.now ≤ length pool.old) }
-    ensures { (numbers.new ≡ numberWordsIn two_words image.now) × (deques.new ≡ dequesIn two_words image.now)
-        × (pool.new ≡ stored (poolIn two_words image.now) pool.old) }
+    requires { (image_check two_words image.now ≡ Good) × (length numbers.old ≡ number_count) × (length deques.old ≡ deque_words)
+        × (places_in image.now ≤ max_places) × (node_words * nodes_in image.now ≤ length pool.old) }
+    ensures { (numbers.new ≡ number_words_in two_words image.now) × (deques.new ≡ deques_in two_words image.now)
+        × (pool.new ≡ stored (pool_in two_words image.now) pool.old) }
 {
     let places = places_in(image);
     let nodes = nodes_in(image);
@@ -117,8 +117,8 @@ pub fn read_beside(image: &[u8], numbers: &mut [u32], deques: &mut [u32], pool: 
 
 // Reads the records into a table of as many places.
 pub fn read_table(image: &[u8], frames: &mut [Frame])
-    requires { (imageCheck two_words image.now ≡ Good) × (length frames.old ≡ placesIn image.now) }
-    ensures { frames.new ≡ framesIn two_words image.now }
+    requires { (image_check two_words image.now ≡ Good) × (length frames.old ≡ places_in image.now) }
+    ensures { frames.new ≡ frames_in two_words image.now }
 {
     let places = places_in(image);
     let from = NUMBER_COUNT + deques_words(places);
@@ -139,8 +139,8 @@ pub fn read_parts(
     frames: &mut [Frame],
     pool: &mut [u32],
 )
-    requires { (imageCheck two_words image.now ≡ Good) × (length numbers.old ≡ numberCount) × Lengths (numberWordsIn two_words image.now) deques.old frames.old
-        × (nodeWords * nodesIn image.now ≤ length pool.old) }
+    requires { (image_check two_words image.now ≡ Good) × (length numbers.old ≡ number_count) × Lengths (number_words_in two_words image.now) deques.old frames.old
+        × (node_words * nodes_in image.now ≤ length pool.old) }
     ensures { IsRead two_words image.now numbers.new deques.new frames.new pool.old pool.new }
 {
     read_beside(image, numbers, deques, pool);

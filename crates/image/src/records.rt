@@ -1,10 +1,10 @@
 // A frame record as words of an image, and back.
 ghost use Rattle.std.specs.Prelude.{◌≡◌, ◌+◌, ◌*◌, ◌≤◌, length};
-ghost use Rattle.frames.specs.Widths.{recordWords};
-ghost use Rattle.frames.specs.Frames.{words_of, recordIn};
-ghost use Rattle.image.specs.Widths.{blockBytes};
-ghost use Rattle.image.specs.Image.{blocksFor};
-ghost use Rattle.image.specs.Inner.{putWords, sumBefore, readWords};
+ghost use Rattle.frames.specs.Widths.{record_words};
+ghost use Rattle.frames.specs.Frames.{words_of, record_in};
+ghost use Rattle.image.specs.Widths.{block_bytes};
+ghost use Rattle.image.specs.Image.{blocks_for};
+ghost use Rattle.image.specs.Inner.{put_words, sum_before, read_words};
 
 use crate::read::read_words;
 use crate::write::write_words;
@@ -13,8 +13,8 @@ use reducers::{Affine, Min, Sum, View};
 
 // Stores the words of a record as the data's words from i on, whose block's words before them sum up to `before`. Gives the sum for the words that follow.
 pub fn write_record(target: &mut [u8], i: usize, f: Frame, before: u32) -> u32
-    requires { (blockBytes * blocksFor (i + recordWords) ≤ length target.old) × (before ≡ sumBefore target.old i) }
-    ensures { (target.new ≡ putWords target.old i (words_of f)) × (result ≡ sumBefore target.new (i + recordWords)) }
+    requires { (block_bytes * blocks_for (i + record_words) ≤ length target.old) × (before ≡ sum_before target.old i) }
+    ensures { (target.new ≡ put_words target.old i (words_of f)) × (result ≡ sum_before target.new (i + record_words)) }
 {
     let words = [
         f.live,
@@ -35,8 +35,8 @@ pub fn write_record(target: &mut [u8], i: usize, f: Frame, before: u32) -> u32
 
 // The record of the data's words from i on.
 pub fn read_record(image: &[u8], i: usize) -> Frame
-    requires { blockBytes * blocksFor (i + recordWords) ≤ length image.now }
-    ensures { result ≡ recordIn (readWords recordWords image.now i) }
+    requires { block_bytes * blocks_for (i + record_words) ≤ length image.now }
+    ensures { result ≡ record_in (read_words record_words image.now i) }
 {
     let mut words = [0u32; RECORD_WORDS];
     read_words(image, i, &mut words, 0, RECORD_WORDS);

@@ -1,6 +1,6 @@
 // The check of a block.
 ghost use Rattle.std.specs.Prelude.{◌≡◌, ◌+◌, ◌≤◌, length, take, drop};
-ghost use Rattle.image.specs.Widths.{dataBytes};
+ghost use Rattle.image.specs.Widths.{data_bytes};
 ghost use Rattle.image.specs.Image.{check};
 
 use crate::DATA_WORDS;
@@ -8,8 +8,8 @@ use crate::bytes::word_at;
 
 // The check of the block at `at`: "sum it a word at a time, 127 words to a block".
 pub fn block_check(image: &[u8], at: usize) -> u32
-    requires { at + dataBytes ≤ length image.now }
-    ensures { result ≡ check (take dataBytes (drop at image.now)) }
+    requires { at + data_bytes ≤ length image.now }
+    ensures { result ≡ check (take data_bytes (drop at image.now)) }
 {
     let mut sum: u32 = 0;
     let mut j: usize = 0;

@@ -1,10 +1,10 @@
 // Saving, in one pass: the words are stored as bytes and summed as they are, and each block gets its check after its last word.
 ghost use Rattle.std.specs.Prelude.{◌≡◌, ◌++◌, ◌+◌, ◌-◌, ◌*◌, ◌%◌, ◌^◌, ◌<◌, ◌≤◌, length, take, drop, replicate};
-ghost use Rattle.frames.specs.Widths.{maxPlaces, recordWords, dequeWords};
-ghost use Rattle.soundness.specs.Numbers.{numberCount};
-ghost use Rattle.image.specs.Widths.{nodeWords, blockBytes, dataWords, dequesWords, stateWords};
-ghost use Rattle.image.specs.Image.{nodeCount, placeCount, versioned, dequesFor, tableWords, blocksFor, image_of, imageBytes, Lengths, stored};
-ghost use Rattle.image.specs.Inner.{putWords, sumBefore, lastWords};
+ghost use Rattle.frames.specs.Widths.{max_places, record_words, deque_words};
+ghost use Rattle.soundness.specs.Numbers.{number_count};
+ghost use Rattle.image.specs.Widths.{node_words, block_bytes, data_words, deques_words, state_words};
+ghost use Rattle.image.specs.Image.{node_count, place_count, versioned, deques_for, table_words, blocks_for, image_of, image_bytes, Lengths, stored};
+ghost use Rattle.image.specs.Inner.{put_words, sum_before, last_words};
 ghost use Rattle.soundness.specs.Layout.{two_words};
 
 use crate::bytes::{put_run, put_word, put_zeros};
@@ -18,9 +18,9 @@ use packed::NODE_WORDS;
 // Stores n words of `from`, from j on, as the data's words from i on, all in one block, whose words before them sum up to `before`. After
 // the last word of a block stores its check. Gives the sum for the words that follow.
 fn write_run(target: &mut [u8], i: usize, from: &[u32], j: usize, n: usize, before: u32) -> u32
-    requires { (i % dataWords + n ≤ dataWords) × (j + n ≤ length from.now) × (blockBytes * blocksFor (i + n) ≤ length target.old)
-        × (before ≡ sumBefore target.old i) }
-    ensures { (target.new ≡ putWords target.old i (take n (drop j from.now))) × (result ≡ sumBefore target.new (i + n)) }
+    requires { (i % data_words + n ≤ data_words) × (j + n ≤ length from.now) × (block_bytes * blocks_for (i + n) ≤ length target.old)
+        × (before ≡ sum_before target.old i) }
+    ensures { (target.new ≡ put_words target.old i (take n (drop j from.now))) × (result ≡ sum_before target.new (i + n)) }
 {
     let at = place_of(i);
     let sum = put_run(target, at, from, j, n, before);
@@ -33,8 +33,8 @@ fn write_run(target: &mut [u8], i: usize, from: &[u32], j: usize, n: usize, befo
 
 // Stores 127 words of `from`, from j on, as the data of the block b, and its check.
 fn write_block(target: &mut [u8], b: usize, from: &[u32], j: usize)
-    requires { (blockBytes * (b + 1) ≤ length target.old) × (j + dataWords ≤ length from.now) }
-    ensures { target.new ≡ putWords target.old (dataWords * b) (take dataWords (drop j from.now)) }
+    requires { (block_bytes * (b + 1) ≤ length target.old) × (j + data_words ≤ length from.now) }
+    ensures { target.new ≡ put_words target.old (data_words * b) (take data_words (drop j from.now)) }
 {
     let at = BLOCK_BYTES * b;
     let sum = put_run(target, at, from, j, DATA_WORDS, 0);
@@ -43,8 +43,8 @@ fn write_block(target: &mut [u8], b: usize, from: &[u32], j: usize)
 
 // The same for n blocks.
 fn write_blocks(target: &mut [u8], b: usize, from: &[u32], j: usize, n: usize)
-    requires { (blockBytes * (b + n) ≤ length target.old) × (j + dataWords * n ≤ length from.now) }
-    ensures { target.new ≡ putWords target.old (dataWords * b) (take (dataWords * n) (drop j from.now)) }
+    requires { (block_bytes * (b + n) ≤ length target.old) × (j + data_words * n ≤ length from.now) }
+    ensures { target.new ≡ put_words target.old (data_words * b) (take (data_words * n) (drop j from.now)) }
 {
     let mut k: usize = 0;
     while k < n {
@@ -56,8 +56,8 @@ fn write_blocks(target: &mut [u8], b: usize, from: &[u32], j: usize, n: usize)
 // Stores the first n words of `from` as the data's words from i on: the rest of a block, whole blocks, a block's beginning. The sum of an
 // open block is handed on.
 pub fn write_words(target: &mut [u8], i: usize, from: &[u32], n: usize, before: u32) -> u32
-    requires { (n ≤ length from.now) × (blockBytes * blocksFor (i + n) ≤ length target.old) × (before ≡ sumBefore target.old i) }
-    ensures { (target.new ≡ putWords target.old i (take n from.now)) × (result ≡ sumBefore target.new (i + n)) }
+    requires { (n ≤ length from.now) × (block_bytes * blocks_for (i + n) ≤ length target.old) × (before ≡ sum_before target.old i) }
+    ensures { (target.new ≡ put_words target.old i (take n from.now)) × (result ≡ sum_before target.new (i + n)) }
 {
     let first = run_length(i, n);
     let sum = write_run(target, i, from, 0, first, before);
@@ -69,8 +69,8 @@ pub fn write_words(target: &mut [u8], i: usize, from: &[u32], n: usize, before: 
 
 // Stores the numbers, the first one with the version.
 fn write_numbers(target: &mut [u8], numbers: &[u32]) -> u32
-    requires { (length numbers.now ≡ numberCount) × (blockBytes ≤ length target.old) }
-    ensures { (target.new ≡ putWords target.old 0 (versioned two_words numbers.now)) × (result ≡ sumBefore target.new numberCount) }
+    requires { (length numbers.now ≡ number_count) × (block_bytes ≤ length target.old) }
+    ensures { (target.new ≡ put_words target.old 0 (versioned two_words numbers.now)) × (result ≡ sum_before target.new number_count) }
 {
     let first = words::add(numbers[0], VERSION);
     put_word(target, 0, first);
@@ -79,8 +79,8 @@ fn write_numbers(target: &mut [u8], numbers: &[u32]) -> u32
 
 // Stores zeros from the data's word `end` on up to the end of the last block, and its check. Zeros add nothing to the sum.
 fn write_rest(target: &mut [u8], end: usize, blocks: usize, sum: u32)
-    requires { (end < 2 ^ 37) × (blocks ≡ blocksFor end) × (blockBytes * blocks ≤ length target.old) × (sum ≡ sumBefore target.old end) }
-    ensures { target.new ≡ putWords target.old end (replicate (dataWords * blocks - end) 0) }
+    requires { (end < 2 ^ 37) × (blocks ≡ blocks_for end) × (block_bytes * blocks ≤ length target.old) × (sum ≡ sum_before target.old end) }
+    ensures { target.new ≡ put_words target.old end (replicate (data_words * blocks - end) 0) }
 {
     let rest = DATA_WORDS * blocks - end;
     if rest == 0 {
@@ -93,10 +93,10 @@ fn write_rest(target: &mut [u8], end: usize, blocks: usize, sum: u32)
 // Stores what stands before the frame table: the numbers, and the deques with as many places as the numbers record. Gives the sum for the words that
 // follow.
 pub fn write_before(target: &mut [u8], numbers: &[u32], deques: &[u32]) -> u32
-    requires { (length numbers.now ≡ numberCount) × (length deques.now ≡ dequeWords) × (placeCount numbers.now ≤ maxPlaces)
-        × (blockBytes * blocksFor (numberCount + dequesWords (placeCount numbers.now)) ≤ length target.old) }
-    ensures { (target.new ≡ putWords target.old 0 (versioned two_words numbers.now ++ dequesFor (placeCount numbers.now) deques.now))
-        × (result ≡ sumBefore target.new (numberCount + dequesWords (placeCount numbers.now))) }
+    requires { (length numbers.now ≡ number_count) × (length deques.now ≡ deque_words) × (place_count numbers.now ≤ max_places)
+        × (block_bytes * blocks_for (number_count + deques_words (place_count numbers.now)) ≤ length target.old) }
+    ensures { (target.new ≡ put_words target.old 0 (versioned two_words numbers.now ++ deques_for (place_count numbers.now) deques.now))
+        × (result ≡ sum_before target.new (number_count + deques_words (place_count numbers.now))) }
 {
     let places = numbers[NUMBER_COUNT - 1];
     let after_numbers = write_numbers(target, numbers);
@@ -105,11 +105,11 @@ pub fn write_before(target: &mut [u8], numbers: &[u32], deques: &[u32]) -> u32
 
 // Stores what stands after the frame table: the nodes, then zeros up to the end of the last block, and its check.
 pub fn write_after(target: &mut [u8], numbers: &[u32], pool: &[u32], sum: u32)
-    requires { (length numbers.now ≡ numberCount) × (nodeWords * nodeCount numbers.now ≤ length pool.now)
-        × (imageBytes two_words (placeCount numbers.now) (nodeCount numbers.now) ≤ length target.old)
-        × (sum ≡ sumBefore target.old (stateWords (placeCount numbers.now))) }
-    ensures { target.new ≡ putWords target.old (stateWords (placeCount numbers.now))
-        (lastWords two_words (placeCount numbers.now) (nodeCount numbers.now) pool.now) }
+    requires { (length numbers.now ≡ number_count) × (node_words * node_count numbers.now ≤ length pool.now)
+        × (image_bytes two_words (place_count numbers.now) (node_count numbers.now) ≤ length target.old)
+        × (sum ≡ sum_before target.old (state_words (place_count numbers.now))) }
+    ensures { target.new ≡ put_words target.old (state_words (place_count numbers.now))
+        (last_words two_words (place_count numbers.now) (node_count numbers.now) pool.now) }
 {
     let places = numbers[NUMBER_COUNT - 1];
     let nodes = numbers[2];
@@ -122,10 +122,10 @@ pub fn write_after(target: &mut [u8], numbers: &[u32], pool: &[u32], sum: u32)
 
 // Stores the records of the table as the data's words from i on. Gives the sum for the words that follow.
 pub fn write_table(target: &mut [u8], i: usize, frames: &[Frame], before: u32) -> u32
-    requires { (length frames.now ≤ maxPlaces) × (blockBytes * blocksFor (i + recordWords * length frames.now) ≤ length target.old)
-        × (before ≡ sumBefore target.old i) }
-    ensures { (target.new ≡ putWords target.old i (tableWords frames.now))
-        × (result ≡ sumBefore target.new (i + recordWords * length frames.now)) }
+    requires { (length frames.now ≤ max_places) × (block_bytes * blocks_for (i + record_words * length frames.now) ≤ length target.old)
+        × (before ≡ sum_before target.old i) }
+    ensures { (target.new ≡ put_words target.old i (table_words frames.now))
+        × (result ≡ sum_before target.new (i + record_words * length frames.now)) }
 {
     let mut sum = before;
     let mut p: u32 = 0;
@@ -145,8 +145,8 @@ pub fn write_image(
     pool: &[u32],
     target: &mut [u8],
 )
-    requires { Lengths numbers.now deques.now frames.now × (nodeWords * nodeCount numbers.now ≤ length pool.now)
-        × (imageBytes two_words (placeCount numbers.now) (nodeCount numbers.now) ≤ length target.old) }
+    requires { Lengths numbers.now deques.now frames.now × (node_words * node_count numbers.now ≤ length pool.now)
+        × (image_bytes two_words (place_count numbers.now) (node_count numbers.now) ≤ length target.old) }
     ensures { target.new ≡ stored (image_of two_words numbers.now deques.now frames.now pool.now) target.old }
 {
     let places = frames.len() as u32;

@@ -7,16 +7,16 @@ abbrev pub Buffer : Type 0
 Buffer = List ℕ × ℕ
 
 -- one byte; past the end nothing is stored, and the place stays
-unfoldable pub storeByte : Buffer → ℕ → Buffer
-storeByte o b = (set o.0 o.1 b, cond (ltb o.1 (length o.0)) (suc o.1) o.1)
+unfoldable pub store_byte : Buffer → ℕ → Buffer
+store_byte o b = (set o.0 o.1 b, cond (ltb o.1 (length o.0)) (suc o.1) o.1)
 
-unfoldable pub storeAll : Buffer → List ℕ → Buffer
-storeAll o [] = o
-storeAll o (b ∷ bs) = storeAll (storeByte o b) bs
+unfoldable pub store_all : Buffer → List ℕ → Buffer
+store_all o [] = o
+store_all o (b ∷ bs) = store_all (store_byte o b) bs
 
 -- storing bs from the place `at` on turns the buffer `old` into `new`, with the next place r
 abbrev pub Stores : List ℕ → ℕ → List ℕ → List ℕ → ℕ → Type 0
-Stores old at bs new r = ◌≡◌ {A = Buffer} (new, r) (storeAll (old, at) bs)
+Stores old at bs new r = ◌≡◌ {A = Buffer} (new, r) (store_all (old, at) bs)
 
 -- the same, of at most so many bytes
 abbrev pub StoresUpTo : ℕ → List ℕ → ℕ → List ℕ → List ℕ → ℕ → Type 0

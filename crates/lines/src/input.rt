@@ -1,24 +1,24 @@
 // Splitrun's input: "workers and n (16 bits each), nodes (32 bits), n initial values, then records". Bytes past the end are 0.
 ghost use Rattle.std.specs.Prelude.{◌≡◌, length};
-ghost use Rattle.lines.specs.Lines.{workersIn, splittersIn, nodesIn, numbersAt, unfit};
+ghost use Rattle.lines.specs.Lines.{workers_in, splitters_in, nodes_in, numbers_at, unfit};
 
 use model::record::{number16, number32};
 use words::byte;
 
 pub fn workers_in(input: &[u8]) -> u32
-    ensures { result ≡ workersIn input.now }
+    ensures { result ≡ workers_in input.now }
 {
     number16(byte(input, 0), byte(input, 1))
 }
 
 pub fn splitters_in(input: &[u8]) -> u32
-    ensures { result ≡ splittersIn input.now }
+    ensures { result ≡ splitters_in input.now }
 {
     number16(byte(input, 2), byte(input, 3))
 }
 
 pub fn nodes_in(input: &[u8]) -> u32
-    ensures { result ≡ nodesIn input.now }
+    ensures { result ≡ nodes_in input.now }
 {
     number32(
         byte(input, 4),
@@ -50,7 +50,7 @@ pub fn is_unfit(size: usize, n: u32, nodes: u32) -> bool
 
 // As many initial values as there is room for.
 pub fn read_values(input: &[u8], values: &mut [u32])
-    ensures { values.new ≡ numbersAt (length values.old) input.now 8 }
+    ensures { values.new ≡ numbers_at (length values.old) input.now 8 }
 {
     let mut i: usize = 0;
     let mut at: usize = 8;

@@ -1,13 +1,13 @@
 // The start, the tape, and the lines that they print.
 ghost use Rattle.std.specs.Prelude.{◌≡◌, cond, [], ◌+◌, ◌-◌, ◌*◌, ◌≤◌, length};
-ghost use Rattle.soundness.specs.Numbers.{numbersIn, totalsIn};
-ghost use Rattle.soundness.specs.Soundness.{freeCount};
-ghost use Rattle.soundness.specs.PackedTrees.{freeNodes};
+ghost use Rattle.soundness.specs.Numbers.{numbers_in, totals_in};
+ghost use Rattle.soundness.specs.Soundness.{count_of_free};
+ghost use Rattle.soundness.specs.PackedTrees.{free_nodes};
 ghost use Rattle.semantics.specs.Entries.{zeros};
-ghost use Rattle.memory.specs.Memory.{noMemory};
+ghost use Rattle.memory.specs.Memory.{no_memory};
 ghost use Rattle.semantics.specs.Promises.{parts};
-ghost use Rattle.semantics.specs.Remembering.{tapeRemembering};
-ghost use Rattle.lines.specs.Lines.{numbersAt, recordsStart, answerLines, refusedLine, freeLine, mainReturned, reducedLine, visitsLine, acceptedLines, tapeLines, runLines, lentTable, fitLines};
+ghost use Rattle.semantics.specs.Remembering.{tape_remembering};
+ghost use Rattle.lines.specs.Lines.{numbers_at, records_start, answer_lines, refused_line, free_line, main_returned, reduced_line, visits_line, accepted_lines, tape_lines, run_lines, lent_table, fit_lines};
 ghost use Rattle.lines.specs.Output.{Stores, StoresUpTo, IsOutput};
 ghost use Rattle.soundness.specs.Layout.{two_words};
 
@@ -28,7 +28,7 @@ const PLACES: usize = 64;
 
 // "one line per record with its two answer words"
 fn put_answers(out: &mut [u8], at: usize, answers: &[u32]) -> usize
-    ensures { Stores out.old at (answerLines answers.now) out.new result }
+    ensures { Stores out.old at (answer_lines answers.now) out.new result }
 {
     let mut to = at;
     let mut i: usize = 0;
@@ -41,7 +41,7 @@ fn put_answers(out: &mut [u8], at: usize, answers: &[u32]) -> usize
 
 // The free nodes, counted along the chain, in at most one step more than there are nodes.
 fn count_free(nodes: u32, pool: &[u32], first: u32) -> usize
-    ensures { result ≡ length (freeNodes nodes pool.now first) }
+    ensures { result ≡ length (free_nodes nodes pool.now first) }
 {
     let mut left = nodes as usize + 1;
     let mut i = first;
@@ -59,14 +59,14 @@ fn count_free(nodes: u32, pool: &[u32], first: u32) -> usize
 
 // `refused` and the number.
 pub fn put_refused(out: &mut [u8], at: usize, refusal: u32) -> usize
-    ensures { StoresUpTo 19 out.old at (refusedLine refusal) out.new result }
+    ensures { StoresUpTo 19 out.old at (refused_line refusal) out.new result }
 {
     put_named(out, at, b"refused ", refusal as usize)
 }
 
 // "a return of the run was answered with outcome 3"
 fn main_returned(answers: &[u32]) -> bool
-    ensures { result ≡ mainReturned answers.now }
+    ensures { result ≡ main_returned answers.now }
 {
     let mut i: usize = 0;
     while i + 1 < answers.len() {
@@ -80,7 +80,7 @@ fn main_returned(answers: &[u32]) -> bool
 
 // R-5: `reduced` and the totals, once Main has returned.
 fn put_reduced(out: &mut [u8], at: usize, answers: &[u32], numbers: &[u32]) -> usize
-    ensures { StoresUpTo 52 out.old at (cond (mainReturned answers.now) (reducedLine (totalsIn numbers.now)) []) out.new result }
+    ensures { StoresUpTo 52 out.old at (cond (main_returned answers.now) (reduced_line (totals_in numbers.now)) []) out.new result }
 {
     if !main_returned(answers) {
         return at;
@@ -98,7 +98,7 @@ fn put_reduced(out: &mut [u8], at: usize, answers: &[u32], numbers: &[u32]) -> u
 
 // `free` and the free nodes.
 fn put_free(out: &mut [u8], at: usize, numbers: &[u32], pool: &[u32]) -> usize
-    ensures { StoresUpTo 19 out.old at (freeLine (freeCount two_words (numbersIn numbers.now) pool.now)) out.new result }
+    ensures { StoresUpTo 19 out.old at (free_line (count_of_free two_words (numbers_in numbers.now) pool.now)) out.new result }
 {
     let free = count_free(word(numbers, 2), pool, word(numbers, 3));
     put_named(out, at, b"free ", free)
@@ -106,7 +106,7 @@ fn put_free(out: &mut [u8], at: usize, numbers: &[u32], pool: &[u32]) -> usize
 
 // R-10: "splitrun prints `visits` and it as its last line"
 fn put_visits(out: &mut [u8], at: usize, visits: u64) -> usize
-    ensures { StoresUpTo 28 out.old at (visitsLine visits) out.new result }
+    ensures { StoresUpTo 28 out.old at (visits_line visits) out.new result }
 {
     put_named(out, at, b"visits ", visits as usize)
 }
@@ -121,7 +121,7 @@ pub fn put_accepted(
     visits: u64,
 ) -> usize
     ensures { StoresUpTo (11 * length answers.now + 99) out.old at
-        (acceptedLines answers.now (freeCount two_words (numbersIn numbers.now) pool.now) (totalsIn numbers.now) visits) out.new result }
+        (accepted_lines answers.now (count_of_free two_words (numbers_in numbers.now) pool.now) (totals_in numbers.now) visits) out.new result }
 {
     let to = put_answers(out, at, answers);
     let next = put_free(out, to, numbers, pool);
@@ -143,7 +143,7 @@ pub fn run_tape(
     at: usize,
 ) -> usize
     ensures { StoresUpTo (11 * length answers.old + 99) out.old at
-        (tapeLines (tapeRemembering two_words (parts numbers.old deques.old frames.old) memory.old pool.old work.old records.now answers.old)) out.new result }
+        (tape_lines (tape_remembering two_words (parts numbers.old deques.old frames.old) memory.old pool.old work.old records.now answers.old)) out.new result }
 {
     let taped = splitter_tape(
         numbers, deques, frames, memory, pool, work, records, answers,
@@ -169,7 +169,7 @@ pub fn run_calls(
     out: &mut [u8],
     at: usize,
 ) -> usize
-    ensures { StoresUpTo (11 * length answers.old + 99) out.old at (runLines (parts numbers.old deques.old frames.old) memory.old workers values.now
+    ensures { StoresUpTo (11 * length answers.old + 99) out.old at (run_lines (parts numbers.old deques.old frames.old) memory.old workers values.now
         pool.old work.old records.now answers.old) out.new result }
 {
     let refused = splitter_start(numbers, deques, frames, memory, workers, values, pool);
@@ -195,7 +195,7 @@ fn run_lent(
     out: &mut [u8],
     at: usize,
 ) -> usize
-    ensures { StoresUpTo (11 * length answers.old + 99) out.old at (runLines (parts numbers.old deques.old lentTable) memory.old workers values.now
+    ensures { StoresUpTo (11 * length answers.old + 99) out.old at (run_lines (parts numbers.old deques.old lent_table) memory.old workers values.now
         pool.old work.old records.now answers.old) out.new result }
 {
     let zero = free_place(0);
@@ -228,7 +228,7 @@ fn run_on(
     out: &mut [u8],
     at: usize,
 ) -> usize
-    ensures { StoresUpTo (11 * length answers.old + 99) out.old at (runLines (zeros lentTable) noMemory workers (numbersAt (length values.old) input.now 8)
+    ensures { StoresUpTo (11 * length answers.old + 99) out.old at (run_lines (zeros lent_table) no_memory workers (numbers_at (length values.old) input.now 8)
         pool.old work.old records.now answers.old) out.new result }
 {
     read_values(input, values);
@@ -252,8 +252,8 @@ fn run_on(
 
 // The same, with a pool, a work slice and answer words of the right lengths, all zero.
 fn run_fit(input: &[u8], workers: u32, n: u32, nodes: u32, out: &mut [u8], at: usize) -> usize
-    requires { (n ≤ 256) × (nodes ≤ 1024) × (recordsStart n ≤ length input.now) × (length input.now - recordsStart n ≤ 16384) }
-    ensures { StoresUpTo 45155 out.old at (fitLines workers n nodes input.now) out.new result }
+    requires { (n ≤ 256) × (nodes ≤ 1024) × (records_start n ≤ length input.now) × (length input.now - records_start n ≤ 16384) }
+    ensures { StoresUpTo 45155 out.old at (fit_lines workers n nodes input.now) out.new result }
 {
     let mut values = [0u32; 256];
     let mut pool = [0u32; 2048];

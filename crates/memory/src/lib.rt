@@ -1,8 +1,8 @@
 // What each worker remembers (R-10), in lent words: for each worker an entry for each splitter, then a base for each worker. An entry above its worker's base is
 // the base, a leaf's number and one; another remembers none. The lent words have their exact length, so no function tests an index.
 ghost use Rattle.std.specs.Prelude.{◌≡◌, ◌*◌, ◌<◌, length};
-ghost use Rattle.frames.specs.Widths.{maxWorkers};
-ghost use Rattle.memory.specs.Memory.{base, entry, remembered, remember, zeroedFrom, emptied, row_at, maxSplitters, memoryWords};
+ghost use Rattle.frames.specs.Widths.{max_workers};
+ghost use Rattle.memory.specs.Memory.{base, entry, remembered, remember, zeroed_from, emptied, row_at, max_splitters, memory_words};
 
 // The widths of specs/Memory.antt.
 pub const MAX_SPLITTERS: u32 = 256;
@@ -18,7 +18,7 @@ pub const LAST_BASE: u32 = 4294950911;
 
 // What worker w's entries must be above.
 pub fn base_at(memory: &[u32], w: u32) -> u32
-    requires { (length memory.now ≡ memoryWords) × (w < maxWorkers) }
+    requires { (length memory.now ≡ memory_words) × (w < max_workers) }
     ensures { result ≡ base memory.now w }
 {
     memory[ENTRIES + (w as usize)]
@@ -26,7 +26,7 @@ pub fn base_at(memory: &[u32], w: u32) -> u32
 
 // Worker w's entry for splitter x.
 pub fn entry_at(memory: &[u32], w: u32, x: u32) -> u32
-    requires { (length memory.now ≡ memoryWords) × (w < maxWorkers) × (x < maxSplitters) }
+    requires { (length memory.now ≡ memory_words) × (w < max_workers) × (x < max_splitters) }
     ensures { result ≡ entry memory.now w x }
 {
     memory[(MAX_SPLITTERS as usize) * (w as usize) + (x as usize)]
@@ -34,7 +34,7 @@ pub fn entry_at(memory: &[u32], w: u32, x: u32) -> u32
 
 // What worker w remembers of splitter x: its leaf's number plus one, or 0.
 pub fn recall(memory: &[u32], w: u32, x: u32) -> u32
-    requires { (length memory.now ≡ memoryWords) × (w < maxWorkers) × (x < maxSplitters) }
+    requires { (length memory.now ≡ memory_words) × (w < max_workers) × (x < max_splitters) }
     ensures { result ≡ remembered memory.now w x }
 {
     words::sub(entry_at(memory, w, x), base_at(memory, w))
@@ -42,7 +42,7 @@ pub fn recall(memory: &[u32], w: u32, x: u32) -> u32
 
 // Worker w remembers splitter x's leaf.
 pub fn remember(memory: &mut [u32], w: u32, x: u32, leaf: u32)
-    requires { (length memory.old ≡ memoryWords) × (w < maxWorkers) × (x < maxSplitters) }
+    requires { (length memory.old ≡ memory_words) × (w < max_workers) × (x < max_splitters) }
     ensures { memory.new ≡ remember memory.old w x leaf }
 {
     let b = base_at(memory, w);
@@ -54,8 +54,8 @@ pub fn remember(memory: &mut [u32], w: u32, x: u32, leaf: u32)
 
 // Zeros in worker w's row.
 fn clear_row(memory: &mut [u32], w: u32)
-    requires { (length memory.old ≡ memoryWords) × (w < maxWorkers) }
-    ensures { memory.new ≡ zeroedFrom maxSplitters memory.old (row_at w) }
+    requires { (length memory.old ≡ memory_words) × (w < max_workers) }
+    ensures { memory.new ≡ zeroed_from max_splitters memory.old (row_at w) }
 {
     let first = (MAX_SPLITTERS as usize) * (w as usize);
     let mut i: usize = 0;
@@ -67,7 +67,7 @@ fn clear_row(memory: &mut [u32], w: u32)
 
 // Worker w remembers nothing: its base goes past its entries, or begins again.
 pub fn empty(memory: &mut [u32], w: u32)
-    requires { (length memory.old ≡ memoryWords) × (w < maxWorkers) }
+    requires { (length memory.old ≡ memory_words) × (w < max_workers) }
     ensures { memory.new ≡ emptied memory.old w }
 {
     let b = base_at(memory, w);

@@ -1,3 +1,3 @@
--- Algorithm is what the code runs. Theory shows that in a sound state this is memorySound of crate soundness.
+-- Algorithm is what the code runs. Theory shows that in a sound state this is memory_sound of crate soundness.
 pub mod Algorithm
 pub mod Theory

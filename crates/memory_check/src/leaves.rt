@@ -1,16 +1,16 @@
 // The tree of a worker's bottom frame, walked once beside what the worker remembers. A node that is none of the pool's ends the walk: no index is tested
 // again. A link is half of a node's second word; that for none is no node's number, since there are 16,384 nodes at most.
 ghost use Rattle.std.specs.Prelude.{◌≡◌, ◌≤◌, ◌<◌, length};
-ghost use Rattle.frames.specs.Widths.{maxWorkers};
-ghost use Rattle.memory.specs.Memory.{maxSplitters, maxNodes, memoryWords};
-ghost use Rattle.memory_check.specs.Algorithm.{leafRight, pairRight, leavesRight, WalkIn};
+ghost use Rattle.frames.specs.Widths.{max_workers};
+ghost use Rattle.memory.specs.Memory.{max_splitters, max_nodes, memory_words};
+ghost use Rattle.memory_check.specs.Algorithm.{leaf_right, pair_right, leaves_right, WalkIn};
 
 use memory::recall;
 
 // Does worker w not remember splitter x, or remember that its leaf is i?
 fn leaf_right(memory: &[u32], w: u32, x: u32, i: u32) -> bool
-    requires { (length memory.now ≡ memoryWords) × (w < maxWorkers) × (x < maxSplitters) × (i < maxNodes) }
-    ensures { result ≡ leafRight memory.now w x i }
+    requires { (length memory.now ≡ memory_words) × (w < max_workers) × (x < max_splitters) × (i < max_nodes) }
+    ensures { result ≡ leaf_right memory.now w x i }
 {
     let known = recall(memory, w, x);
     (known == 0) | (known == i + 1)
@@ -18,8 +18,8 @@ fn leaf_right(memory: &[u32], w: u32, x: u32, i: u32) -> bool
 
 // The leaves under a node of level 1, over splitter `left` and, where there is one, the next: by the node's links.
 fn pair_right(n: u32, nodes: u32, memory: &[u32], w: u32, left: u32, links: u32) -> bool
-    requires { (length memory.now ≡ memoryWords) × (w < maxWorkers) × (n ≤ maxSplitters) × (nodes ≤ maxNodes) × (left < n) }
-    ensures { result ≡ pairRight n nodes memory.now w left links }
+    requires { (length memory.now ≡ memory_words) × (w < max_workers) × (n ≤ max_splitters) × (nodes ≤ max_nodes) × (left < n) }
+    ensures { result ≡ pair_right n nodes memory.now w left links }
 {
     let first = links % 65536;
     if first >= nodes {
@@ -51,7 +51,7 @@ pub fn leaves_right(
     i: u32,
 ) -> bool
     requires { WalkIn n nodes pool.now memory.now w level group }
-    ensures { result ≡ leavesRight n nodes pool.now memory.now w level group i }
+    ensures { result ≡ leaves_right n nodes pool.now memory.now w level group i }
 {
     if i >= nodes {
         return false;

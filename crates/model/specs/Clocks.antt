@@ -2,7 +2,7 @@
 use Rattle.std.specs.Prelude.{Bool, true, false, cond, not, ◌&&◌, List, [], ◌∷◌, ◌++◌, map, ℕ, suc, ◌+◌, max}
 use Rattle.words.specs.Basics.{same}
 use Rattle.model.specs.declared.Step.{Step}
-use Rattle.model.specs.Machine.{Name, Frame, Machine, live, deque, is_empty, isChild, hasChild, hasFrame, start}
+use Rattle.model.specs.Machine.{Name, Frame, Machine, live, deque, is_empty, is_child, has_child, has_frame, start}
 use Rattle.model.specs.Steps.{Action, spawn, return, sync, read, write, fold, Turn, acting, stealing, turn_of, refusal, accepted, child, step}
 
 pub record Clock : Type 0 where
@@ -22,8 +22,8 @@ pub record Clocks : Type 0 where
   pub span : ℕ
 
 -- Main's begins at 0
-abbrev pub clocksAtStart : Clocks
-clocksAtStart = record { clocks = record { name = []; clock = 0; latest = 0; waits = false } ∷ []; work = 0; span = 0 }
+abbrev pub clocks_at_start : Clocks
+clocks_at_start = record { clocks = record { name = []; clock = 0; latest = 0; waits = false } ∷ []; work = 0; span = 0 }
 
 -- "Each accepted spawn, sync, read, write and fold costs 1, returns and steals 0."
 abbrev pub cost : Action → ℕ
@@ -58,21 +58,21 @@ moved q (read x) busy c = ticked c ∷ []
 moved q (write x v) busy c = ticked c ∷ []
 moved q (fold r x) busy c = ticked c ∷ []
 
-abbrev pub clocksMoved : Frame → Action → Bool → List Clock → List Clock
-clocksMoved q a busy [] = []
-clocksMoved q a busy (c ∷ cs) = cond (same c.name q.name) (moved q a busy c ++ cs) (c ∷ clocksMoved q a busy cs)
+abbrev pub clocks_moved : Frame → Action → Bool → List Clock → List Clock
+clocks_moved q a busy [] = []
+clocks_moved q a busy (c ∷ cs) = cond (same c.name q.name) (moved q a busy c ++ cs) (c ∷ clocks_moved q a busy cs)
 
-abbrev pub bottomClocks : Machine → List Frame → Action → List Clock → List Clock
-bottomClocks M [] a cs = cs
-bottomClocks M (q ∷ d) a cs = clocksMoved q a (hasChild q.name (live M)) cs
+abbrev pub bottom_clocks : Machine → List Frame → Action → List Clock → List Clock
+bottom_clocks M [] a cs = cs
+bottom_clocks M (q ∷ d) a cs = clocks_moved q a (has_child q.name (live M)) cs
 
-abbrev pub turnClocks : Machine → Turn → List Clock → List Clock
-turnClocks M (acting w a) cs = bottomClocks M (deque M w) a cs
-turnClocks M (stealing w v) cs = cs
+abbrev pub turn_clocks : Machine → Turn → List Clock → List Clock
+turn_clocks M (acting w a) cs = bottom_clocks M (deque M w) a cs
+turn_clocks M (stealing w v) cs = cs
 
-abbrev pub turnCost : Turn → ℕ
-turnCost (acting w a) = cost a
-turnCost (stealing w v) = 0
+abbrev pub turn_cost : Turn → ℕ
+turn_cost (acting w a) = cost a
+turn_cost (stealing w v) = 0
 
 -- ---- frames that end, and syncs that pass at a resumption
 
@@ -87,42 +87,42 @@ best t (f ∷ fs) = let m = best t fs in cond (t f.0) (max f.1 m) m
 
 -- with its ended children's clocks
 abbrev pub heard : List Final → Clock → Clock
-heard ended c = record { name = c.name; clock = c.clock; latest = max c.latest (best (isChild c.name) ended); waits = c.waits }
+heard ended c = record { name = c.name; clock = c.clock; latest = max c.latest (best (is_child c.name) ended); waits = c.waits }
 
 -- "a return likewise waits but adds nothing"
-abbrev pub finalClock : Clock → ℕ
-finalClock c = max c.clock c.latest
+abbrev pub final_clock : Clock → ℕ
+final_clock c = max c.clock c.latest
 
 -- a sync passes when its frame is suspended no more
 abbrev pub woken : List Frame → Clock → Clock
-woken suspended c = cond (c.waits && not (hasFrame c.name suspended)) (passed c) c
+woken suspended c = cond (c.waits && not (has_frame c.name suspended)) (passed c) c
 
 -- the frames that pass the test stay; `ended` are the others, with their clocks at their end
-abbrev pub settleBy : (Name → Bool) → List Final → List Clock → List Clock × List Final
-settleBy stays ended [] = ([], ended)
-settleBy stays ended (c ∷ cs) =
+abbrev pub settle_by : (Name → Bool) → List Final → List Clock → List Clock × List Final
+settle_by stays ended [] = ([], ended)
+settle_by stays ended (c ∷ cs) =
     let h = heard ended c in
-    let go_on = settleBy stays ended cs in
-    let ends = settleBy stays ((c.name, finalClock h) ∷ ended) cs in
+    let go_on = settle_by stays ended cs in
+    let ends = settle_by stays ((c.name, final_clock h) ∷ ended) cs in
     cond (stays c.name) (h ∷ go_on.0, go_on.1) ends
 
 -- the frames L live now
 abbrev pub settle : List Frame → List Final → List Clock → List Clock × List Final
-settle L = settleBy (λ n. hasFrame n L)
+settle L = settle_by (λ n. has_frame n L)
 
 -- the step, then the ends, then the syncs that pass; a refused step costs nothing
-abbrev pub clocksAfter : Machine → Clocks → Step → Clocks
-clocksAfter M C s =
-    let r = settle (live (step M s)) [] (turnClocks M (turn_of s) C.clocks) in
-    let C' : Clocks = record { clocks = map (woken (step M s).suspended) r.0; work = turnCost (turn_of s) + C.work; span = max C.span (best is_empty r.1) } in
+abbrev pub clocks_after : Machine → Clocks → Step → Clocks
+clocks_after M C s =
+    let r = settle (live (step M s)) [] (turn_clocks M (turn_of s) C.clocks) in
+    let C' : Clocks = record { clocks = map (woken (step M s).suspended) r.0; work = turn_cost (turn_of s) + C.work; span = max C.span (best is_empty r.1) } in
     cond (accepted (refusal M s)) C' C
 
 -- ---- a run
 
-abbrev pub runClocks : Machine → Clocks → List Step → Clocks
-runClocks M C [] = C
-runClocks M C (s ∷ ss) = runClocks (step M s) (clocksAfter M C s) ss
+abbrev pub run_clocks : Machine → Clocks → List Step → Clocks
+run_clocks M C [] = C
+run_clocks M C (s ∷ ss) = run_clocks (step M s) (clocks_after M C s) ss
 
 -- once Main has returned: "Work is the sum of costs, span is Main's clock at its return."
 abbrev pub pair_of : ℕ → List ℕ → ℕ → ℕ → List Step → ℕ × ℕ
-pair_of workers values nodes places steps = let C = runClocks (start workers values nodes places) clocksAtStart steps in (C.work, C.span)
+pair_of workers values nodes places steps = let C = run_clocks (start workers values nodes places) clocks_at_start steps in (C.work, C.span)

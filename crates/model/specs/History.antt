@@ -18,11 +18,11 @@ abbrev pub History : Type 0
 History = List Event
 
 -- "the last write in that frame's history to a member of the group" g of level l
-abbrev pub lastWrite : ℕ → ℕ → History → Mark
-lastWrite l g [] = []
-lastWrite l g (e ∷ es) = let r = lastWrite l g es in cond (eqb (e.splitter / 2 ^ l) g) e.mark r
+abbrev pub last_write : ℕ → ℕ → History → Mark
+last_write l g [] = []
+last_write l g (e ∷ es) = let r = last_write l g es in cond (eqb (e.splitter / 2 ^ l) g) e.mark r
 
 -- "Nodes in use are the distinct triples, over all live frames, of a level l, a group (splitter number divided by 2^l,
 -- rounded down) and the last write in that frame's history to a member of the group."
-unfoldable pub nodesInUse : ℕ → List History → ℕ
-nodesInUse n hs = sum (suc (height n)) (λ l. sum (width n l) (λ g. distinct (map (lastWrite l g) hs)))
+unfoldable pub nodes_in_use : ℕ → List History → ℕ
+nodes_in_use n hs = sum (suc (height n)) (λ l. sum (width n l) (λ g. distinct (map (last_write l g) hs)))

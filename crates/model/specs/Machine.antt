@@ -1,7 +1,7 @@
 -- The plain machine of document 01: frames, deques, suspensions, nodes. Definitions only; Steps says what a step does.
 use Rattle.std.specs.Prelude.{Bool, true, false, ◌||◌, cond, List, [], ◌∷◌, ◌++◌, map, ℕ, ◌-◌, length, get_or, set, replicate}
 use Rattle.words.specs.Basics.{joined, same}
-use Rattle.model.specs.History.{History, nodesInUse}
+use Rattle.model.specs.History.{History, nodes_in_use}
 
 -- ---- frames
 
@@ -49,11 +49,11 @@ abbrev pub deque : Machine → ℕ → List Frame
 deque M w = get_or M.deques w []
 
 -- the machine with these deques and suspended frames
-abbrev pub withFrames : Machine → List (List Frame) → List Frame → Machine
-withFrames M ds fs = record { splitters = M.splitters; nodes = M.nodes; places = M.places; deques = ds; suspended = fs }
+abbrev pub with_frames : Machine → List (List Frame) → List Frame → Machine
+with_frames M ds fs = record { splitters = M.splitters; nodes = M.nodes; places = M.places; deques = ds; suspended = fs }
 
-abbrev pub withDeque : Machine → ℕ → List Frame → Machine
-withDeque M w d = withFrames M (set M.deques w d) M.suspended
+abbrev pub with_deque : Machine → ℕ → List Frame → Machine
+with_deque M w d = with_frames M (set M.deques w d) M.suspended
 
 abbrev pub is_empty {ℓ} : {A : Type ℓ} → List A → Bool
 is_empty [] = true
@@ -65,25 +65,25 @@ top [] = []
 top (x ∷ []) = x ∷ []
 top (x ∷ y ∷ l) = top (y ∷ l)
 
-abbrev pub belowTop {ℓ} : {A : Type ℓ} → List A → List A
-belowTop [] = []
-belowTop (x ∷ []) = []
-belowTop (x ∷ y ∷ l) = x ∷ belowTop (y ∷ l)
+abbrev pub below_top {ℓ} : {A : Type ℓ} → List A → List A
+below_top [] = []
+below_top (x ∷ []) = []
+below_top (x ∷ y ∷ l) = x ∷ below_top (y ∷ l)
 
 -- r is the name of a child of p
-abbrev pub isChild : Name → Name → Bool
-isChild p [] = false
-isChild p (k ∷ r) = same r p
+abbrev pub is_child : Name → Name → Bool
+is_child p [] = false
+is_child p (k ∷ r) = same r p
 
 -- one of the frames is a child of p: with the live frames, p's outstanding count is not 0
-abbrev pub hasChild : Name → List Frame → Bool
-hasChild p [] = false
-hasChild p (f ∷ fs) = isChild p f.name || hasChild p fs
+abbrev pub has_child : Name → List Frame → Bool
+has_child p [] = false
+has_child p (f ∷ fs) = is_child p f.name || has_child p fs
 
 -- one of the frames is p
-abbrev pub hasFrame : Name → List Frame → Bool
-hasFrame p [] = false
-hasFrame p (f ∷ fs) = same f.name p || hasFrame p fs
+abbrev pub has_frame : Name → List Frame → Bool
+has_frame p [] = false
+has_frame p (f ∷ fs) = same f.name p || has_frame p fs
 
 -- the frames that pass a test, and the others
 abbrev pub those : (Frame → Bool) → List Frame → List Frame
@@ -95,12 +95,12 @@ others t [] = []
 others t (f ∷ fs) = cond (t f) (others t fs) (f ∷ others t fs)
 
 -- "Nodes in use are the distinct triples, over all live frames, .." (History)
-abbrev pub inUse : ℕ → List Frame → ℕ
-inUse n fs = nodesInUse n (histories fs)
+abbrev pub in_use : ℕ → List Frame → ℕ
+in_use n fs = nodes_in_use n (histories fs)
 
 -- "its free nodes are the pool's less those in use"
-abbrev pub freeNodes : Machine → ℕ
-freeNodes M = M.nodes - inUse M.splitters (live M)
+abbrev pub free_nodes : Machine → ℕ
+free_nodes M = M.nodes - in_use M.splitters (live M)
 
 -- ---- the start
 

@@ -24,7 +24,7 @@ Returned M ss = In (102, 3) (answers M ss)
 -- no step of the list is refused
 pub data AllAccepted : Machine → List Step → Type 0 where
   no_step : {M : Machine} → AllAccepted M []
-  accepted-then : {M : Machine} {s : Step} {ss : List Step} → refusal M s ≡ 0 → AllAccepted (step M s) ss → AllAccepted M (s ∷ ss)
+  accepted_then : {M : Machine} {s : Step} {ss : List Step} → refusal M s ≡ 0 → AllAccepted (step M s) ss → AllAccepted M (s ∷ ss)
 
 -- ---- the trace: "the accepted steps of the run, steals left out, that a worker took while this was its bottom frame"
 
@@ -34,37 +34,37 @@ pub record Entry : Type 0 where
   pub action : Action
   pub value : ℕ
 
-abbrev pub readValue : Frame → Action → ℕ
-readValue q spawn = 0
-readValue q return = 0
-readValue q sync = 0
-readValue q (read x) = value_at q x
-readValue q (write x v) = 0
-readValue q (fold r x) = 0
+abbrev pub read_value : Frame → Action → ℕ
+read_value q spawn = 0
+read_value q return = 0
+read_value q sync = 0
+read_value q (read x) = value_at q x
+read_value q (write x v) = 0
+read_value q (fold r x) = 0
 
 abbrev pub entry : Frame → Action → Entry
-entry q a = record { frame = q.name; action = a; value = readValue q a }
+entry q a = record { frame = q.name; action = a; value = read_value q a }
 
-abbrev pub bottomEntry : List Frame → Action → List Entry
-bottomEntry [] a = []
-bottomEntry (q ∷ d) a = entry q a ∷ []
+abbrev pub bottom_entry : List Frame → Action → List Entry
+bottom_entry [] a = []
+bottom_entry (q ∷ d) a = entry q a ∷ []
 
-abbrev pub turnEntry : Machine → Turn → List Entry
-turnEntry M (acting w a) = bottomEntry (deque M w) a
-turnEntry M (stealing w v) = []
+abbrev pub turn_entry : Machine → Turn → List Entry
+turn_entry M (acting w a) = bottom_entry (deque M w) a
+turn_entry M (stealing w v) = []
 
 abbrev pub trace : Machine → List Step → List Entry
 trace M [] = []
-trace M (s ∷ ss) = cond (accepted (refusal M s)) (turnEntry M (turn_of s)) [] ++ trace (step M s) ss
+trace M (s ∷ ss) = cond (accepted (refusal M s)) (turn_entry M (turn_of s)) [] ++ trace (step M s) ss
 
 -- ---- "A frame's steps", and "What a frame has read"
 
-abbrev pub entriesOf : Name → List Entry → List Entry
-entriesOf p [] = []
-entriesOf p (e ∷ es) = cond (same e.frame p) (e ∷ entriesOf p es) (entriesOf p es)
+abbrev pub entries_of : Name → List Entry → List Entry
+entries_of p [] = []
+entries_of p (e ∷ es) = cond (same e.frame p) (e ∷ entries_of p es) (entries_of p es)
 
 abbrev pub steps_of : Name → List Entry → List Action
-steps_of p es = map (λ e. e.action) (entriesOf p es)
+steps_of p es = map (λ e. e.action) (entries_of p es)
 
 abbrev pub read_by : Action → ℕ → List ℕ
 read_by spawn v = []
@@ -79,7 +79,7 @@ reads [] = []
 reads (e ∷ es) = read_by e.action e.value ++ reads es
 
 abbrev pub reads_of : Name → List Entry → List ℕ
-reads_of p es = reads (entriesOf p es)
+reads_of p es = reads (entries_of p es)
 
 abbrev pub spawns : List Action → ℕ
 spawns [] = 0
@@ -109,22 +109,22 @@ follow (write x v) e inner after on = e ∷ on
 follow (fold r x) e inner after on = e ∷ on
 
 -- a frame's own steps with its children's lists put in; the next spawn is its k-th, and `inner k` is the k-th child's list
-abbrev pub withChildren : (ℕ → List Entry) → ℕ → List Entry → List Entry
-withChildren inner k [] = []
-withChildren inner k (e ∷ es) =
+abbrev pub with_children : (ℕ → List Entry) → ℕ → List Entry → List Entry
+with_children inner k [] = []
+with_children inner k (e ∷ es) =
     let i = inner k in
-    let after = withChildren inner (suc k) es in
-    let on = withChildren inner k es in
+    let after = with_children inner (suc k) es in
+    let on = with_children inner k es in
     follow e.action e i after on
 
 -- the list of the frame p. The first number bounds how deep the spawns go: no chain of them is longer than the trace
-abbrev pub childFirstList : ℕ → List Entry → Name → List Entry
-childFirstList zero es p = []
-childFirstList (suc fuel) es p = withChildren (λ k. childFirstList fuel es (k ∷ p)) 1 (entriesOf p es)
+abbrev pub child_first_list : ℕ → List Entry → Name → List Entry
+child_first_list zero es p = []
+child_first_list (suc fuel) es p = with_children (λ k. child_first_list fuel es (k ∷ p)) 1 (entries_of p es)
 
 -- "It enters Main's child-first list step by step, all for worker 0"
-abbrev pub forWorker0 : List Entry → List Step
-forWorker0 es = map (λ e. step_of 0 e.action) es
+abbrev pub for_worker0 : List Entry → List Step
+for_worker0 es = map (λ e. step_of 0 e.action) es
 
-abbrev pub oneWorkerSteps : List Entry → List Step
-oneWorkerSteps es = forWorker0 (childFirstList (suc (length es)) es [])
+abbrev pub one_worker_steps : List Entry → List Step
+one_worker_steps es = for_worker0 (child_first_list (suc (length es)) es [])

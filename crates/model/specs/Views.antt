@@ -3,9 +3,9 @@
 use Rattle.std.specs.Prelude.{Bool, cond, List, [], ◌∷◌, ◌++◌, ℕ, suc, length}
 use Rattle.words.specs.Basics.{same}
 use Rattle.model.specs.declared.Step.{Step}
-use Rattle.model.specs.Machine.{Name, Frame, Machine, live, deque, hasFrame, start}
+use Rattle.model.specs.Machine.{Name, Frame, Machine, live, deque, has_frame, start}
 use Rattle.model.specs.Steps.{Action, spawn, return, sync, read, write, fold, Turn, acting, stealing, turn_of, refusal, accepted, child, step}
-use Rattle.model.specs.Run.{Entry, childFirstList}
+use Rattle.model.specs.Run.{Entry, child_first_list}
 
 -- a reducer, and the value folded into it
 abbrev pub Folded : Type 0
@@ -23,8 +23,8 @@ pub record Views : Type 0 where
   pub totals : List Folded
 
 -- "Main begins with the identities."
-abbrev pub viewsAtStart : Views
-viewsAtStart = record { views = record { name = []; folds = [] } ∷ []; totals = [] }
+abbrev pub views_at_start : Views
+views_at_start = record { views = record { name = []; folds = [] } ∷ []; totals = [] }
 
 -- ---- a step
 
@@ -38,60 +38,60 @@ became q (read x) v = v ∷ []
 became q (write x y) v = v ∷ []
 became q (fold r x) v = record { name = q.name; folds = v.folds ++ ((r, x) ∷ []) } ∷ []
 
-abbrev pub viewsActed : Frame → Action → List View → List View
-viewsActed q a [] = []
-viewsActed q a (v ∷ vs) = cond (same v.name q.name) (became q a v ++ vs) (v ∷ viewsActed q a vs)
+abbrev pub views_acted : Frame → Action → List View → List View
+views_acted q a [] = []
+views_acted q a (v ∷ vs) = cond (same v.name q.name) (became q a v ++ vs) (v ∷ views_acted q a vs)
 
-abbrev pub bottomViews : List Frame → Action → List View → List View
-bottomViews [] a vs = vs
-bottomViews (q ∷ d) a vs = viewsActed q a vs
+abbrev pub bottom_views : List Frame → Action → List View → List View
+bottom_views [] a vs = vs
+bottom_views (q ∷ d) a vs = views_acted q a vs
 
-abbrev pub turnViews : Machine → Turn → List View → List View
-turnViews M (acting w a) vs = bottomViews (deque M w) a vs
-turnViews M (stealing w v) vs = vs
+abbrev pub turn_views : Machine → Turn → List View → List View
+turn_views M (acting w a) vs = bottom_views (deque M w) a vs
+turn_views M (stealing w v) vs = vs
 
 -- "the view of a frame that ends joins on the left of the next one's in that order"; Main's, of the totals. The test tells the
 -- frames that stay, and `ended` is what those just before, which have ended, have left
-abbrev pub joinBy : (Name → Bool) → List Folded → List View → List Folded → Views
-joinBy stays ended [] totals = record { views = []; totals = ended ++ totals }
-joinBy stays ended (v ∷ vs) totals =
-    let others = joinBy stays [] vs totals in
-    let ends = joinBy stays (ended ++ v.folds) vs totals in
+abbrev pub join_by : (Name → Bool) → List Folded → List View → List Folded → Views
+join_by stays ended [] totals = record { views = []; totals = ended ++ totals }
+join_by stays ended (v ∷ vs) totals =
+    let others = join_by stays [] vs totals in
+    let ends = join_by stays (ended ++ v.folds) vs totals in
     let kept : Views = record { views = record { name = v.name; folds = ended ++ v.folds } ∷ others.views; totals = others.totals } in
     cond (stays v.name) kept ends
 
 -- the frames L live now
-abbrev pub joinEnded : List Frame → List Folded → List View → List Folded → Views
-joinEnded L = joinBy (λ n. hasFrame n L)
+abbrev pub join_ended : List Frame → List Folded → List View → List Folded → Views
+join_ended L = join_by (λ n. has_frame n L)
 
-abbrev pub viewsAfter : Machine → Views → Step → Views
-viewsAfter M W s =
-    let W' = joinEnded (live (step M s)) [] (turnViews M (turn_of s) W.views) W.totals in
+abbrev pub views_after : Machine → Views → Step → Views
+views_after M W s =
+    let W' = join_ended (live (step M s)) [] (turn_views M (turn_of s) W.views) W.totals in
     cond (accepted (refusal M s)) W' W
 
 -- ---- a run
 
-abbrev pub runViews : Machine → Views → List Step → Views
-runViews M W [] = W
-runViews M W (s ∷ ss) = runViews (step M s) (viewsAfter M W s) ss
+abbrev pub run_views : Machine → Views → List Step → Views
+run_views M W [] = W
+run_views M W (s ∷ ss) = run_views (step M s) (views_after M W s) ss
 
-abbrev pub totalsOf : ℕ → List ℕ → ℕ → ℕ → List Step → List Folded
-totalsOf workers values nodes places steps = (runViews (start workers values nodes places) viewsAtStart steps).totals
+abbrev pub totals_of : ℕ → List ℕ → ℕ → ℕ → List Step → List Folded
+totals_of workers values nodes places steps = (run_views (start workers values nodes places) views_at_start steps).totals
 
 -- ---- what is to be shown
 
-abbrev pub foldedBy : Action → List Folded
-foldedBy spawn = []
-foldedBy return = []
-foldedBy sync = []
-foldedBy (read x) = []
-foldedBy (write x y) = []
-foldedBy (fold r x) = (r, x) ∷ []
+abbrev pub folded_by : Action → List Folded
+folded_by spawn = []
+folded_by return = []
+folded_by sync = []
+folded_by (read x) = []
+folded_by (write x y) = []
+folded_by (fold r x) = (r, x) ∷ []
 
-abbrev pub foldsIn : List Entry → List Folded
-foldsIn [] = []
-foldsIn (e ∷ es) = foldedBy e.action ++ foldsIn es
+abbrev pub folds_in : List Entry → List Folded
+folds_in [] = []
+folds_in (e ∷ es) = folded_by e.action ++ folds_in es
 
 -- "the values folded into its reducer, in the order of Main's child-first list", of all reducers
-abbrev pub mainFolds : List Entry → List Folded
-mainFolds es = foldsIn (childFirstList (suc (length es)) es [])
+abbrev pub main_folds : List Entry → List Folded
+main_folds es = folds_in (child_first_list (suc (length es)) es [])

@@ -1,6 +1,6 @@
 // A record's 8 bytes to its step: kind, worker, a 16-bit splitter or victim, a 32-bit value, little-endian (document 01).
 ghost use Rattle.std.specs.Prelude.{◌≡◌, [], ◌∷◌, ◌+◌, ◌≤◌, length};
-ghost use Rattle.model.specs.Record.{little, unusedSet, recordOf, decodeAt};
+ghost use Rattle.model.specs.Record.{little, unused_set, record_of, decode_at};
 
 use crate::{Decoded, Step};
 
@@ -27,7 +27,7 @@ pub fn number32(b0: u8, b1: u8, b2: u8, b3: u8) -> u32
 
 // Is a field that this kind does not use other than zero?
 fn misused(kind: u32, field: u32, value: u32) -> bool
-    ensures { result ≡ unusedSet kind field value }
+    ensures { result ≡ unused_set kind field value }
 {
     if kind == 5 {
         return value != 0;
@@ -46,7 +46,7 @@ fn misused(kind: u32, field: u32, value: u32) -> bool
 
 // The step of a record with these fields.
 pub fn step_of(kind: u32, worker: u32, field: u32, value: u32) -> Decoded
-    ensures { result ≡ recordOf kind worker field value }
+    ensures { result ≡ record_of kind worker field value }
 {
     if misused(kind, field, value) {
         return Decoded::Invalid;
@@ -66,7 +66,7 @@ pub fn step_of(kind: u32, worker: u32, field: u32, value: u32) -> Decoded
 // The record at `at`.
 pub fn decode(tape: &[u8], at: usize) -> Decoded
     requires { at + 8 ≤ length tape.now }
-    ensures { result ≡ decodeAt tape.now at }
+    ensures { result ≡ decode_at tape.now at }
 {
     let field = number16(tape[at + 2], tape[at + 3]);
     let value = number32(tape[at + 4], tape[at + 5], tape[at + 6], tape[at + 7]);

@@ -18,11 +18,11 @@ pub to_free : (N : ℕ) (w w' : List ℕ) (a : ℕ) (r : Bool) → 2 * N ≤ len
 to_free N w w' a true L n e g = (L, n, g.1, subst (λ q. refcount q a ≤ 1) (sym g.0) g.2)
 to_free N w w' a false L n e g = absurd (true≢false (sym e))
 
-pub freed-now : (N l : ℕ) (w w' : List ℕ) (f k a : ℕ) {w₁ : List ℕ} {f₁ k₁ : ℕ} (r : Bool) → r ≡ true → LetGo r N w w' a → Released (release N l w' f k a) w₁ f₁ k₁ → Released (release N l w f k a) w₁ f₁ k₁
-freed-now N l w w' f k a {w₁} {f₁} {k₁} true e g R = subst (λ q. Released (release N l q f k a) w₁ f₁ k₁) g.0 R
-freed-now N l w w' f k a false e g R = absurd (true≢false (sym e))
+pub freed_now : (N l : ℕ) (w w' : List ℕ) (f k a : ℕ) {w₁ : List ℕ} {f₁ k₁ : ℕ} (r : Bool) → r ≡ true → LetGo r N w w' a → Released (release N l w' f k a) w₁ f₁ k₁ → Released (release N l w f k a) w₁ f₁ k₁
+freed_now N l w w' f k a {w₁} {f₁} {k₁} true e g R = subst (λ q. Released (release N l q f k a) w₁ f₁ k₁) g.0 R
+freed_now N l w w' f k a false e g R = absurd (true≢false (sym e))
 
 -- it is held, or no node: its release is done
-pub kept-now : (N l : ℕ) (w w' : List ℕ) (f k a : ℕ) (r : Bool) → r ≡ false → LetGo r N w w' a → Released (release N l w f k a) w' f k
-kept-now N l w w' f k a true e g = absurd (true≢false e)
-kept-now N l w w' f k a false e g = parts₃ (g l f k)
+pub kept_now : (N l : ℕ) (w w' : List ℕ) (f k a : ℕ) (r : Bool) → r ≡ false → LetGo r N w w' a → Released (release N l w f k a) w' f k
+kept_now N l w w' f k a true e g = absurd (true≢false e)
+kept_now N l w w' f k a false e g = parts₃ (g l f k)

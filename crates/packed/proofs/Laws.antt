@@ -12,8 +12,8 @@ use lib.Dec.{ltb}
 use lib.ListN.{get_or}
 use Rattle.words.specs.Basics.{none, plus}
 use Rattle.sizes.specs.Sizes.{bit, width}
-use Rattle.packed.specs.Pool.{refcount, link_in, links, left, right, nextFree, child, sibling, setNode, setRefcount, leafOf, freed, release, pathNode, copyPath, copyLeaf, initLevel, initInner, initLeaves, initFree}
-use Rattle.packed.specs.Theory.Halves.{linkIn-node}
+use Rattle.packed.specs.Pool.{refcount, link_in, links, left, right, next_free, child, sibling, set_node, set_refcount, leaf_of, freed, release, path_node, copy_path, copy_leaf, init_level, init_inner, init_leaves, init_free}
+use Rattle.packed.specs.Theory.Halves.{link_in-node}
 
 -- the two parts of an equation of pairs
 pub parts : {p q : List ℕ × ℕ} → p ≡ q → (p.0 ≡ q.0) × (p.1 ≡ q.1)
@@ -25,40 +25,40 @@ parts₃ e = (ap (λ p. p.0) e, ap (λ p. p.1) e, ap (λ p. p.2) e)
 
 -- ---- the walk
 
-pub leaf-step : (l : ℕ) (ws : List ℕ) (i x : ℕ) → 0 < l → leafOf (l - 1) ws (child ws i (bit (l - 1) x)) x ≡ leafOf l ws i x
-unfolding leafOf
-leaf-step zero ws i x h = absurd (omega arith)
-leaf-step (suc l) ws i x h = rw sub-one
+pub leaf_step : (l : ℕ) (ws : List ℕ) (i x : ℕ) → 0 < l → leaf_of (l - 1) ws (child ws i (bit (l - 1) x)) x ≡ leaf_of l ws i x
+unfolding leaf_of
+leaf_step zero ws i x h = absurd (omega arith)
+leaf_step (suc l) ws i x h = rw sub-one
 
-pub leaf-end : (l : ℕ) (ws : List ℕ) (i x : ℕ) → l ≤ 0 → i ≡ leafOf l ws i x
-unfolding leafOf
-leaf-end zero ws i x h = refl
-leaf-end (suc l) ws i x h = absurd (omega arith)
+pub leaf_end : (l : ℕ) (ws : List ℕ) (i x : ℕ) → l ≤ 0 → i ≡ leaf_of l ws i x
+unfolding leaf_of
+leaf_end zero ws i x h = refl
+leaf_end (suc l) ws i x h = absurd (omega arith)
 
 -- ---- the path
 
-pub path-step : (l : ℕ) (ws : List ℕ) (i old x v : ℕ) → 0 < l →
-    copyPath (l - 1) (pathNode ws i (bit (l - 1) x) (nextFree ws i) (sibling ws old (bit (l - 1) x))) (nextFree ws i) (child ws old (bit (l - 1) x)) x v ≡ copyPath l ws i old x v
-unfolding copyPath
-path-step zero ws i old x v h = absurd (omega arith)
-path-step (suc l) ws i old x v h = rw sub-one
+pub path_step : (l : ℕ) (ws : List ℕ) (i old x v : ℕ) → 0 < l →
+    copy_path (l - 1) (path_node ws i (bit (l - 1) x) (next_free ws i) (sibling ws old (bit (l - 1) x))) (next_free ws i) (child ws old (bit (l - 1) x)) x v ≡ copy_path l ws i old x v
+unfolding copy_path
+path_step zero ws i old x v h = absurd (omega arith)
+path_step (suc l) ws i old x v h = rw sub-one
 
-pub path-end : (l : ℕ) (ws : List ℕ) (i old x v : ℕ) → l ≤ 0 → (setNode ws i 1 v, nextFree ws i) ≡ copyPath l ws i old x v
-unfolding copyPath
-path-end zero ws i old x v h = refl
-path-end (suc l) ws i old x v h = absurd (omega arith)
+pub path_end : (l : ℕ) (ws : List ℕ) (i old x v : ℕ) → l ≤ 0 → (set_node ws i 1 v, next_free ws i) ≡ copy_path l ws i old x v
+unfolding copy_path
+path_end zero ws i old x v h = refl
+path_end (suc l) ws i old x v h = absurd (omega arith)
 
 -- its leaf
-pub new-step : (l : ℕ) (ws : List ℕ) (i old x : ℕ) → 0 < l →
-    copyLeaf (l - 1) (pathNode ws i (bit (l - 1) x) (nextFree ws i) (sibling ws old (bit (l - 1) x))) (nextFree ws i) (child ws old (bit (l - 1) x)) x ≡ copyLeaf l ws i old x
-unfolding copyLeaf
-new-step zero ws i old x h = absurd (omega arith)
-new-step (suc l) ws i old x h = rw sub-one
+pub new_step : (l : ℕ) (ws : List ℕ) (i old x : ℕ) → 0 < l →
+    copy_leaf (l - 1) (path_node ws i (bit (l - 1) x) (next_free ws i) (sibling ws old (bit (l - 1) x))) (next_free ws i) (child ws old (bit (l - 1) x)) x ≡ copy_leaf l ws i old x
+unfolding copy_leaf
+new_step zero ws i old x h = absurd (omega arith)
+new_step (suc l) ws i old x h = rw sub-one
 
-pub new-end : (l : ℕ) (ws : List ℕ) (i old x : ℕ) → l ≤ 0 → i ≡ copyLeaf l ws i old x
-unfolding copyLeaf
-new-end zero ws i old x h = refl
-new-end (suc l) ws i old x h = absurd (omega arith)
+pub new_end : (l : ℕ) (ws : List ℕ) (i old x : ℕ) → l ≤ 0 → i ≡ copy_leaf l ws i old x
+unfolding copy_leaf
+new_end zero ws i old x h = refl
+new_end (suc l) ws i old x h = absurd (omega arith)
 
 -- ---- a release
 
@@ -68,21 +68,21 @@ unfolding release
 release-none N zero ws f k i h = rw (le-ltb i N h, release)
 release-none N (suc l) ws f k i h = rw (le-ltb i N h, release)
 
-pub release-held : (N l : ℕ) (ws : List ℕ) (f k i : ℕ) → i < N → 1 < refcount ws i → (setRefcount ws i (refcount ws i - 1), f, k) ≡ release N l ws f k i
+pub release_held : (N l : ℕ) (ws : List ℕ) (f k i : ℕ) → i < N → 1 < refcount ws i → (set_refcount ws i (refcount ws i - 1), f, k) ≡ release N l ws f k i
 unfolding release
-release-held N zero ws f k i h c = rw (lt-ltb i N h, ne_eqb (refcount ws i - 1) 0 (omega arith), release)
-release-held N (suc l) ws f k i h c = rw (lt-ltb i N h, ne_eqb (refcount ws i - 1) 0 (omega arith), release)
+release_held N zero ws f k i h c = rw (lt-ltb i N h, ne_eqb (refcount ws i - 1) 0 (omega arith), release)
+release_held N (suc l) ws f k i h c = rw (lt-ltb i N h, ne_eqb (refcount ws i - 1) 0 (omega arith), release)
 
-pub release-leaf : (N l : ℕ) (ws : List ℕ) (f k i : ℕ) → i < N → refcount ws i ≤ 1 → l ≡ 0 → (freed ws f i, i, plus k 1) ≡ release N l ws f k i
+pub release_leaf : (N l : ℕ) (ws : List ℕ) (f k i : ℕ) → i < N → refcount ws i ≤ 1 → l ≡ 0 → (freed ws f i, i, plus k 1) ≡ release N l ws f k i
 unfolding release
-release-leaf N zero ws f k i h c z = rw (lt-ltb i N h, eq-eqb (refcount ws i - 1) 0 (omega arith), release)
-release-leaf N (suc l) ws f k i h c z = absurd (omega arith)
+release_leaf N zero ws f k i h c z = rw (lt-ltb i N h, eq-eqb (refcount ws i - 1) 0 (omega arith), release)
+release_leaf N (suc l) ws f k i h c z = absurd (omega arith)
 
 -- the half for none is no node either
 pub release-half : (N l : ℕ) (ws : List ℕ) (f k h : ℕ) → N ≤ 16384 → release N l ws f k h ≡ release N l ws f k (link_in h)
 release-half N l ws f k h n = elim (ℕ_discrete h 65535) [
   | yes e ↦ sym (release-none N l ws f k h (omega arith)) ∙ release-none N l ws f k (link_in h) (subst (λ j. N ≤ link_in j) (sym e) (omega arith))
-  | no e ↦ ap (release N l ws f k) (sym (linkIn-node h e))
+  | no e ↦ ap (release N l ws f k) (sym (link_in-node h e))
 ]
 
 -- the words and the free list after a call of release
@@ -103,46 +103,46 @@ release-inner N (suc l) ws f k i s t {m = k₀} {w = w₀} {w₁ = w₁} {f₁ =
 
 -- ---- the start
 
-pub level-step : (c : ℕ) (ws : List ℕ) (i below k : ℕ) → 0 < c →
-    initLevel (c - 1) (setNode ws i 1 (links below (cond (ltb 1 k) (plus below 1) none))) (plus i 1) (plus below 2) (k - 2) ≡ initLevel c ws i below k
-unfolding initLevel
-level-step zero ws i below k h = absurd (omega arith)
-level-step (suc c) ws i below k h = rw sub-one
+pub level_step : (c : ℕ) (ws : List ℕ) (i below k : ℕ) → 0 < c →
+    init_level (c - 1) (set_node ws i 1 (links below (cond (ltb 1 k) (plus below 1) none))) (plus i 1) (plus below 2) (k - 2) ≡ init_level c ws i below k
+unfolding init_level
+level_step zero ws i below k h = absurd (omega arith)
+level_step (suc c) ws i below k h = rw sub-one
 
-pub level-end : (c : ℕ) (ws : List ℕ) (i below k : ℕ) → c ≤ 0 → ws ≡ initLevel c ws i below k
-unfolding initLevel
-level-end zero ws i below k h = refl
-level-end (suc c) ws i below k h = absurd (omega arith)
+pub level_end : (c : ℕ) (ws : List ℕ) (i below k : ℕ) → c ≤ 0 → ws ≡ init_level c ws i below k
+unfolding init_level
+level_end zero ws i below k h = refl
+level_end (suc c) ws i below k h = absurd (omega arith)
 
-pub inner-step : (l : ℕ) (ws : List ℕ) (n i : ℕ) → 0 < l → initInner (l - 1) (initLevel (width n l) ws i (plus i (width n l)) (width n (l - 1))) n (plus i (width n l)) ≡ initInner l ws n i
-unfolding initInner
+pub inner-step : (l : ℕ) (ws : List ℕ) (n i : ℕ) → 0 < l → init_inner (l - 1) (init_level (width n l) ws i (plus i (width n l)) (width n (l - 1))) n (plus i (width n l)) ≡ init_inner l ws n i
+unfolding init_inner
 inner-step zero ws n i h = absurd (omega arith)
 inner-step (suc l) ws n i h = rw sub-one
 
-pub inner-end : (l : ℕ) (ws : List ℕ) (n i : ℕ) → l ≤ 0 → (ws, i) ≡ initInner l ws n i
-unfolding initInner
-inner-end zero ws n i h = refl
-inner-end (suc l) ws n i h = absurd (omega arith)
+pub inner_end : (l : ℕ) (ws : List ℕ) (n i : ℕ) → l ≤ 0 → (ws, i) ≡ init_inner l ws n i
+unfolding init_inner
+inner_end zero ws n i h = refl
+inner_end (suc l) ws n i h = absurd (omega arith)
 
 pub leaves-step : (c : ℕ) (ws : List ℕ) (i : ℕ) (vs : List ℕ) (j : ℕ) → 0 < c →
-    initLeaves (c - 1) (setNode ws i 1 (get_or vs j 0)) (plus i 1) vs (plus j 1) ≡ initLeaves c ws i vs j
-unfolding initLeaves
+    init_leaves (c - 1) (set_node ws i 1 (get_or vs j 0)) (plus i 1) vs (plus j 1) ≡ init_leaves c ws i vs j
+unfolding init_leaves
 leaves-step zero ws i vs j h = absurd (omega arith)
 leaves-step (suc c) ws i vs j h = rw sub-one
 
-pub leaves-end : (c : ℕ) (ws : List ℕ) (i : ℕ) (vs : List ℕ) (j : ℕ) → c ≤ 0 → ws ≡ initLeaves c ws i vs j
-unfolding initLeaves
-leaves-end zero ws i vs j h = refl
-leaves-end (suc c) ws i vs j h = absurd (omega arith)
+pub leaves_end : (c : ℕ) (ws : List ℕ) (i : ℕ) (vs : List ℕ) (j : ℕ) → c ≤ 0 → ws ≡ init_leaves c ws i vs j
+unfolding init_leaves
+leaves_end zero ws i vs j h = refl
+leaves_end (suc c) ws i vs j h = absurd (omega arith)
 
 -- the link is the next node while more than one is left
-pub free_step : (c : ℕ) (ws : List ℕ) (i : ℕ) → 0 < c → initFree (c - 1) (setNode ws i 0 (cond (ltb 1 c) (plus i 1) none)) (plus i 1) ≡ initFree c ws i
-unfolding initFree
+pub free_step : (c : ℕ) (ws : List ℕ) (i : ℕ) → 0 < c → init_free (c - 1) (set_node ws i 0 (cond (ltb 1 c) (plus i 1) none)) (plus i 1) ≡ init_free c ws i
+unfolding init_free
 free_step zero ws i h = absurd (omega arith)
 free_step (suc zero) ws i h = refl
 free_step (suc (suc c)) ws i h = rw (sub-one, lt-ltb 1 (suc (suc c)) (omega arith), ne_eqb (suc c) 0 (omega arith))
 
-pub free-end : (c : ℕ) (ws : List ℕ) (i : ℕ) → c ≤ 0 → ws ≡ initFree c ws i
-unfolding initFree
-free-end zero ws i h = refl
-free-end (suc c) ws i h = absurd (omega arith)
+pub free_end : (c : ℕ) (ws : List ℕ) (i : ℕ) → c ≤ 0 → ws ≡ init_free c ws i
+unfolding init_free
+free_end zero ws i h = refl
+free_end (suc c) ws i h = absurd (omega arith)

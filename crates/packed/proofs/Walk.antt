@@ -5,26 +5,26 @@ use Prim.Native.Nat.{ℕ, zero, suc, ◌-◌, ◌<◌}
 use native.Mathlib.Omega.{arith}
 use native.Mathlib.Numerals.{sub-one}
 use Rattle.sizes.specs.Sizes.{bit}
-use Rattle.packed.specs.Pool.{link_in, child, leafOf}
+use Rattle.packed.specs.Pool.{link_in, child, leaf_of}
 use Rattle.packed.specs.Links.{PathIn}
-use Rattle.packed.specs.Theory.Halves.{linkIn-is}
-use Rattle.packed.proofs.Laws.{leaf-step}
+use Rattle.packed.specs.Theory.Halves.{link_in_is}
+use Rattle.packed.proofs.Laws.{leaf_step}
 
-pub path-here : (N : ℕ) (ws : List ℕ) (l i x : ℕ) → PathIn N ws l i x → i < N
-path-here N ws zero i x p = p
-path-here N ws (suc l) i x p = p.0
+pub path_here : (N : ℕ) (ws : List ℕ) (l i x : ℕ) → PathIn N ws l i x → i < N
+path_here N ws zero i x p = p
+path_here N ws (suc l) i x p = p.0
 
-pub path-on : (N : ℕ) (ws : List ℕ) (l i x : ℕ) → 0 < l → PathIn N ws l i x → PathIn N ws (l - 1) (child ws i (bit (l - 1) x)) x
-path-on N ws zero i x h p = absurd (omega arith)
-path-on N ws (suc l) i x h p = rw sub-one p.1
+pub path_on : (N : ℕ) (ws : List ℕ) (l i x : ℕ) → 0 < l → PathIn N ws l i x → PathIn N ws (l - 1) (child ws i (bit (l - 1) x)) x
+path_on N ws zero i x h p = absurd (omega arith)
+path_on N ws (suc l) i x h p = rw sub-one p.1
 
 -- the half on the way is the next node
 module _ (N l : ℕ) (ws : List ℕ) (i x next : ℕ) (P : PathIn N ws l i x) (h : 0 < l) (n : N < 4294967296) (e : link_in next ≡ child ws i (bit (l - 1) x)) where
-  pub next-is : next ≡ child ws i (bit (l - 1) x)
-  next-is = linkIn-is next (child ws i (bit (l - 1) x)) e (path-here N ws (l - 1) (child ws i (bit (l - 1) x)) x (path-on N ws l i x h P)) (omega arith)
+  pub next_is : next ≡ child ws i (bit (l - 1) x)
+  next_is = link_in_is next (child ws i (bit (l - 1) x)) e (path_here N ws (l - 1) (child ws i (bit (l - 1) x)) x (path_on N ws l i x h P)) (omega arith)
 
-  pub next-path : PathIn N ws (l - 1) next x
-  next-path = subst (λ j. PathIn N ws (l - 1) j x) (sym next-is) (path-on N ws l i x h P)
+  pub next_path : PathIn N ws (l - 1) next x
+  next_path = subst (λ j. PathIn N ws (l - 1) j x) (sym next_is) (path_on N ws l i x h P)
 
-  pub next-leaf : {j : ℕ} → leafOf l ws i x ≡ j → leafOf (l - 1) ws next x ≡ j
-  next-leaf f = ap (λ k. leafOf (l - 1) ws k x) next-is ∙ leaf-step l ws i x h ∙ f
+  pub next_leaf : {j : ℕ} → leaf_of l ws i x ≡ j → leaf_of (l - 1) ws next x ≡ j
+  next_leaf f = ap (λ k. leaf_of (l - 1) ws k x) next_is ∙ leaf_step l ws i x h ∙ f

@@ -8,13 +8,13 @@ use borrow.Author.Tests.{ne_eqb}
 use lib.Bits.{bit_and, and_mask}
 use lib.ListN.{get_or, set}
 use Rattle.words.specs.Basics.{none, plus}
-use Rattle.sizes.specs.Bits.{bit_mask, bit-lt}
+use Rattle.sizes.specs.Bits.{bit_mask, bit_lt}
 use Rattle.sizes.specs.Sizes.{bit}
 use Rattle.pool.specs.Pool.{side}
 use Rattle.pool.specs.Links.{Link}
-use Rattle.pool.specs.Theory.Links.{link-in}
-use Rattle.packed.specs.Pool.{refcount, content, half, link_in, links, left, right, child, sibling, setNode, setRefcount, retain, pathNode}
-use Rattle.packed.specs.Theory.Halves.{half-node, half-linkIn, linkIn-node, links-sum}
+use Rattle.pool.specs.Theory.Links.{link_in_lem}
+use Rattle.packed.specs.Pool.{refcount, content, half, link_in, links, left, right, child, sibling, set_node, set_refcount, retain, path_node}
+use Rattle.packed.specs.Theory.Halves.{half-node, half-link_in, link_in-node, links-sum}
 
 -- ---- the halves
 
@@ -42,7 +42,7 @@ side_left l x a b e = rw (sym (bit_mask l x) ∙ e)
 pub side_right : (l x a b : ℕ) → bit_and (x / 2 ^ l) 1 ≢ 0 → b ≡ side (bit l x) a b
 unfolding side
 side_right l x a b o =
-    let e : bit l x ≡ 1 = omega (arith, o, bit_mask l x, bit-lt l x) in
+    let e : bit l x ≡ 1 = omega (arith, o, bit_mask l x, bit_lt l x) in
     rw e
 
 pub child-half : (ws : List ℕ) (i b w h : ℕ) → w < 4294967296 → w ≡ content ws i → h ≡ side b (bit_and w 65535) (w / 2 ^ 16) → link_in h ≡ child ws i b
@@ -53,27 +53,27 @@ child-half ws i (suc b) w h bw e eh = ap link_in eh ∙ right-half ws i w bw e
 -- ---- the new word: node c on the side of the bit b, and the other half of w
 
 module _ (w c l r : ℕ) (bw : w < 4294967296) (bc : c < 65535) where
-  relinked-sum : (b : ℕ) → l ≡ side b c (bit_and w 65535) → r ≡ side b (w / 2 ^ 16) c → l + r * 2 ^ 16 % 2 ^ 32 ≡ side b (c + 65536 * (w / 65536 % 65536)) (w % 65536 + 65536 * c)
+  relinked_sum : (b : ℕ) → l ≡ side b c (bit_and w 65535) → r ≡ side b (w / 2 ^ 16) c → l + r * 2 ^ 16 % 2 ^ 32 ≡ side b (c + 65536 * (w / 65536 % 65536)) (w % 65536 + 65536 * c)
   unfolding side
-  relinked-sum zero el er = omega (arith, el, er, high_half w bw)
-  relinked-sum (suc b) el er = omega (arith, el, er, low_half w)
+  relinked_sum zero el er = omega (arith, el, er, high_half w bw)
+  relinked_sum (suc b) el er = omega (arith, el, er, low_half w)
 
   -- it is a word
-  pub relinked-lt : (b : ℕ) → l ≡ side b c (bit_and w 65535) → r ≡ side b (w / 2 ^ 16) c → l + r * 2 ^ 16 % 2 ^ 32 < 4294967296
+  pub relinked_lt : (b : ℕ) → l ≡ side b c (bit_and w 65535) → r ≡ side b (w / 2 ^ 16) c → l + r * 2 ^ 16 % 2 ^ 32 < 4294967296
   unfolding side
-  relinked-lt zero el er = rw (relinked-sum 0 el er) (omega arith)
-  relinked-lt (suc b) el er = rw (relinked-sum (suc b) el er) (omega arith)
+  relinked_lt zero el er = rw (relinked_sum 0 el er) (omega arith)
+  relinked_lt (suc b) el er = rw (relinked_sum (suc b) el er) (omega arith)
 
-  pub relinked-is : (b : ℕ) → l ≡ side b c (bit_and w 65535) → r ≡ side b (w / 2 ^ 16) c → l + r * 2 ^ 16 % 2 ^ 32 ≡ links (side b c (link_in (w % 65536))) (side b (link_in (w / 65536 % 65536)) c)
+  pub relinked_is : (b : ℕ) → l ≡ side b c (bit_and w 65535) → r ≡ side b (w / 2 ^ 16) c → l + r * 2 ^ 16 % 2 ^ 32 ≡ links (side b c (link_in (w % 65536))) (side b (link_in (w / 65536 % 65536)) c)
   unfolding side
-  relinked-is zero el er =
+  relinked_is zero el er =
       let n : half c ≡ c = half-node c (λ e. omega arith) in
-      let p : half (link_in (w / 65536 % 65536)) ≡ w / 65536 % 65536 = half-linkIn (w / 65536 % 65536) (omega arith) in
-      relinked-sum 0 el er ∙ sym (links-sum c (link_in (w / 65536 % 65536)) (omega (arith, n)) (omega (arith, p)) ∙ omega (arith, n, p))
-  relinked-is (suc b) el er =
+      let p : half (link_in (w / 65536 % 65536)) ≡ w / 65536 % 65536 = half-link_in (w / 65536 % 65536) (omega arith) in
+      relinked_sum 0 el er ∙ sym (links-sum c (link_in (w / 65536 % 65536)) (omega (arith, n)) (omega (arith, p)) ∙ omega (arith, n, p))
+  relinked_is (suc b) el er =
       let n : half c ≡ c = half-node c (λ e. omega arith) in
-      let p : half (link_in (w % 65536)) ≡ w % 65536 = half-linkIn (w % 65536) (omega arith) in
-      relinked-sum (suc b) el er ∙ sym (links-sum (link_in (w % 65536)) c (omega (arith, p)) (omega (arith, n)) ∙ omega (arith, n, p))
+      let p : half (link_in (w % 65536)) ≡ w % 65536 = half-link_in (w % 65536) (omega arith) in
+      relinked_sum (suc b) el er ∙ sym (links-sum (link_in (w % 65536)) c (omega (arith, p)) (omega (arith, n)) ∙ omega (arith, n, p))
 
 -- the other half
 pub other_half : (b w h : ℕ) → w < 4294967296 → h ≡ side b (w / 2 ^ 16) (bit_and w 65535) → (h < 65536) × (link_in h ≡ side b (link_in (w / 65536 % 65536)) (link_in (w % 65536)))
@@ -89,30 +89,30 @@ unfolding sibling left right
 sibling-half ws old b w e = rw e
 
 -- a node of the new path: n is its second word
-pub copied-node : (ws : List ℕ) (i old b next w n h : ℕ) {w₁ w₂ : List ℕ} → b < 2 → w ≡ content ws old → n ≡ links (side b next (link_in (w % 65536))) (side b (link_in (w / 65536 % 65536)) next)
-    → link_in h ≡ side b (link_in (w / 65536 % 65536)) (link_in (w % 65536)) → w₁ ≡ setNode ws i 1 n → w₂ ≡ retain w₁ (link_in h) → w₂ ≡ pathNode ws i b next (sibling ws old b)
-unfolding pathNode sibling side left right
-copied-node ws i old zero next w n h lt e en eh e₁ e₂ = rw (e₂, e₁, en, eh, e)
-copied-node ws i old (suc zero) next w n h lt e en eh e₁ e₂ = rw (e₂, e₁, en, eh, e)
-copied-node ws i old (suc (suc b)) next w n h lt e en eh e₁ e₂ = absurd (omega arith)
+pub copied_node : (ws : List ℕ) (i old b next w n h : ℕ) {w₁ w₂ : List ℕ} → b < 2 → w ≡ content ws old → n ≡ links (side b next (link_in (w % 65536))) (side b (link_in (w / 65536 % 65536)) next)
+    → link_in h ≡ side b (link_in (w / 65536 % 65536)) (link_in (w % 65536)) → w₁ ≡ set_node ws i 1 n → w₂ ≡ retain w₁ (link_in h) → w₂ ≡ path_node ws i b next (sibling ws old b)
+unfolding path_node sibling side left right
+copied_node ws i old zero next w n h lt e en eh e₁ e₂ = rw (e₂, e₁, en, eh, e)
+copied_node ws i old (suc zero) next w n h lt e en eh e₁ e₂ = rw (e₂, e₁, en, eh, e)
+copied_node ws i old (suc (suc b)) next w n h lt e en eh e₁ e₂ = absurd (omega arith)
 
 -- ---- the word of two links
 
-pub packed-links : (l r a b w : ℕ) → a ≡ half l → b ≡ half r → w ≡ (a + b * 2 ^ 16 % 2 ^ 32) % 2 ^ 32 → w ≡ links l r
+pub packed_links : (l r a b w : ℕ) → a ≡ half l → b ≡ half r → w ≡ (a + b * 2 ^ 16 % 2 ^ 32) % 2 ^ 32 → w ≡ links l r
 unfolding links
-packed-links l r a b w ea eb e =
+packed_links l r a b w ea eb e =
     let t : b * 65536 % 4294967296 ≡ 65536 * b % 4294967296 = ap (λ k. k % 4294967296) {x = b * 65536} {y = 65536 * b} (omega arith) in
     e ∙ ap (λ k. (a + k) % 4294967296) t ∙ ap₂ (λ (j k : ℕ). (j + 65536 * k % 4294967296) % 4294967296) ea eb
 
 -- ---- a holder more for the link in a half
 
 pub half_in : (N h : ℕ) → h < 65536 → h ≢ 65535 → Link N (link_in h) → h < N
-half_in N h b o L = link-in (subst (Link N) (linkIn-node h o) L) (λ e. omega arith)
+half_in N h b o L = link_in_lem (subst (Link N) (link_in-node h o) L) (λ e. omega arith)
 
-pub retained-half : (ws : List ℕ) (h c : ℕ) → h < 65536 → h ≢ 65535 → c ≡ plus (get_or ws (2 * h) 0) 1 → set ws (2 * h) c ≡ retain ws (link_in h)
-unfolding retain setRefcount refcount
-retained-half ws h c b o e = rw (linkIn-node h o, ne_eqb h none (λ n. omega arith), e)
+pub retained_half : (ws : List ℕ) (h c : ℕ) → h < 65536 → h ≢ 65535 → c ≡ plus (get_or ws (2 * h) 0) 1 → set ws (2 * h) c ≡ retain ws (link_in h)
+unfolding retain set_refcount refcount
+retained_half ws h c b o e = rw (link_in-node h o, ne_eqb h none (λ n. omega arith), e)
 
-pub retained-none : (ws : List ℕ) (h : ℕ) → h ≡ 65535 → ws ≡ retain ws (link_in h)
+pub retained_none : (ws : List ℕ) (h : ℕ) → h ≡ 65535 → ws ≡ retain ws (link_in h)
 unfolding retain
-retained-none ws h e = rw e
+retained_none ws h e = rw e

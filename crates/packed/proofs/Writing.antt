@@ -11,115 +11,115 @@ use borrow.Author.Tests.{eq-eqb, ne_eqb, lt-ltb, le-ltb}
 use Rattle.words.specs.Tests.{true≢false}
 use Rattle.sizes.specs.Sizes.{bit}
 use Rattle.pool.specs.Links.{Link}
-use Rattle.packed.specs.Pool.{refcount, link_in, nextFree, child, sibling, setNode, setRefcount, setLink, pathNode, copyPath, copyLeaf, renew, firstShared, writeFrom, write}
+use Rattle.packed.specs.Pool.{refcount, link_in, next_free, child, sibling, set_node, set_refcount, set_link, path_node, copy_path, copy_leaf, renew, first_shared, write_from, write}
 use Rattle.packed.specs.Links.{PathIn, CopyIn, IsShared, WriteIn, Wrote}
-use Rattle.packed.specs.Theory.Halves.{linkIn-is}
-use Rattle.packed.proofs.Laws.{parts, path-step, path-end, new-step}
-use Rattle.packed.proofs.Walk.{next-is, next-path}
+use Rattle.packed.specs.Theory.Halves.{link_in_is}
+use Rattle.packed.proofs.Laws.{parts, path_step, path_end, new_step}
+use Rattle.packed.proofs.Walk.{next_is, next_path}
 
 -- ---- the branches of the definitions
 
 module _ (ws : List ℕ) (above i x : ℕ) where
-  first-here : (l : ℕ) → 1 < refcount ws i → firstShared l ws above i x ≡ (suc l, i, above)
-  unfolding firstShared
-  first-here zero h = rw (lt-ltb 1 (refcount ws i) h, firstShared)
-  first-here (suc l) h = rw (lt-ltb 1 (refcount ws i) h, firstShared)
+  first_here : (l : ℕ) → 1 < refcount ws i → first_shared l ws above i x ≡ (suc l, i, above)
+  unfolding first_shared
+  first_here zero h = rw (lt-ltb 1 (refcount ws i) h, first_shared)
+  first_here (suc l) h = rw (lt-ltb 1 (refcount ws i) h, first_shared)
 
-  first-none : refcount ws i ≤ 1 → firstShared zero ws above i x ≡ (0, i, above)
-  unfolding firstShared
-  first-none h = rw (le-ltb 1 (refcount ws i) h, firstShared)
+  first-none : refcount ws i ≤ 1 → first_shared zero ws above i x ≡ (0, i, above)
+  unfolding first_shared
+  first-none h = rw (le-ltb 1 (refcount ws i) h, first_shared)
 
-  first_below : (l : ℕ) → refcount ws i ≤ 1 → firstShared (suc l) ws above i x ≡ firstShared l ws i (child ws i (bit l x)) x
-  unfolding firstShared
-  first_below l h = rw (le-ltb 1 (refcount ws i) h, firstShared)
+  first_below : (l : ℕ) → refcount ws i ≤ 1 → first_shared (suc l) ws above i x ≡ first_shared l ws i (child ws i (bit l x)) x
+  unfolding first_shared
+  first_below l h = rw (le-ltb 1 (refcount ws i) h, first_shared)
 
 module _ (i above h : ℕ) (ws : List ℕ) (free k root x v : ℕ) where
-  from-root : (m : ℕ) → m ≡ h → writeFrom (suc m) i above h ws free k root x v ≡ (let p : List ℕ × ℕ = renew m ws free i x v in (p.0, p.1, k - suc m, free))
-  unfolding writeFrom
-  from-root m e = rw (eq-eqb m h e, writeFrom)
+  from_root : (m : ℕ) → m ≡ h → write_from (suc m) i above h ws free k root x v ≡ (let p : List ℕ × ℕ = renew m ws free i x v in (p.0, p.1, k - suc m, free))
+  unfolding write_from
+  from_root m e = rw (eq-eqb m h e, write_from)
 
-  from-below : (m : ℕ) → m ≢ h → writeFrom (suc m) i above h ws free k root x v ≡ (let p : List ℕ × ℕ = renew m ws free i x v in (setLink p.0 above (bit m x) free, p.1, k - suc m, root))
-  unfolding writeFrom
-  from-below m e = rw (ne_eqb m h e, writeFrom)
+  from_below : (m : ℕ) → m ≢ h → write_from (suc m) i above h ws free k root x v ≡ (let p : List ℕ × ℕ = renew m ws free i x v in (set_link p.0 above (bit m x) free, p.1, k - suc m, root))
+  unfolding write_from
+  from_below m e = rw (ne_eqb m h e, write_from)
 
 -- ---- the new path
 
-pub copy-here : (N l : ℕ) (ws : List ℕ) (i old x : ℕ) → CopyIn N l ws i old x → i < N
+pub copy_here : (N l : ℕ) (ws : List ℕ) (i old x : ℕ) → CopyIn N l ws i old x → i < N
 unfolding CopyIn
-copy-here N zero ws i old x C = C
-copy-here N (suc l) ws i old x C = C.0
+copy_here N zero ws i old x C = C
+copy_here N (suc l) ws i old x C = C.0
 
 -- what a turn meets, and what it leaves for the next
-pub copy-on : (N l : ℕ) (ws : List ℕ) (i old x : ℕ) → 0 < l → CopyIn N l ws i old x
+pub copy_on : (N l : ℕ) (ws : List ℕ) (i old x : ℕ) → 0 < l → CopyIn N l ws i old x
     → (i < N) × (old < N) × Link N (sibling ws old (bit (l - 1) x))
-    × CopyIn N (l - 1) (pathNode ws i (bit (l - 1) x) (nextFree ws i) (sibling ws old (bit (l - 1) x))) (nextFree ws i) (child ws old (bit (l - 1) x)) x
+    × CopyIn N (l - 1) (path_node ws i (bit (l - 1) x) (next_free ws i) (sibling ws old (bit (l - 1) x))) (next_free ws i) (child ws old (bit (l - 1) x)) x
 unfolding CopyIn
-copy-on N zero ws i old x h C = absurd (omega arith)
-copy-on N (suc l) ws i old x h C = rw sub-one C
+copy_on N zero ws i old x h C = absurd (omega arith)
+copy_on N (suc l) ws i old x h C = rw sub-one C
 
-pub copy-next : (N l : ℕ) (ws : List ℕ) (i old x : ℕ) {next : ℕ} → 0 < l → CopyIn N l ws i old x → next ≡ nextFree ws i → next < N
-copy-next N l ws i old x h C e = subst (λ k. k < N) (sym e) (copy-here N (l - 1) _ _ _ x (copy-on N l ws i old x h C).3)
+pub copy_next : (N l : ℕ) (ws : List ℕ) (i old x : ℕ) {next : ℕ} → 0 < l → CopyIn N l ws i old x → next ≡ next_free ws i → next < N
+copy_next N l ws i old x h C e = subst (λ k. k < N) (sym e) (copy_here N (l - 1) _ _ _ x (copy_on N l ws i old x h C).3)
 
 -- the new path from here on meets nodes only, makes p, and has the leaf j
 abbrev pub Copies : ℕ → ℕ → List ℕ → ℕ → ℕ → ℕ → ℕ → List ℕ × ℕ → ℕ → Type 0
-Copies N l ws i old x v p j = CopyIn N l ws i old x × (copyPath l ws i old x v ≡ p) × (copyLeaf l ws i old x ≡ j)
+Copies N l ws i old x v p j = CopyIn N l ws i old x × (copy_path l ws i old x v ≡ p) × (copy_leaf l ws i old x ≡ j)
 
 -- the copied node may be told by its half: the last one is not read
-by-half : (N l : ℕ) (ws : List ℕ) (i old from x v : ℕ) {p : List ℕ × ℕ} {j : ℕ} → N < 4294967296 → link_in from ≡ old → Copies N l ws i old x v p j → Copies N l ws i from x v p j
-unfolding CopyIn copyPath copyLeaf
-by-half N zero ws i old from x v n e C = C
-by-half N (suc l) ws i old from x v {p} {j} n e C = subst (λ o. Copies N (suc l) ws i o x v p j) (sym (linkIn-is from old e C.0.1 (omega arith))) C
+by_half : (N l : ℕ) (ws : List ℕ) (i old from x v : ℕ) {p : List ℕ × ℕ} {j : ℕ} → N < 4294967296 → link_in from ≡ old → Copies N l ws i old x v p j → Copies N l ws i from x v p j
+unfolding CopyIn copy_path copy_leaf
+by_half N zero ws i old from x v n e C = C
+by_half N (suc l) ws i old from x v {p} {j} n e C = subst (λ o. Copies N (suc l) ws i o x v p j) (sym (link_in_is from old e C.0.1 (omega arith))) C
 
-pub copy-turn : (N l : ℕ) (ws : List ℕ) (i old x v down : ℕ) {next : ℕ} {w : List ℕ} {p : List ℕ × ℕ} {j : ℕ} → N < 4294967296 → 0 < l → Copies N l ws i old x v p j →
-    next ≡ nextFree ws i → link_in down ≡ child ws old (bit (l - 1) x) → w ≡ pathNode ws i (bit (l - 1) x) next (sibling ws old (bit (l - 1) x)) → Copies N (l - 1) w next down x v p j
-copy-turn N l ws i old x v down b h C n d w =
-    by-half N (l - 1) _ _ _ down x v b d (rw (w, n) ((copy-on N l ws i old x h C.0).3, path-step l ws i old x v h ∙ C.1, new-step l ws i old x h ∙ C.2))
+pub copy_turn : (N l : ℕ) (ws : List ℕ) (i old x v down : ℕ) {next : ℕ} {w : List ℕ} {p : List ℕ × ℕ} {j : ℕ} → N < 4294967296 → 0 < l → Copies N l ws i old x v p j →
+    next ≡ next_free ws i → link_in down ≡ child ws old (bit (l - 1) x) → w ≡ path_node ws i (bit (l - 1) x) next (sibling ws old (bit (l - 1) x)) → Copies N (l - 1) w next down x v p j
+copy_turn N l ws i old x v down b h C n d w =
+    by_half N (l - 1) _ _ _ down x v b d (rw (w, n) ((copy_on N l ws i old x h C.0).3, path_step l ws i old x v h ∙ C.1, new_step l ws i old x h ∙ C.2))
 
-pub copy-end : (l : ℕ) (ws : List ℕ) (i old x v : ℕ) {n : ℕ} {w : List ℕ} {p : List ℕ × ℕ} → l ≤ 0 → w ≡ setNode ws i 1 v → n ≡ nextFree ws i → copyPath l ws i old x v ≡ p → (w ≡ p.0) × (n ≡ p.1)
-copy-end l ws i old x v h w n e = rw (w, n) (parts (path-end l ws i old x v h ∙ e))
+pub copy_end : (l : ℕ) (ws : List ℕ) (i old x v : ℕ) {n : ℕ} {w : List ℕ} {p : List ℕ × ℕ} → l ≤ 0 → w ≡ set_node ws i 1 v → n ≡ next_free ws i → copy_path l ws i old x v ≡ p → (w ≡ p.0) × (n ≡ p.1)
+copy_end l ws i old x v h w n e = rw (w, n) (parts (path_end l ws i old x v h ∙ e))
 
-pub renew-by : (l : ℕ) (ws : List ℕ) (free old x v : ℕ) {c n : ℕ} {w : List ℕ} → w ≡ (copyPath l ws free old x v).0 → n ≡ (copyPath l ws free old x v).1 → c ≡ get_or w (2 * old) 0 - 1
+pub renew_by : (l : ℕ) (ws : List ℕ) (free old x v : ℕ) {c n : ℕ} {w : List ℕ} → w ≡ (copy_path l ws free old x v).0 → n ≡ (copy_path l ws free old x v).1 → c ≡ get_or w (2 * old) 0 - 1
     → (set w (2 * old) c ≡ (renew l ws free old x v).0) × (n ≡ (renew l ws free old x v).1)
-unfolding renew setRefcount refcount
-renew-by l ws free old x v e n c = rw (c, e, n) (refl, refl)
+unfolding renew set_refcount refcount
+renew_by l ws free old x v e n c = rw (c, e, n) (refl, refl)
 
 -- ---- the way down
 
-first-turn : (l : ℕ) (ws : List ℕ) (a i x : ℕ) → 0 < l → refcount ws i ≤ 1 → firstShared (l - 1) ws i (child ws i (bit (l - 1) x)) x ≡ firstShared l ws a i x
-first-turn zero ws a i x h c = absurd (omega arith)
-first-turn (suc l) ws a i x h c = rw sub-one (sym (first_below ws a i x l c))
+first_turn : (l : ℕ) (ws : List ℕ) (a i x : ℕ) → 0 < l → refcount ws i ≤ 1 → first_shared (l - 1) ws i (child ws i (bit (l - 1) x)) x ≡ first_shared l ws a i x
+first_turn zero ws a i x h c = absurd (omega arith)
+first_turn (suc l) ws a i x h c = rw sub-one (sym (first_below ws a i x l c))
 
 -- the node i of level l has one holder, and the walk from here on finds p
 pub record Walked (N l : ℕ) (ws : List ℕ) (x i : ℕ) (p : ℕ × ℕ × ℕ) : Type 0 where
   pub above : ℕ
   pub path : PathIn N ws l i x
   pub one : refcount ws i ≤ 1
-  pub finds : firstShared l ws above i x ≡ p
+  pub finds : first_shared l ws above i x ≡ p
 
 -- the root
-pub root-shared : (h : ℕ) (ws : List ℕ) (root x : ℕ) {c : ℕ} → c ≡ refcount ws root → 1 < c → IsShared h true h root root (firstShared h ws root root x)
-root-shared h ws root x d c = rw (first-here ws root root x h (subst (λ k. 1 < k) d c)) (record { rest = refl; found = refl; linked = λ _ b. absurd (omega arith) })
+pub root_shared_lem : (h : ℕ) (ws : List ℕ) (root x : ℕ) {c : ℕ} → c ≡ refcount ws root → 1 < c → IsShared h true h root root (first_shared h ws root root x)
+root_shared_lem h ws root x d c = rw (first_here ws root root x h (subst (λ k. 1 < k) d c)) (record { rest = refl; found = refl; linked = λ _ b. absurd (omega arith) })
 
-pub root-alone : (N h : ℕ) (ws : List ℕ) (root x : ℕ) {c : ℕ} → PathIn N ws h root x → c ≡ refcount ws root → c ≤ 1 → Walked N h ws x root (firstShared h ws root root x)
-root-alone N h ws root x P d c = record { above = root; path = P; one = subst (λ k. k ≤ 1) d c; finds = refl }
+pub root_alone : (N h : ℕ) (ws : List ℕ) (root x : ℕ) {c : ℕ} → PathIn N ws h root x → c ≡ refcount ws root → c ≤ 1 → Walked N h ws x root (first_shared h ws root root x)
+root_alone N h ws root x P d c = record { above = root; path = P; one = subst (λ k. k ≤ 1) d c; finds = refl }
 
 module _ {N l : ℕ} {ws : List ℕ} {x i : ℕ} {p : ℕ × ℕ × ℕ} (A : Walked N l ws x i p) (h : 0 < l) (n : N < 4294967296) (next : ℕ) (e : link_in next ≡ child ws i (bit (l - 1) x)) where
-  below : firstShared (l - 1) ws i next x ≡ p
-  below = ap (λ k. firstShared (l - 1) ws i k x) (next-is N l ws i x next A.path h n e) ∙ first-turn l ws A.above i x h A.one ∙ A.finds
+  below : first_shared (l - 1) ws i next x ≡ p
+  below = ap (λ k. first_shared (l - 1) ws i k x) (next_is N l ws i x next A.path h n e) ∙ first_turn l ws A.above i x h A.one ∙ A.finds
 
   module _ {c : ℕ} (ec : c ≡ refcount ws next) where
     -- the next node has one holder too
-    pub goes_on : c ≤ 1 → Walked N (l - 1) ws x next p
-    goes_on b = record { above = i; path = next-path N l ws i x next A.path h n e; one = subst (λ k. k ≤ 1) ec b; finds = below }
+    pub goes_on_lem : c ≤ 1 → Walked N (l - 1) ws x next p
+    goes_on_lem b = record { above = i; path = next_path N l ws i x next A.path h n e; one = subst (λ k. k ≤ 1) ec b; finds = below }
 
     -- it has more
     pub next-shared : {k : ℕ} → 1 < c → IsShared k true (l - 1) next i p
-    next-shared b = (let f = sym (first-here ws i next x (l - 1) (subst (λ k. 1 < k) ec b)) ∙ below in
+    next-shared b = (let f = sym (first_here ws i next x (l - 1) (subst (λ k. 1 < k) ec b)) ∙ below in
         rw (sym f) (record { rest = refl; found = refl; linked = λ _ _. refl }))
 
 -- the leaf
-pub leaf-alone : {N l h : ℕ} {ws : List ℕ} {x i a : ℕ} {p : ℕ × ℕ × ℕ} → Walked N l ws x i p → l ≤ 0 → IsShared h false 0 i a p
-leaf-alone {N} {l} {h} {ws} {x} {i} A b = (let f = sym (first-none ws A.above i x A.one) ∙ ap (λ k. firstShared k ws A.above i x) {x = 0} {y = l} (omega arith) ∙ A.finds in
+pub leaf_alone : {N l h : ℕ} {ws : List ℕ} {x i a : ℕ} {p : ℕ × ℕ × ℕ} → Walked N l ws x i p → l ≤ 0 → IsShared h false 0 i a p
+leaf_alone {N} {l} {h} {ws} {x} {i} A b = (let f = sym (first-none ws A.above i x A.one) ∙ ap (λ k. first_shared k ws A.above i x) {x = 0} {y = l} (omega arith) ∙ A.finds in
     rw (sym f) (record { rest = refl; found = refl; linked = λ e. absurd (true≢false (sym e)) }))
 
 -- ---- the write
@@ -131,42 +131,42 @@ less_one : (k m : ℕ) → k - m - 1 ≡ k - suc m
 less_one k m = omega arith
 
 -- of a shared node: m is its level, and i the node, with a above it
-module _ (h : ℕ) (ws : List ℕ) (free k root x v : ℕ) {b : Bool} {m i a : ℕ} (shared : b ≡ true) (f : IsShared h b m i a (firstShared h ws root root x)) where
+module _ (h : ℕ) (ws : List ℕ) (free k root x v : ℕ) {b : Bool} {m i a : ℕ} (shared : b ≡ true) (f : IsShared h b m i a (first_shared h ws root root x)) where
   abbrev p : ℕ × ℕ × ℕ
-  p = firstShared h ws root root x
+  p = first_shared h ws root root x
 
-  rest-is : p.0 ≡ suc m
-  rest-is = f.rest ∙ ap (λ b. cond b (suc m) 0) shared
+  rest_is : p.0 ≡ suc m
+  rest_is = f.rest ∙ ap (λ b. cond b (suc m) 0) shared
 
-  from : writeFrom (suc m) i p.2 h ws free k root x v ≡ write h ws free k root x v
+  from : write_from (suc m) i p.2 h ws free k root x v ≡ write h ws free k root x v
   unfolding write
-  from = rw (sym rest-is, f.found)
+  from = rw (sym rest_is, f.found)
 
   module _ {N : ℕ} (W : WriteIn N h ws free x p) where
     pub level_in : m ≤ h
-    level_in = omega (arith, rest-is, W.within)
+    level_in = omega (arith, rest_is, W.within)
 
     pub node_in : i < N
     node_in = omega (arith, f.found, W.node)
 
-    pub copies-in : CopyIn N m ws free i x
-    copies-in =
-        let e : p.0 - 1 ≡ m = omega (arith, rest-is) in
-        subst (λ j. CopyIn N m ws free j x) (sym f.found) (subst (λ l. CopyIn N l ws free p.1 x) e (W.copies (omega (arith, rest-is))))
+    pub copies_in : CopyIn N m ws free i x
+    copies_in =
+        let e : p.0 - 1 ≡ m = omega (arith, rest_is) in
+        subst (λ j. CopyIn N m ws free j x) (sym f.found) (subst (λ l. CopyIn N l ws free p.1 x) e (W.copies (omega (arith, rest_is))))
 
-    pub free_in : free < N
-    free_in = copy-here N m ws free i x copies-in
+    pub free_in_lem : free < N
+    free_in_lem = copy_here N m ws free i x copies_in
 
     pub above_in : m < h → a < N
-    above_in l = omega (arith, f.linked shared l, W.above (omega (arith, rest-is)) (omega (arith, rest-is)))
+    above_in l = omega (arith, f.linked shared l, W.above (omega (arith, rest_is)) (omega (arith, rest_is)))
 
   pub write_root : {w : List ℕ} {n : ℕ} → m ≡ h → (w ≡ (renew m ws free i x v).0) × (n ≡ (renew m ws free i x v).1) → Wrote (write h ws free k root x v) w n (k - m - 1) free
   write_root e r =
-      let t = wrote (sym (from-root i p.2 h ws free k root x v m e) ∙ from) in
+      let t = wrote (sym (from_root i p.2 h ws free k root x v m e) ∙ from) in
       rw (r.0, r.1) (t.0, t.1, less_one k m ∙ t.2, t.3)
 
-  pub write-below : {w w' : List ℕ} {n : ℕ} → m < h → (w ≡ (renew m ws free i x v).0) × (n ≡ (renew m ws free i x v).1) → w' ≡ setLink w a (bit m x) free → Wrote (write h ws free k root x v) w' n (k - m - 1) root
+  pub write-below : {w w' : List ℕ} {n : ℕ} → m < h → (w ≡ (renew m ws free i x v).0) × (n ≡ (renew m ws free i x v).1) → w' ≡ set_link w a (bit m x) free → Wrote (write h ws free k root x v) w' n (k - m - 1) root
   write-below {w = w} l r s =
-      let t = wrote (sym (from-below i p.2 h ws free k root x v m (λ e. omega arith)) ∙ from) in
-      let g : setLink w a (bit m x) free ≡ setLink w p.2 (bit m x) free = ap (λ j. setLink w j (bit m x) free) (f.linked shared l) in
+      let t = wrote (sym (from_below i p.2 h ws free k root x v m (λ e. omega arith)) ∙ from) in
+      let g : set_link w a (bit m x) free ≡ set_link w p.2 (bit m x) free = ap (λ j. set_link w j (bit m x) free) (f.linked shared l) in
       rw (s, g, r.0, r.1) (t.0, t.1, less_one k m ∙ t.2, t.3)

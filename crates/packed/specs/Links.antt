@@ -2,28 +2,28 @@
 use Rattle.std.specs.Prelude.{◌≡◌, Bool, true, false, cond, List, ℕ, zero, suc, ◌-◌, ◌≤◌, ◌<◌}
 use Rattle.sizes.specs.Sizes.{bit}
 use Rattle.pool.specs.Links.{Link}
-use Rattle.packed.specs.Pool.{refcount, child, sibling, nextFree, release, pathNode}
+use Rattle.packed.specs.Pool.{refcount, child, sibling, next_free, release, path_node}
 
 -- the walk of so many levels from node i to splitter x meets nodes only
 abbrev pub PathIn : ℕ → List ℕ → ℕ → ℕ → ℕ → Type 0
 PathIn N ws zero i x = i < N
 PathIn N ws (suc l) i x = (i < N) × PathIn N ws l (child ws i (bit l x)) x
 
--- the new path of copyPath from level l down: its nodes are nodes, and so are those that it copies
+-- the new path of copy_path from level l down: its nodes are nodes, and so are those that it copies
 unfoldable pub CopyIn : ℕ → ℕ → List ℕ → ℕ → ℕ → ℕ → Type 0
 CopyIn N zero ws i old x = i < N
 CopyIn N (suc l) ws i old x =
     (i < N) × (old < N) × Link N (sibling ws old (bit l x))
-    × CopyIn N l (pathNode ws i (bit l x) (nextFree ws i) (sibling ws old (bit l x))) (nextFree ws i) (child ws old (bit l x)) x
+    × CopyIn N l (path_node ws i (bit l x) (next_free ws i) (sibling ws old (bit l x))) (next_free ws i) (child ws old (bit l x)) x
 
--- what the walk tells of p, which firstShared gives: whether a node is shared and its level; the node, or the leaf; and the node above it, if
+-- what the walk tells of p, which first_shared gives: whether a node is shared and its level; the node, or the leaf; and the node above it, if
 -- it is not the root
 pub record IsShared (h : ℕ) (shared : Bool) (level node above : ℕ) (p : ℕ × ℕ × ℕ) : Type 0 where
   pub rest : p.0 ≡ cond shared (suc level) 0
   pub found : node ≡ p.1
   pub linked : shared ≡ true → level < h → above ≡ p.2
 
--- a write to x in a tree of height h meets nodes only, where p is what firstShared gives
+-- a write to x in a tree of height h meets nodes only, where p is what first_shared gives
 pub record WriteIn (N h : ℕ) (ws : List ℕ) (free x : ℕ) (p : ℕ × ℕ × ℕ) : Type 0 where
   pub within : p.0 ≤ suc h
   pub node : p.1 < N

@@ -8,16 +8,16 @@ use Rattle.packed.specs.Pool.{links}
 
 -- the second word of node i as a two-word node: "left plus 65,536 times right for inner nodes with 65,535 for none, the value for a leaf, the next free
 -- node or none for a free one". In a sound pool a node without holders is free, and one with holders and without a left link is a leaf
-unfoldable pub packedContent : List ℕ → ℕ → ℕ
-packedContent ws i =
-    cond (eqb (Four.refcount ws i) 0) (Four.nextFree ws i)
+unfoldable pub packed_content : List ℕ → ℕ → ℕ
+packed_content ws i =
+    cond (eqb (Four.refcount ws i) 0) (Four.next_free ws i)
     (cond (eqb (Four.left ws i) none) (Four.value ws i) (links (Four.left ws i) (Four.right ws i)))
 
 -- the two words of each of c nodes from node i on
-unfoldable pub packedFrom : ℕ → List ℕ → ℕ → List ℕ
-packedFrom zero ws i = []
-packedFrom (suc c) ws i = Four.refcount ws i ∷ packedContent ws i ∷ packedFrom c ws (suc i)
+unfoldable pub packed_from : ℕ → List ℕ → ℕ → List ℕ
+packed_from zero ws i = []
+packed_from (suc c) ws i = Four.refcount ws i ∷ packed_content ws i ∷ packed_from c ws (suc i)
 
 -- "turn it into two-word nodes in the front of the same slice, the old nodes' remaining words zero"; "Words past the old nodes never change."
 unfoldable pub converted : ℕ → List ℕ → List ℕ
-converted N ws = packedFrom N ws 0 ++ (replicate (2 * N) 0 ++ drop (4 * N) ws)
+converted N ws = packed_from N ws 0 ++ (replicate (2 * N) 0 ++ drop (4 * N) ws)

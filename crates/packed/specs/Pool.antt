@@ -39,17 +39,17 @@ abbrev pub value : List ℕ → ℕ → ℕ
 value ws i = content ws i
 
 -- of a free node
-abbrev pub nextFree : List ℕ → ℕ → ℕ
-nextFree ws i = content ws i
+abbrev pub next_free : List ℕ → ℕ → ℕ
+next_free ws i = content ws i
 
-unfoldable pub setNode : List ℕ → ℕ → ℕ → ℕ → List ℕ
-setNode ws i c w = set (set ws (2 * i) c) (2 * i + 1) w
+unfoldable pub set_node : List ℕ → ℕ → ℕ → ℕ → List ℕ
+set_node ws i c w = set (set ws (2 * i) c) (2 * i + 1) w
 
-unfoldable pub setRefcount : List ℕ → ℕ → ℕ → List ℕ
-setRefcount ws i c = set ws (2 * i) c
+unfoldable pub set_refcount : List ℕ → ℕ → ℕ → List ℕ
+set_refcount ws i c = set ws (2 * i) c
 
-unfoldable pub setContent : List ℕ → ℕ → ℕ → List ℕ
-setContent ws i w = set ws (2 * i + 1) w
+unfoldable pub set_content : List ℕ → ℕ → ℕ → List ℕ
+set_content ws i w = set ws (2 * i + 1) w
 
 -- ---- the walk
 
@@ -61,22 +61,22 @@ unfoldable pub sibling : List ℕ → ℕ → ℕ → ℕ
 sibling ws i b = side b (right ws i) (left ws i)
 
 -- the leaf of splitter x under node i of level l
-unfoldable pub leafOf : ℕ → List ℕ → ℕ → ℕ → ℕ
-leafOf zero ws i x = i
-leafOf (suc l) ws i x = leafOf l ws (child ws i (bit l x)) x
+unfoldable pub leaf_of : ℕ → List ℕ → ℕ → ℕ → ℕ
+leaf_of zero ws i x = i
+leaf_of (suc l) ws i x = leaf_of l ws (child ws i (bit l x)) x
 
 -- what the frame with this root reads at splitter x
-unfoldable pub readAt : ℕ → List ℕ → ℕ → ℕ → ℕ
-readAt h ws root x = value ws (leafOf h ws root x)
+unfoldable pub read_at : ℕ → List ℕ → ℕ → ℕ → ℕ
+read_at h ws root x = value ws (leaf_of h ws root x)
 
 -- ---- stores
 
-unfoldable pub setValue : List ℕ → ℕ → ℕ → List ℕ
-setValue ws i v = setContent ws i v
+unfoldable pub set_value : List ℕ → ℕ → ℕ → List ℕ
+set_value ws i v = set_content ws i v
 
 -- the link on side b
-unfoldable pub setLink : List ℕ → ℕ → ℕ → ℕ → List ℕ
-setLink ws i b c = setContent ws i (links (side b c (left ws i)) (side b (right ws i) c))
+unfoldable pub set_link : List ℕ → ℕ → ℕ → ℕ → List ℕ
+set_link ws i b c = set_content ws i (links (side b c (left ws i)) (side b (right ws i) c))
 
 -- ---- reference counts
 
@@ -86,11 +86,11 @@ shared ws i = ltb 1 (refcount ws i)
 
 -- one holder more; no node, no change
 unfoldable pub retain : List ℕ → ℕ → List ℕ
-retain ws i = cond (eqb i none) ws (setRefcount ws i (plus (refcount ws i) 1))
+retain ws i = cond (eqb i none) ws (set_refcount ws i (plus (refcount ws i) 1))
 
 -- the node i at the head of the free list
 abbrev pub freed : List ℕ → ℕ → ℕ → List ℕ
-freed ws free i = setNode ws i 0 free
+freed ws free i = set_node ws i 0 free
 
 -- "To release is to lower holders by one; at zero the node is freed, then its left link is released, then its right."
 -- The words, the first free node and the number of free nodes after a release of node i of level l; k nodes were free. What is none of the N
@@ -98,7 +98,7 @@ freed ws free i = setNode ws i 0 free
 unfoldable pub release : ℕ → ℕ → List ℕ → ℕ → ℕ → ℕ → List ℕ × ℕ × ℕ
 release N zero ws free k i =
     elim (ltb i N) [
-      | true ↦ elim (eqb (refcount ws i - 1) 0) [ true ↦ (freed ws free i, i, plus k 1) | false ↦ (setRefcount ws i (refcount ws i - 1), free, k) ]
+      | true ↦ elim (eqb (refcount ws i - 1) 0) [ true ↦ (freed ws free i, i, plus k 1) | false ↦ (set_refcount ws i (refcount ws i - 1), free, k) ]
       | false ↦ (ws, free, k)
     ]
 release N (suc l) ws free k i =
@@ -108,7 +108,7 @@ release N (suc l) ws free k i =
             | true ↦
                 let p : List ℕ × ℕ × ℕ = release N l (freed ws free i) i (plus k 1) (left ws i) in
                 release N l p.0 p.1 p.2 (right ws i)
-            | false ↦ (setRefcount ws i (refcount ws i - 1), free, k)
+            | false ↦ (set_refcount ws i (refcount ws i - 1), free, k)
           ]
       | false ↦ (ws, free, k)
     ]
@@ -116,89 +116,89 @@ release N (suc l) ws free k i =
 -- ---- a write
 
 -- a node of the new path: the next new node on side b, and on the other the kept sibling, which gains a holder
-unfoldable pub pathNode : List ℕ → ℕ → ℕ → ℕ → ℕ → List ℕ
-pathNode ws i b next kept = retain (setNode ws i 1 (links (side b next kept) (side b kept next))) kept
+unfoldable pub path_node : List ℕ → ℕ → ℕ → ℕ → ℕ → List ℕ
+path_node ws i b next kept = retain (set_node ws i 1 (links (side b next kept) (side b kept next))) kept
 
 -- the new path to x beside the old node's siblings, from level l down, in nodes of the free list from i on; and the
 -- next free node
-unfoldable pub copyPath : ℕ → List ℕ → ℕ → ℕ → ℕ → ℕ → List ℕ × ℕ
-copyPath zero ws i old x v = (setNode ws i 1 v, nextFree ws i)
-copyPath (suc l) ws i old x v =
-    copyPath l (pathNode ws i (bit l x) (nextFree ws i) (sibling ws old (bit l x))) (nextFree ws i) (child ws old (bit l x)) x v
+unfoldable pub copy_path : ℕ → List ℕ → ℕ → ℕ → ℕ → ℕ → List ℕ × ℕ
+copy_path zero ws i old x v = (set_node ws i 1 v, next_free ws i)
+copy_path (suc l) ws i old x v =
+    copy_path l (path_node ws i (bit l x) (next_free ws i) (sibling ws old (bit l x))) (next_free ws i) (child ws old (bit l x)) x v
 
 -- the rest of the path, new, from level l down, in the place of the node old, which has one holder less then. The words and the next free
 -- node; the first new node is the one that was free first
 unfoldable pub renew : ℕ → List ℕ → ℕ → ℕ → ℕ → ℕ → List ℕ × ℕ
 renew l ws free old x v =
-    let p : List ℕ × ℕ = copyPath l ws free old x v in
-    (setRefcount p.0 old (refcount p.0 old - 1), p.1)
+    let p : List ℕ × ℕ = copy_path l ws free old x v in
+    (set_refcount p.0 old (refcount p.0 old - 1), p.1)
 
 -- on the way to x from node i of level l, with `above` above it, the first node with more holders, or else the leaf. How many nodes the
 -- rest of the path has from there (none if no node is shared), this node, and the node above it
-unfoldable pub firstShared : ℕ → List ℕ → ℕ → ℕ → ℕ → ℕ × ℕ × ℕ
-firstShared zero ws above i x = (cond (shared ws i) 1 0, i, above)
-firstShared (suc l) ws above i x = elim (shared ws i) [ true ↦ (suc (suc l), i, above) | false ↦ firstShared l ws i (child ws i (bit l x)) x ]
+unfoldable pub first_shared : ℕ → List ℕ → ℕ → ℕ → ℕ → ℕ × ℕ × ℕ
+first_shared zero ws above i x = (cond (shared ws i) 1 0, i, above)
+first_shared (suc l) ws above i x = elim (shared ws i) [ true ↦ (suc (suc l), i, above) | false ↦ first_shared l ws i (child ws i (bit l x)) x ]
 
 -- how many nodes a write to x takes
 unfoldable pub rest : ℕ → List ℕ → ℕ → ℕ → ℕ
-rest h ws root x = (firstShared h ws root root x).0
+rest h ws root x = (first_shared h ws root root x).0
 
 -- the write, where the rest of the path has r nodes, from node i on, with `above` above it. With none shared the leaf i gets the
 -- value; else the rest is new, and the link to it is that of the node above, or the frame's root. k nodes were free. The words, the
 -- first free node, the number of free nodes, and the frame's root afterwards
-unfoldable pub writeFrom : ℕ → ℕ → ℕ → ℕ → List ℕ → ℕ → ℕ → ℕ → ℕ → ℕ → List ℕ × ℕ × ℕ × ℕ
-writeFrom zero i above h ws free k root x v = (setValue ws i v, free, k, root)
-writeFrom (suc m) i above h ws free k root x v =
+unfoldable pub write_from : ℕ → ℕ → ℕ → ℕ → List ℕ → ℕ → ℕ → ℕ → ℕ → ℕ → List ℕ × ℕ × ℕ × ℕ
+write_from zero i above h ws free k root x v = (set_value ws i v, free, k, root)
+write_from (suc m) i above h ws free k root x v =
     let p : List ℕ × ℕ = renew m ws free i x v in
-    elim (eqb m h) [ true ↦ (p.0, p.1, k - suc m, free) | false ↦ (setLink p.0 above (bit m x) free, p.1, k - suc m, root) ]
+    elim (eqb m h) [ true ↦ (p.0, p.1, k - suc m, free) | false ↦ (set_link p.0 above (bit m x) free, p.1, k - suc m, root) ]
 
 unfoldable pub write : ℕ → List ℕ → ℕ → ℕ → ℕ → ℕ → ℕ → List ℕ × ℕ × ℕ × ℕ
 write h ws free k root x v =
-    let p : ℕ × ℕ × ℕ = firstShared h ws root root x in
-    writeFrom p.0 p.1 p.2 h ws free k root x v
+    let p : ℕ × ℕ × ℕ = first_shared h ws root root x in
+    write_from p.0 p.1 p.2 h ws free k root x v
 
--- R-10: the leaf that copyPath makes
-unfoldable pub copyLeaf : ℕ → List ℕ → ℕ → ℕ → ℕ → ℕ
-copyLeaf zero ws i old x = i
-copyLeaf (suc l) ws i old x =
-    copyLeaf l (pathNode ws i (bit l x) (nextFree ws i) (sibling ws old (bit l x))) (nextFree ws i) (child ws old (bit l x)) x
+-- R-10: the leaf that copy_path makes
+unfoldable pub copy_leaf : ℕ → List ℕ → ℕ → ℕ → ℕ → ℕ
+copy_leaf zero ws i old x = i
+copy_leaf (suc l) ws i old x =
+    copy_leaf l (path_node ws i (bit l x) (next_free ws i) (sibling ws old (bit l x))) (next_free ws i) (child ws old (bit l x)) x
 
 -- the leaf of x after a write, where the rest of the path has r nodes, from node i on: the leaf i with none shared, else the new one
-abbrev pub writtenFrom : ℕ → ℕ → List ℕ → ℕ → ℕ → ℕ
-writtenFrom zero i ws free x = i
-writtenFrom (suc m) i ws free x = copyLeaf m ws free i x
+abbrev pub written_from : ℕ → ℕ → List ℕ → ℕ → ℕ → ℕ
+written_from zero i ws free x = i
+written_from (suc m) i ws free x = copy_leaf m ws free i x
 
-unfoldable pub writtenLeaf : ℕ → List ℕ → ℕ → ℕ → ℕ → ℕ
-writtenLeaf h ws free root x = let p : ℕ × ℕ × ℕ = firstShared h ws root root x in writtenFrom p.0 p.1 ws free x
+unfoldable pub written_leaf : ℕ → List ℕ → ℕ → ℕ → ℕ → ℕ
+written_leaf h ws free root x = let p : ℕ × ℕ × ℕ = first_shared h ws root root x in written_from p.0 p.1 ws free x
 
 -- ---- the start
 
 -- c nodes of one level, from node i on; their children begin at node `below`, of which there are k
-unfoldable pub initLevel : ℕ → List ℕ → ℕ → ℕ → ℕ → List ℕ
-initLevel zero ws i below k = ws
-initLevel (suc c) ws i below k =
-    initLevel c (setNode ws i 1 (links below (cond (ltb 1 k) (plus below 1) none))) (plus i 1) (plus below 2) (k - 2)
+unfoldable pub init_level : ℕ → List ℕ → ℕ → ℕ → ℕ → List ℕ
+init_level zero ws i below k = ws
+init_level (suc c) ws i below k =
+    init_level c (set_node ws i 1 (links below (cond (ltb 1 k) (plus below 1) none))) (plus i 1) (plus below 2) (k - 2)
 
 -- the levels from l down to 1, from node i on; and the first leaf
-unfoldable pub initInner : ℕ → List ℕ → ℕ → ℕ → List ℕ × ℕ
-initInner zero ws n i = (ws, i)
-initInner (suc l) ws n i =
-    initInner l (initLevel (width n (suc l)) ws i (plus i (width n (suc l))) (width n l)) n (plus i (width n (suc l)))
+unfoldable pub init_inner : ℕ → List ℕ → ℕ → ℕ → List ℕ × ℕ
+init_inner zero ws n i = (ws, i)
+init_inner (suc l) ws n i =
+    init_inner l (init_level (width n (suc l)) ws i (plus i (width n (suc l))) (width n l)) n (plus i (width n (suc l)))
 
 -- c leaves from node i on, with the values from j on
-unfoldable pub initLeaves : ℕ → List ℕ → ℕ → List ℕ → ℕ → List ℕ
-initLeaves zero ws i vs j = ws
-initLeaves (suc c) ws i vs j = initLeaves c (setNode ws i 1 (get_or vs j 0)) (plus i 1) vs (plus j 1)
+unfoldable pub init_leaves : ℕ → List ℕ → ℕ → List ℕ → ℕ → List ℕ
+init_leaves zero ws i vs j = ws
+init_leaves (suc c) ws i vs j = init_leaves c (set_node ws i 1 (get_or vs j 0)) (plus i 1) vs (plus j 1)
 
 -- c free nodes from node i on, in rising order
-unfoldable pub initFree : ℕ → List ℕ → ℕ → List ℕ
-initFree zero ws i = ws
-initFree (suc c) ws i = initFree c (setNode ws i 0 (cond (eqb c 0) none (plus i 1))) (plus i 1)
+unfoldable pub init_free : ℕ → List ℕ → ℕ → List ℕ
+init_free zero ws i = ws
+init_free (suc c) ws i = init_free c (set_node ws i 0 (cond (eqb c 0) none (plus i 1))) (plus i 1)
 
 -- "At the start the tree is numbered root first, level by level, left to right; the rest are free in rising order."
 -- n splitters with the values vs, N nodes; and the first free node
-unfoldable pub initPool : List ℕ → ℕ → ℕ → List ℕ → List ℕ × ℕ
-initPool ws n N vs =
-    let p : List ℕ × ℕ = initInner (height n) ws n 0 in
+unfoldable pub init_pool : List ℕ → ℕ → ℕ → List ℕ → List ℕ × ℕ
+init_pool ws n N vs =
+    let p : List ℕ × ℕ = init_inner (height n) ws n 0 in
     let i : ℕ = plus p.1 n in
-    (initFree (N - i) (initLeaves n p.0 p.1 vs 0) i, cond (ltb i N) i none)
+    (init_free (N - i) (init_leaves n p.0 p.1 vs 0) i, cond (ltb i N) i none)

@@ -1,6 +1,6 @@
 // A node's two words: holders, then the links, the value or the next free node. What is past the end reads as 0 and is not stored.
 ghost use Rattle.std.specs.Prelude.{◌≡◌, ◌*◌, ◌<◌, ◌≤◌, length};
-ghost use Rattle.packed.specs.Pool.{content, half, links, nextFree, setNode};
+ghost use Rattle.packed.specs.Pool.{content, half, links, next_free, set_node};
 
 use words::{add, put, word};
 
@@ -10,7 +10,7 @@ pub const NONE: u32 = 4294967295;
 pub const NODE_WORDS: usize = 2;
 
 pub fn next_of(pool: &[u32], i: u32) -> u32
-    ensures { result ≡ nextFree pool.now i }
+    ensures { result ≡ next_free pool.now i }
 {
     word(pool, 2 * (i as usize) + 1)
 }
@@ -30,7 +30,7 @@ pub fn links_of(l: u32, r: u32) -> u32
 }
 
 pub fn set_node(pool: &mut [u32], i: u32, c: u32, w: u32)
-    ensures { pool.new ≡ setNode pool.old i c w }
+    ensures { pool.new ≡ set_node pool.old i c w }
 {
     let at = 2 * (i as usize);
     put(pool, at, c);
@@ -40,7 +40,7 @@ pub fn set_node(pool: &mut [u32], i: u32, c: u32, w: u32)
 // The same for a node in range, with no test.
 pub fn store_node(pool: &mut [u32], nodes: u32, i: usize, c: u32, w: u32)
     requires { (2 * nodes ≤ length pool.old) × (i < nodes) }
-    ensures { pool.new ≡ setNode pool.old i c w }
+    ensures { pool.new ≡ set_node pool.old i c w }
 {
     let at = 2 * i;
     pool[at] = c;

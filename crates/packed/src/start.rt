@@ -1,7 +1,7 @@
 // The initial pool: the tree root first, level by level, left to right; the rest free in rising order.
 ghost use Rattle.std.specs.Prelude.{◌≡◌, cond, get_or};
 ghost use Rattle.words.specs.Basics.{none};
-ghost use Rattle.packed.specs.Pool.{setNode, initLevel, initInner, initLeaves, initFree, initPool};
+ghost use Rattle.packed.specs.Pool.{set_node, init_level, init_inner, init_leaves, init_free, init_pool};
 
 use crate::node::{NONE, links_of, set_node};
 use sizes::{height_of, width_of};
@@ -16,7 +16,7 @@ fn node_if(test: bool, i: u32) -> u32
 
 // `count` nodes of one level from `first` on; their children, `under` in all, begin at `lead`.
 fn init_level(pool: &mut [u32], count: u32, first: u32, lead: u32, under: u32)
-    ensures { pool.new ≡ initLevel count pool.old first lead under }
+    ensures { pool.new ≡ init_level count pool.old first lead under }
 {
     let mut c = count;
     let mut i = first;
@@ -34,8 +34,8 @@ fn init_level(pool: &mut [u32], count: u32, first: u32, lead: u32, under: u32)
 
 // The levels above the leaves, from node `first` on. Gives the first leaf.
 fn init_inner(pool: &mut [u32], height: u32, n: u32, first: u32) -> u32
-    ensures { (pool.new ≡ (initInner height pool.old n first).0)
-        × (result ≡ (initInner height pool.old n first).1) }
+    ensures { (pool.new ≡ (init_inner height pool.old n first).0)
+        × (result ≡ (init_inner height pool.old n first).1) }
 {
     let mut l = height;
     let mut i = first;
@@ -51,7 +51,7 @@ fn init_inner(pool: &mut [u32], height: u32, n: u32, first: u32) -> u32
 
 // A leaf with value j.
 fn init_leaf(pool: &mut [u32], i: u32, values: &[u32], j: u32)
-    ensures { pool.new ≡ setNode pool.old i 1 (get_or values.now j 0) }
+    ensures { pool.new ≡ set_node pool.old i 1 (get_or values.now j 0) }
 {
     let v = words::word(values, j as usize);
     set_node(pool, i, 1, v);
@@ -59,7 +59,7 @@ fn init_leaf(pool: &mut [u32], i: u32, values: &[u32], j: u32)
 
 // The leaves from `first` on.
 fn init_leaves(pool: &mut [u32], n: u32, first: u32, values: &[u32])
-    ensures { pool.new ≡ initLeaves n pool.old first values.now 0 }
+    ensures { pool.new ≡ init_leaves n pool.old first values.now 0 }
 {
     let mut c = n;
     let mut i = first;
@@ -74,7 +74,7 @@ fn init_leaves(pool: &mut [u32], n: u32, first: u32, values: &[u32])
 
 // The free list: `count` nodes from `first` on.
 fn init_free(pool: &mut [u32], count: u32, first: u32)
-    ensures { pool.new ≡ initFree count pool.old first }
+    ensures { pool.new ≡ init_free count pool.old first }
 {
     let mut c = count;
     let mut i = first;
@@ -88,8 +88,8 @@ fn init_free(pool: &mut [u32], count: u32, first: u32)
 
 // The pool of `nodes` nodes for n splitters with these values. Gives the first free node.
 pub fn init_pool(pool: &mut [u32], n: u32, nodes: u32, values: &[u32]) -> u32
-    ensures { (pool.new ≡ (initPool pool.old n nodes values.now).0)
-        × (result ≡ (initPool pool.old n nodes values.now).1) }
+    ensures { (pool.new ≡ (init_pool pool.old n nodes values.now).0)
+        × (result ≡ (init_pool pool.old n nodes values.now).1) }
 {
     let leaf = init_inner(pool, height_of(n), n, 0);
     init_leaves(pool, n, leaf, values);

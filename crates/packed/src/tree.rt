@@ -5,7 +5,7 @@ ghost use Rattle.sizes.specs.Sizes.{bit};
 ghost use Rattle.pool.specs.Pool.{side};
 ghost use Rattle.pool.specs.Links.{Link};
 ghost use Rattle.packed.specs.Links.{PathIn, CopyIn, IsShared, WriteIn, Wrote};
-ghost use Rattle.packed.specs.Pool.{refcount, link_in, links, value, child, sibling, leafOf, retain, setValue, setLink, pathNode, copyPath, copyLeaf, renew, firstShared, write};
+ghost use Rattle.packed.specs.Pool.{refcount, link_in, links, value, child, sibling, leaf_of, retain, set_value, set_link, path_node, copy_path, copy_leaf, renew, first_shared, write};
 
 use crate::node::{content_in, store_node};
 use words::sub;
@@ -37,7 +37,7 @@ pub struct Leaf {
 // The leaf of splitter x. The walk meets nodes only, so no index is tested.
 pub fn find_leaf(pool: &[u32], nodes: u32, height: u32, root: u32, x: u32) -> Leaf
     requires { (2 * nodes ≤ length pool.now) × (height ≤ 32) × PathIn nodes pool.now height root x }
-    ensures { (result.node ≡ leafOf height pool.now root x) × (result.visits ≡ suc height) }
+    ensures { (result.node ≡ leaf_of height pool.now root x) × (result.visits ≡ suc height) }
 {
     let mut l = height;
     let mut i = root as usize;
@@ -96,7 +96,7 @@ fn retain_half(pool: &mut [u32], nodes: u32, h: usize)
 fn copy_node(pool: &mut [u32], nodes: u32, i: usize, old: usize, l: u32, x: u32, next: u32)
     requires { (2 * nodes ≤ length pool.old) × (nodes ≤ 16384) × (i < nodes) × (old < nodes) × (l < 32) × (next < nodes)
         × Link nodes (sibling pool.old old (bit l x)) }
-    ensures { pool.new ≡ pathNode pool.old i (bit l x) next (sibling pool.old old (bit l x)) }
+    ensures { pool.new ≡ path_node pool.old i (bit l x) next (sibling pool.old old (bit l x)) }
 {
     let w = content_in(pool, nodes, old);
     store_node(pool, nodes, i, 1, relinked(w, l, x, next));
@@ -122,9 +122,9 @@ fn copy_path(
     v: u32,
 ) -> Copied
     requires { (2 * nodes ≤ length pool.old) × (nodes ≤ 16384) × (level ≤ 32) × CopyIn nodes level pool.old free old x }
-    ensures { (pool.new ≡ (copyPath level pool.old free old x v).0)
-        × (result.next ≡ (copyPath level pool.old free old x v).1)
-        × (result.leaf ≡ copyLeaf level pool.old free old x) × (result.visits ≡ level) }
+    ensures { (pool.new ≡ (copy_path level pool.old free old x v).0)
+        × (result.next ≡ (copy_path level pool.old free old x v).1)
+        × (result.leaf ≡ copy_leaf level pool.old free old x) × (result.visits ≡ level) }
 {
     let mut l = level;
     let mut i = free as usize;
@@ -153,7 +153,7 @@ fn renew(pool: &mut [u32], nodes: u32, level: u32, free: u32, old: u32, x: u32, 
     requires { (2 * nodes ≤ length pool.old) × (nodes ≤ 16384) × (level ≤ 32) × (old < nodes) × CopyIn nodes level pool.old free old x }
     ensures { (pool.new ≡ (renew level pool.old free old x v).0)
         × (result.next ≡ (renew level pool.old free old x v).1)
-        × (result.leaf ≡ copyLeaf level pool.old free old x) × (result.visits ≡ level) }
+        × (result.leaf ≡ copy_leaf level pool.old free old x) × (result.visits ≡ level) }
 {
     let new = copy_path(pool, nodes, level, free, old, x, v);
     let at = 2 * (old as usize);
@@ -164,7 +164,7 @@ fn renew(pool: &mut [u32], nodes: u32, level: u32, free: u32, old: u32, x: u32, 
 // Stores a leaf's value.
 pub fn set_value(pool: &mut [u32], nodes: u32, i: u32, v: u32)
     requires { (2 * nodes ≤ length pool.old) × (i < nodes) }
-    ensures { pool.new ≡ setValue pool.old i v }
+    ensures { pool.new ≡ set_value pool.old i v }
 {
     pool[2 * (i as usize) + 1] = v;
 }
@@ -172,7 +172,7 @@ pub fn set_value(pool: &mut [u32], nodes: u32, i: u32, v: u32)
 // The link of node i of level l + 1 on the way to splitter x goes to node c.
 fn set_link(pool: &mut [u32], nodes: u32, i: u32, l: u32, x: u32, c: u32)
     requires { (2 * nodes ≤ length pool.old) × (nodes ≤ 16384) × (i < nodes) × (l < 32) × (c < nodes) }
-    ensures { pool.new ≡ setLink pool.old i (bit l x) c }
+    ensures { pool.new ≡ set_link pool.old i (bit l x) c }
 {
     let at = 2 * (i as usize) + 1;
     pool[at] = relinked(pool[at], l, x, c);
@@ -199,7 +199,7 @@ struct Found {
 
 fn find_shared(pool: &[u32], nodes: u32, height: u32, root: u32, x: u32) -> Found
     requires { (2 * nodes ≤ length pool.now) × (height ≤ 32) × PathIn nodes pool.now height root x }
-    ensures { IsShared height result.shared result.level result.node result.above (firstShared height pool.now root root x)
+    ensures { IsShared height result.shared result.level result.node result.above (first_shared height pool.now root root x)
         × (result.level ≤ height) × (result.shared ≡ false → result.level ≡ 0) }
 {
     let mut above = root as usize;
@@ -246,7 +246,7 @@ pub struct FirstShared {
 
 pub fn first_shared(pool: &[u32], nodes: u32, height: u32, root: u32, x: u32) -> FirstShared
     requires { (2 * nodes ≤ length pool.now) × (height ≤ 32) × PathIn nodes pool.now height root x }
-    ensures { IsShared height result.shared result.level result.node result.above (firstShared height pool.now root root x)
+    ensures { IsShared height result.shared result.level result.node result.above (first_shared height pool.now root root x)
         × (result.visits ≡ suc (height - cond result.shared result.level 0)) }
 {
     let found = find_shared(pool, nodes, height, root, x);
@@ -283,10 +283,10 @@ pub fn write_shared(
     found: FirstShared,
 ) -> Written
     requires { (2 * nodes ≤ length pool.old) × (nodes ≤ 16384) × (height ≤ 32) × (found.shared ≡ true) × (found.level < count)
-        × IsShared height found.shared found.level found.node found.above (firstShared height pool.old root root x)
-        × WriteIn nodes height pool.old free x (firstShared height pool.old root root x) }
+        × IsShared height found.shared found.level found.node found.above (first_shared height pool.old root root x)
+        × WriteIn nodes height pool.old free x (first_shared height pool.old root root x) }
     ensures { Wrote (write height pool.old free count root x v) pool.new result.first result.count result.root
-        × (result.leaf ≡ copyLeaf found.level pool.old free found.node x) × (result.visits ≡ found.level) }
+        × (result.leaf ≡ copy_leaf found.level pool.old free found.node x) × (result.visits ≡ found.level) }
 {
     let level = found.level;
     let new = renew(pool, nodes, level, free, found.node, x, v);

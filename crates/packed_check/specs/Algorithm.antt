@@ -4,11 +4,11 @@
 use Rattle.std.specs.Prelude.{◌≡◌, Bool, true, false, cond, ◌&&◌, List, ℕ, zero, suc, ◌-◌, ◌*◌, ◌%◌, ◌^◌, ◌≤◌, ◌<◌, min, eqb, ltb, length, get_or}
 use Rattle.words.specs.Basics.{none, all}
 use Rattle.sizes.specs.Sizes.{height}
-use Rattle.packed.specs.Pool.{refcount, left, right, nextFree}
+use Rattle.packed.specs.Pool.{refcount, left, right, next_free}
 use Rattle.frames.specs.declared.Frame.{Frame}
-use Rattle.frames.specs.Frames.{frameAt}
+use Rattle.frames.specs.Frames.{frame_at}
 use Rattle.pool_check.specs.Algorithm.{stamp, and_then, stamped, linked, onward, counted, unvisited}
-use Rattle.packed_check.specs.Answer.{inBounds}
+use Rattle.packed_check.specs.Answer.{in_bounds}
 use Rattle.packed_check.specs.declared.PoolChecked.{PoolChecked}
 use Rattle.packed_check.specs.declared.PoolChecked.TheVariants.{Bad, Good}
 
@@ -53,27 +53,27 @@ pub record Roomy (N : ℕ) (ws w : List ℕ) (l k : ℕ) : Type 0 where
   pub part : k ≤ 256
 
 -- the tree, of height h over n splitters, of the frame f, if it lives
-abbrev pub rootVisited : ℕ → ℕ → ℕ → List ℕ → Frame → List ℕ → List ℕ × Bool
-rootVisited n h N ws f w = elim (eqb f.live 1) [ true ↦ visit N ws h n f.root w | false ↦ (w, true) ]
+abbrev pub root_visited : ℕ → ℕ → ℕ → List ℕ → Frame → List ℕ → List ℕ × Bool
+root_visited n h N ws f w = elim (eqb f.live 1) [ true ↦ visit N ws h n f.root w | false ↦ (w, true) ]
 
 -- after what was before
-abbrev pub recordVisited : ℕ → ℕ → ℕ → List ℕ → Frame → List ℕ × Bool → List ℕ × Bool
-recordVisited n h N ws f p = and_then p (rootVisited n h N ws f)
+abbrev pub record_visited : ℕ → ℕ → ℕ → List ℕ → Frame → List ℕ × Bool → List ℕ × Bool
+record_visited n h N ws f p = and_then p (root_visited n h N ws f)
 
 -- the tree of the frame at place p
-unfoldable pub visitPlace : ℕ → ℕ → ℕ → List Frame → List ℕ → ℕ → List ℕ → List ℕ × Bool
-visitPlace n h N fs ws p w = rootVisited n h N ws (frameAt fs p) w
+unfoldable pub visit_place : ℕ → ℕ → ℕ → List Frame → List ℕ → ℕ → List ℕ → List ℕ × Bool
+visit_place n h N fs ws p w = root_visited n h N ws (frame_at fs p) w
 
 -- those of the places below c
-unfoldable pub visitPlaces : ℕ → ℕ → ℕ → List Frame → List ℕ → ℕ → List ℕ → List ℕ × Bool
-visitPlaces n h N fs ws zero w = (w, true)
-visitPlaces n h N fs ws (suc c) w = and_then (visitPlaces n h N fs ws c w) (visitPlace n h N fs ws c)
+unfoldable pub visit_places : ℕ → ℕ → ℕ → List Frame → List ℕ → ℕ → List ℕ → List ℕ × Bool
+visit_places n h N fs ws zero w = (w, true)
+visit_places n h N fs ws (suc c) w = and_then (visit_places n h N fs ws c w) (visit_place n h N fs ws c)
 
 -- ---- the nodes
 
 -- the links counted to node i are its holders
-unfoldable pub nodeRight : List ℕ → List ℕ → ℕ → Bool
-nodeRight ws w i = eqb (refcount ws i) (counted w i)
+unfoldable pub node_right : List ℕ → List ℕ → ℕ → Bool
+node_right ws w i = eqb (refcount ws i) (counted w i)
 
 -- ---- the free chain
 
@@ -82,22 +82,22 @@ abbrev pub vacant : List ℕ → ℕ → Bool
 vacant w i = eqb (get_or w i 0) 0
 
 -- the chain from node a on has just c nodes, all of them vacant
-unfoldable pub chainFrom : ℕ → List ℕ → List ℕ → ℕ → ℕ → Bool
-chainFrom N ws w zero a = eqb a none
-chainFrom N ws w (suc c) a = ltb a N && (vacant w a && chainFrom N ws w c (nextFree ws a))
+unfoldable pub chain_from : ℕ → List ℕ → List ℕ → ℕ → ℕ → Bool
+chain_from N ws w zero a = eqb a none
+chain_from N ws w (suc c) a = ltb a N && (vacant w a && chain_from N ws w c (next_free ws a))
 
 -- ---- the whole
 
 -- the nodes and the free chain, after the trees
 unfoldable pub settle : ℕ → List ℕ → ℕ → List ℕ → PoolChecked
-settle N ws first w = cond (all N (nodeRight ws w) && chainFrom N ws w (unvisited N w) first) (Good (unvisited N w)) Bad
+settle N ws first w = cond (all N (node_right ws w) && chain_from N ws w (unvisited N w) first) (Good (unvisited N w)) Bad
 
 -- w begins with N zeros
-unfoldable pub runCheck : ℕ → ℕ → ℕ → List Frame → List ℕ → List ℕ → List ℕ × PoolChecked
-runCheck n N first fs ws w =
-    elim (inBounds n N ws w) [
+unfoldable pub run_check : ℕ → ℕ → ℕ → List Frame → List ℕ → List ℕ → List ℕ × PoolChecked
+run_check n N first fs ws w =
+    elim (in_bounds n N ws w) [
       | true ↦
-          let p : List ℕ × Bool = visitPlaces n (height n) N fs ws (length fs) w in
+          let p : List ℕ × Bool = visit_places n (height n) N fs ws (length fs) w in
           elim p.1 [ true ↦ (p.0, settle N ws first p.0) | false ↦ (p.0, Bad) ]
       | false ↦ (w, Bad)
     ]

@@ -2,7 +2,7 @@
 ghost use Rattle.std.specs.Prelude.{◌≡◌, cond, ◌*◌, ◌≤◌, ◌<◌, length};
 ghost use Rattle.words.specs.Basics.{all};
 ghost use Rattle.pool_check.specs.Algorithm.{fresh, counted, unvisited};
-ghost use Rattle.packed_check.specs.Algorithm.{nodeRight, chainFrom};
+ghost use Rattle.packed_check.specs.Algorithm.{node_right, chain_from};
 ghost use Rattle.packed_check.specs.declared.PoolChecked.TheVariants.{Bad, Good};
 
 use super::PoolChecked;
@@ -27,7 +27,7 @@ fn counted(work: &[u32], i: usize) -> u32
 // Are the links counted to node i its holders?
 fn node_right(pool: &[u32], work: &[u32], i: usize) -> bool
     requires { (2 * i < length pool.now) × (i < length work.now) }
-    ensures { result ≡ nodeRight pool.now work.now i }
+    ensures { result ≡ node_right pool.now work.now i }
 {
     pool[2 * i] == counted(work, i)
 }
@@ -35,7 +35,7 @@ fn node_right(pool: &[u32], work: &[u32], i: usize) -> bool
 // All nodes are right; and how many were not visited.
 pub fn scan(pool: &[u32], work: &[u32], nodes: u32) -> PoolChecked
     requires { (2 * nodes ≤ length pool.now) × (nodes ≤ length work.now) }
-    ensures { result ≡ cond (all nodes (nodeRight pool.now work.now)) (Good (unvisited nodes work.now)) Bad }
+    ensures { result ≡ cond (all nodes (node_right pool.now work.now)) (Good (unvisited nodes work.now)) Bad }
 {
     let end = nodes as usize;
     let mut i: usize = 0;
@@ -56,7 +56,7 @@ pub fn scan(pool: &[u32], work: &[u32], nodes: u32) -> PoolChecked
 // Has the chain from node first on just so many nodes, none of them visited? No node is on such a chain twice: it would not end.
 pub fn follow_free(pool: &[u32], work: &[u32], nodes: u32, count: u32, first: u32) -> bool
     requires { (2 * nodes ≤ length pool.now) × (nodes ≤ length work.now) }
-    ensures { result ≡ chainFrom nodes pool.now work.now count first }
+    ensures { result ≡ chain_from nodes pool.now work.now count first }
 {
     let mut left = count;
     let mut a = first;

@@ -3,9 +3,9 @@
 // nodes, which in_bounds tests first.
 ghost use Rattle.std.specs.Prelude.{◌≡◌, cond, ◌*◌, ◌≤◌, length};
 ghost use Rattle.soundness.specs.Soundness.{cleared};
-ghost use Rattle.frames.specs.Widths.{maxPlaces};
+ghost use Rattle.frames.specs.Widths.{max_places};
 ghost use Rattle.pool_check.specs.Algorithm.{DeadFrom};
-ghost use Rattle.packed_check.specs.Answer.{inBounds, poolChecked};
+ghost use Rattle.packed_check.specs.Answer.{in_bounds, pool_checked};
 ghost use Rattle.packed_check.specs.Algorithm.{settle};
 ghost use Rattle.packed_check.specs.declared.PoolChecked.TheVariants.{Bad};
 
@@ -42,7 +42,7 @@ fn settle(pool: &[u32], work: &[u32], nodes: u32, first: u32) -> PoolChecked
 
 // Are n and the recorded nodes small enough, and have pool and work slice room for them?
 pub fn in_bounds(n: u32, nodes: u32, pool: &[u32], work: &[u32]) -> bool
-    ensures { result ≡ inBounds n nodes pool.now work.now }
+    ensures { result ≡ in_bounds n nodes pool.now work.now }
 {
     let end = nodes as usize;
     (n <= 256) & ((nodes <= 16384) & ((end <= pool.len() / 2) & (end <= work.len())))
@@ -87,9 +87,9 @@ pub fn check_pool(
     pool: &[u32],
     work: &mut [u32],
 ) -> PoolChecked
-    requires { (length frames.now ≤ maxPlaces) × DeadFrom frames.now end }
+    requires { (length frames.now ≤ max_places) × DeadFrom frames.now end }
     ensures { (work.new ≡ cleared nodes work.old)
-        × (result ≡ poolChecked n nodes first frames.now pool.now work.old) }
+        × (result ≡ pool_checked n nodes first frames.now pool.now work.old) }
 {
     clear(work, nodes);
     if !in_bounds(n, nodes, pool, work) {

@@ -2,7 +2,7 @@
 // word; that for none is no node's number, since there are 16,384 nodes at most.
 ghost use Rattle.std.specs.Prelude.{◌≡◌, ◌^◌, ◌≤◌, ◌<◌, min, length};
 ghost use Rattle.pool_check.specs.Algorithm.{DeadFrom};
-ghost use Rattle.packed_check.specs.Algorithm.{visit, below, Met, Roomy, recordVisited, visitPlaces};
+ghost use Rattle.packed_check.specs.Algorithm.{visit, below, Met, Roomy, record_visited, visit_places};
 ghost use Rattle.sizes.specs.Sizes.{height};
 
 use frames::{Frame, frame_at};
@@ -130,8 +130,8 @@ pub fn visit_place(
     f: Frame,
 ) -> bool
     requires { Roomy nodes pool.now work.old height n }
-    ensures { (work.new ≡ (recordVisited n height nodes pool.now f (work.old, sound)).0)
-        × (result ≡ (recordVisited n height nodes pool.now f (work.old, sound)).1) }
+    ensures { (work.new ≡ (record_visited n height nodes pool.now f (work.old, sound)).0)
+        × (result ≡ (record_visited n height nodes pool.now f (work.old, sound)).1) }
 {
     if !sound {
         return false;
@@ -152,8 +152,8 @@ pub fn visit_places(
     end: u32,
 ) -> bool
     requires { Roomy nodes pool.now work.old (height n) n × DeadFrom frames.now end }
-    ensures { (work.new ≡ (visitPlaces n (height n) nodes frames.now pool.now (length frames.now) work.old).0)
-        × (result ≡ (visitPlaces n (height n) nodes frames.now pool.now (length frames.now) work.old).1) }
+    ensures { (work.new ≡ (visit_places n (height n) nodes frames.now pool.now (length frames.now) work.old).0)
+        × (result ≡ (visit_places n (height n) nodes frames.now pool.now (length frames.now) work.old).1) }
 {
     let height = sizes::height_of(n);
     let mut sound = true;

@@ -43,7 +43,7 @@ pub mod InUse
 pub mod Rest
 -- Start: a pool that is filled as the start says is live
 pub mod Start
--- Init: initPool fills it so
+-- Init: init_pool fills it so
 pub mod Init
 -- Good: the pool of a run from a start, and its operations: what other crates cite
 pub mod Good

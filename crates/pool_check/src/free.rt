@@ -1,7 +1,7 @@
 // The nodes when all trees are visited, and the free chain.
 ghost use Rattle.std.specs.Prelude.{◌≡◌, cond, ◌+◌, ◌*◌, ◌≤◌, ◌<◌, length};
 ghost use Rattle.words.specs.Basics.{all};
-ghost use Rattle.pool_check.specs.Algorithm.{fresh, counted, nodeRight, unvisited, vacant, chainFrom};
+ghost use Rattle.pool_check.specs.Algorithm.{fresh, counted, node_right, unvisited, vacant, chain_from};
 ghost use Rattle.pool_check.specs.declared.PoolChecked.TheVariants.{Bad, Good};
 
 use super::PoolChecked;
@@ -26,7 +26,7 @@ fn counted(work: &[u32], i: usize) -> u32
 // Are the links counted to node i its holders?
 fn node_right(pool: &[u32], work: &[u32], i: usize) -> bool
     requires { (4 * i < length pool.now) × (i < length work.now) }
-    ensures { result ≡ nodeRight pool.now work.now i }
+    ensures { result ≡ node_right pool.now work.now i }
 {
     pool[4 * i] == counted(work, i)
 }
@@ -34,7 +34,7 @@ fn node_right(pool: &[u32], work: &[u32], i: usize) -> bool
 // All nodes are right; and how many were not visited.
 pub fn scan(pool: &[u32], work: &[u32], nodes: u32) -> PoolChecked
     requires { (4 * nodes ≤ length pool.now) × (nodes ≤ length work.now) }
-    ensures { result ≡ cond (all nodes (nodeRight pool.now work.now)) (Good (unvisited nodes work.now)) Bad }
+    ensures { result ≡ cond (all nodes (node_right pool.now work.now)) (Good (unvisited nodes work.now)) Bad }
 {
     let end = nodes as usize;
     let mut i: usize = 0;
@@ -63,7 +63,7 @@ fn is_vacant(pool: &[u32], work: &[u32], i: usize) -> bool
 // Has the chain from node first on just so many nodes, all of them vacant? No node is on such a chain twice: it would not end.
 pub fn follow_free(pool: &[u32], work: &[u32], nodes: u32, count: u32, first: u32) -> bool
     requires { (4 * nodes ≤ length pool.now) × (nodes ≤ length work.now) }
-    ensures { result ≡ chainFrom nodes pool.now work.now count first }
+    ensures { result ≡ chain_from nodes pool.now work.now count first }
 {
     let mut left = count;
     let mut a = first;

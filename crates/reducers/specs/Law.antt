@@ -8,8 +8,8 @@ use Rattle.reducers.specs.declared.View.{View}
 
 -- of the views that are words
 pub record Law (A : Type 0) (IsWord : A → Type 0) (identity : A) (join : A → A → A) : Type 0 where
-  pub identity-word : IsWord identity
-  pub join-word : (a b : A) → IsWord a → IsWord b → IsWord (join a b)
+  pub identity_word : IsWord identity
+  pub join_word : (a b : A) → IsWord a → IsWord b → IsWord (join a b)
   pub left : (a : A) → IsWord a → join identity a ≡ a
   pub right : (a : A) → IsWord a → join a identity ≡ a
   pub grouping : (a b c : A) → IsWord a → IsWord b → IsWord c → join (join a b) c ≡ join a (join b c)

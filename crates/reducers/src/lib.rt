@@ -1,7 +1,7 @@
 // The reducers of document 02's R-5, each a type with its identity and the join of two views; a frame's view has one of each. Joined, the
 // earlier one stands on the left.
 ghost use Rattle.std.specs.Prelude.{◌≡◌};
-ghost use Rattle.reducers.specs.Reducers.{joinSum, joinMin, joinAffine, identityView, joinView, foldedAffine, foldView};
+ghost use Rattle.reducers.specs.Reducers.{join_sum, join_min, join_affine, identity_view, join_view, folded_affine, fold_view};
 
 // 0, the sum modulo 4,294,967,296.
 #[repr(C)]
@@ -38,7 +38,7 @@ impl Sum {
     pub const IDENTITY: Sum = Sum { value: 0 };
 
     pub fn join(a: Sum, b: Sum) -> Sum
-        ensures { result ≡ joinSum a b }
+        ensures { result ≡ join_sum a b }
     {
         Sum {
             value: words::add(a.value, b.value),
@@ -50,7 +50,7 @@ impl Min {
     pub const IDENTITY: Min = Min { value: 4294967295 };
 
     pub fn join(a: Min, b: Min) -> Min
-        ensures { result ≡ joinMin a b }
+        ensures { result ≡ join_min a b }
     {
         if b.value < a.value { b } else { a }
     }
@@ -64,7 +64,7 @@ impl Affine {
 
     // "earlier map applied first"
     pub fn join(a: Affine, b: Affine) -> Affine
-        ensures { result ≡ joinAffine a b }
+        ensures { result ≡ join_affine a b }
     {
         Affine {
             multiplier: words::mul(a.multiplier, b.multiplier),
@@ -74,7 +74,7 @@ impl Affine {
 
     // "the value divided by 65,536 is the multiplier and its remainder the addend"
     pub fn of_value(value: u32) -> Affine
-        ensures { result ≡ foldedAffine value }
+        ensures { result ≡ folded_affine value }
     {
         Affine {
             multiplier: value / 65536,
@@ -92,13 +92,13 @@ impl View {
 
     // What the constants are, by contract.
     pub fn identity() -> View
-        ensures { result ≡ identityView }
+        ensures { result ≡ identity_view }
     {
         View::IDENTITY
     }
 
     pub fn join(a: View, b: View) -> View
-        ensures { result ≡ joinView a b }
+        ensures { result ≡ join_view a b }
     {
         View {
             sum: Sum::join(a.sum, b.sum),
@@ -109,7 +109,7 @@ impl View {
 
     // The value v folded into reducer r; a number that names no reducer folds nothing.
     pub fn folded(w: View, r: u32, v: u32) -> View
-        ensures { result ≡ foldView w r v }
+        ensures { result ≡ fold_view w r v }
     {
         let mut g = w;
         if r == 0 {

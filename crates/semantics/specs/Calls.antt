@@ -5,14 +5,14 @@ use Rattle.sizes.specs.Sizes.{height}
 use Rattle.model.specs.declared.Step.TheVariants.{Spawn, Return, Steal, Sync, Read, Write, Fold}
 use Rattle.model.specs.declared.Decoded.{Decoded}
 use Rattle.model.specs.declared.Decoded.TheVariants.{Valid, Invalid}
-use Rattle.model.specs.Record.{recordOf}
+use Rattle.model.specs.Record.{record_of}
 use Rattle.model.specs.Machine.{Frame, Machine, deque}
 use Rattle.model.specs.Steps.{Action, spawn, return, sync, read, write, fold, Turn, acting, stealing, turn_of, step}
 use Rattle.model.specs.Run.{Entry}
 use Rattle.semantics.specs.Answers.{words_in}
-use Rattle.semantics.specs.Core.{Core, actingIn}
-use Rattle.semantics.specs.Entries.{State, StartResult, startOn, OutsideResult, outsideOn, recordOn, TapeResult, tapeOn, recordsOf, core_of, state_of, chainFree}
-use Rattle.semantics.specs.Images.{SaveResult, savedBytes, saveOn, LoadResult, loadOn}
+use Rattle.semantics.specs.Core.{Core, acting_in}
+use Rattle.semantics.specs.Entries.{State, StartResult, start_on, OutsideResult, outside_on, record_on, TapeResult, tape_on, records_of, core_of, state_of, chain_free}
+use Rattle.semantics.specs.Images.{SaveResult, saved_bytes, save_on, LoadResult, load_on}
 use Rattle.soundness.specs.Layout.{Layout}
 
 -- ---- calls
@@ -24,8 +24,8 @@ pub record Start : Type 0 where
   pub values : List ℕ
   pub pool : List ℕ
 
-abbrev pub startResult : Layout → Start → StartResult
-startResult L b = startOn L b.parts b.workers b.values b.pool
+abbrev pub start_result : Layout → Start → StartResult
+start_result L b = start_on L b.parts b.workers b.values b.pool
 
 -- document 01: "a list of calls, each a step entered from outside or a tape", with the slices that the host lends
 pub data HostCall : Type 0 where
@@ -37,19 +37,19 @@ pub record StateAndPool : Type 0 where
   pub state : State
   pub pool : List ℕ
 
-abbrev pub afterStart : Layout → Start → StateAndPool
-afterStart L b = let o : StartResult = startResult L b in record { state = o.state; pool = o.pool }
+abbrev pub after_start : Layout → Start → StateAndPool
+after_start L b = let o : StartResult = start_result L b in record { state = o.state; pool = o.pool }
 
-abbrev pub outsideResult : Layout → StateAndPool → (kind worker field value : ℕ) (work : List ℕ) → OutsideResult
-outsideResult L h kind worker field value work = outsideOn L h.state h.pool work (recordOf kind worker field value)
+abbrev pub outside_result : Layout → StateAndPool → (kind worker field value : ℕ) (work : List ℕ) → OutsideResult
+outside_result L h kind worker field value work = outside_on L h.state h.pool work (record_of kind worker field value)
 
-abbrev pub tapeResult : Layout → StateAndPool → (bytes work answers : List ℕ) → TapeResult
-tapeResult L h bytes work answers = tapeOn L h.state h.pool work bytes answers
+abbrev pub tape_result : Layout → StateAndPool → (bytes work answers : List ℕ) → TapeResult
+tape_result L h bytes work answers = tape_on L h.state h.pool work bytes answers
 
 abbrev pub after_call : Layout → StateAndPool → HostCall → StateAndPool
 after_call L h (outside kind worker field value work) =
-    let o : OutsideResult = outsideResult L h kind worker field value work in record { state = o.state; pool = o.pool }
-after_call L h (tape bytes work answers) = let o : TapeResult = tapeResult L h bytes work answers in record { state = o.state; pool = o.pool }
+    let o : OutsideResult = outside_result L h kind worker field value work in record { state = o.state; pool = o.pool }
+after_call L h (tape bytes work answers) = let o : TapeResult = tape_result L h bytes work answers in record { state = o.state; pool = o.pool }
 
 -- ---- exchanges: a record and the two words that the engine answered
 
@@ -57,34 +57,34 @@ abbrev pub Exchange : Type 0
 Exchange = Decoded × (ℕ × ℕ)
 
 -- "a call refused whole feeds it no step": refusals 1 to 6, and 99
-abbrev pub refusedWhole : ℕ × ℕ → Bool
-refusedWhole a = leb a.0 6 || eqb a.0 99
+abbrev pub refused_whole : ℕ × ℕ → Bool
+refused_whole a = leb a.0 6 || eqb a.0 99
 
 -- of each record, the two answer words from place k on
-abbrev pub exchangesFrom : List ℕ → ℕ → List Decoded → List Exchange
-exchangesFrom answers k [] = []
-exchangesFrom answers k (d ∷ ds) = (d, (get_or answers k 0, get_or answers (suc k) 0)) ∷ exchangesFrom answers (k + 2) ds
+abbrev pub exchanges_from : List ℕ → ℕ → List Decoded → List Exchange
+exchanges_from answers k [] = []
+exchanges_from answers k (d ∷ ds) = (d, (get_or answers k 0, get_or answers (suc k) 0)) ∷ exchanges_from answers (k + 2) ds
 
 -- what a step's result and a tape's feed to the plain machine
-abbrev pub stepExchanges : Decoded → OutsideResult → List Exchange
-stepExchanges d o =
+abbrev pub step_exchanges : Decoded → OutsideResult → List Exchange
+step_exchanges d o =
     let a : ℕ × ℕ = words_in o.result in
     let one : List Exchange = (d, a) ∷ [] in
-    cond (refusedWhole a) [] one
+    cond (refused_whole a) [] one
 
-abbrev pub tapeExchanges : List ℕ → TapeResult → List Exchange
-tapeExchanges bytes o = cond (eqb o.result 0) (exchangesFrom o.answers 0 (recordsOf bytes)) []
+abbrev pub tape_exchanges : List ℕ → TapeResult → List Exchange
+tape_exchanges bytes o = cond (eqb o.result 0) (exchanges_from o.answers 0 (records_of bytes)) []
 
 -- what a call feeds to the plain machine, with the engine's answers
-abbrev pub exchangesOf : Layout → StateAndPool → HostCall → List Exchange
-exchangesOf L h (outside kind worker field value work) = stepExchanges (recordOf kind worker field value) (outsideResult L h kind worker field value work)
-exchangesOf L h (tape bytes work answers) = tapeExchanges bytes (tapeResult L h bytes work answers)
+abbrev pub exchanges_of : Layout → StateAndPool → HostCall → List Exchange
+exchanges_of L h (outside kind worker field value work) = step_exchanges (record_of kind worker field value) (outside_result L h kind worker field value work)
+exchanges_of L h (tape bytes work answers) = tape_exchanges bytes (tape_result L h bytes work answers)
 
-abbrev pub recordsIn : List Exchange → List Decoded
-recordsIn es = map (λ e. e.0) es
+abbrev pub records_in : List Exchange → List Decoded
+records_in es = map (λ e. e.0) es
 
-abbrev pub answersIn : List Exchange → List (ℕ × ℕ)
-answersIn es = map (λ e. e.1) es
+abbrev pub answers_in : List Exchange → List (ℕ × ℕ)
+answers_in es = map (λ e. e.1) es
 
 -- ---- the pool at each record: a sound state from elsewhere has no history to count
 
@@ -95,27 +95,27 @@ pub record PoolAt : Type 0 where
   pub free : ℕ
 
 -- of a worker's bottom frame, whatever it is
-abbrev pub restIn : Layout → Core → Decoded → ℕ
-restIn L c Invalid = 0
-restIn L c (Valid (Spawn w)) = 0
-restIn L c (Valid (Return w)) = 0
-restIn L c (Valid (Steal w v)) = 0
-restIn L c (Valid (Sync w)) = 0
-restIn L c (Valid (Read w x)) = 0
-restIn L c (Valid (Write w x v)) = L.rest (height c.head.numbers.splitters) c.pool (actingIn c w).root x
-restIn L c (Valid (Fold w r v)) = 0
+abbrev pub rest_in : Layout → Core → Decoded → ℕ
+rest_in L c Invalid = 0
+rest_in L c (Valid (Spawn w)) = 0
+rest_in L c (Valid (Return w)) = 0
+rest_in L c (Valid (Steal w v)) = 0
+rest_in L c (Valid (Sync w)) = 0
+rest_in L c (Valid (Read w x)) = 0
+rest_in L c (Valid (Write w x v)) = L.rest (height c.head.numbers.splitters) c.pool (acting_in c w).root x
+rest_in L c (Valid (Fold w r v)) = 0
 
-abbrev pub poolAt : Layout → Core → Decoded → PoolAt
-poolAt L c d = record { rest = restIn L c d; free = chainFree L (state_of (recordOn L c d).core) (recordOn L c d).core.pool }
+abbrev pub pool_at : Layout → Core → Decoded → PoolAt
+pool_at L c d = record { rest = rest_in L c d; free = chain_free L (state_of (record_on L c d).core) (record_on L c d).core.pool }
 
 -- of the records ds, from the core c on
-abbrev pub poolsAt : Layout → Core → List Decoded → List PoolAt
-poolsAt L c [] = []
-poolsAt L c (d ∷ ds) = poolAt L c d ∷ poolsAt L (recordOn L c d).core ds
+abbrev pub pools_at : Layout → Core → List Decoded → List PoolAt
+pools_at L c [] = []
+pools_at L c (d ∷ ds) = pool_at L c d ∷ pools_at L (record_on L c d).core ds
 
 -- the engine's words, with the free nodes counted
-abbrev pub coreIn : Layout → StateAndPool → Core
-coreIn L h = core_of h.state h.pool (chainFree L h.state h.pool)
+abbrev pub core_in : Layout → StateAndPool → Core
+core_in L h = core_of h.state h.pool (chain_free L h.state h.pool)
 
 -- ---- a run, with saves and readings among its calls
 
@@ -152,82 +152,82 @@ abbrev pub begun : StateAndPool → Run
 begun h = record { now = h; past = nothing; images = []; stateless = false; lent = h.pool }
 
 -- image i; one that the host does not keep has no bytes
-abbrev pub imageAt : List Saved → ℕ → Saved
-imageAt [] i = record { bytes = []; past = nothing }
-imageAt (v ∷ vs) zero = v
-imageAt (v ∷ vs) (suc i) = imageAt vs i
+abbrev pub image_at : List Saved → ℕ → Saved
+image_at [] i = record { bytes = []; past = nothing }
+image_at (v ∷ vs) zero = v
+image_at (v ∷ vs) (suc i) = image_at vs i
 
-abbrev pub pastWith : Layout → StateAndPool → Past → List Exchange → Past
-pastWith L h p es = record { exchanges = p.exchanges ++ es; pools = p.pools ++ poolsAt L (coreIn L h) (recordsIn es) }
+abbrev pub past_with : Layout → StateAndPool → Past → List Exchange → Past
+past_with L h p es = record { exchanges = p.exchanges ++ es; pools = p.pools ++ pools_at L (core_in L h) (records_in es) }
 
-abbrev pub pastAfter : Layout → StateAndPool → Past → HostCall → Past
-pastAfter L h p k = pastWith L h p (exchangesOf L h k)
+abbrev pub past_after : Layout → StateAndPool → Past → HostCall → Past
+past_after L h p k = past_with L h p (exchanges_of L h k)
 
-abbrev pub saveResult : Layout → StateAndPool → List ℕ → List ℕ → SaveResult
-saveResult L h work target = saveOn L h.state h.pool work target
+abbrev pub save_result : Layout → StateAndPool → List ℕ → List ℕ → SaveResult
+save_result L h work target = save_on L h.state h.pool work target
 
 -- R-6: "In a run each call has the table too as the call before it left it"
-abbrev pub intoTable : Run → List ℕ → List ℕ → State
-intoTable r ns ds = record { numbers = ns; deques = ds; frames = r.now.state.frames }
+abbrev pub into_table : Run → List ℕ → List ℕ → State
+into_table r ns ds = record { numbers = ns; deques = ds; frames = r.now.state.frames }
 
-abbrev pub loadResult : Layout → Run → ℕ → List ℕ → List ℕ → List ℕ → List ℕ → LoadResult
-loadResult L r i ns ds ws work = loadOn L (intoTable r ns ds) ws work (imageAt r.images i).bytes
+abbrev pub load_result : Layout → Run → ℕ → List ℕ → List ℕ → List ℕ → List ℕ → LoadResult
+load_result L r i ns ds ws work = load_on L (into_table r ns ds) ws work (image_at r.images i).bytes
 
 -- the image that an accepted save has written
-abbrev pub imagesWith : Layout → Run → SaveResult → List Saved
-imagesWith L r o =
-    let new : List Saved = record { bytes = take (savedBytes L r.now.state) o.target; past = r.past } ∷ [] in
+abbrev pub images_with : Layout → Run → SaveResult → List Saved
+images_with L r o =
+    let new : List Saved = record { bytes = take (saved_bytes L r.now.state) o.target; past = r.past } ∷ [] in
     cond (eqb o.result 0) (r.images ++ new) r.images
 
-abbrev pub imagesAfter : Layout → Run → List ℕ → List ℕ → List Saved
-imagesAfter L r work target = imagesWith L r (saveResult L r.now work target)
+abbrev pub images_after : Layout → Run → List ℕ → List ℕ → List Saved
+images_after L r work target = images_with L r (save_result L r.now work target)
 
 -- after a reading of image i into the pool ws, with the result o
-abbrev pub runLoaded : Run → ℕ → List ℕ → LoadResult → Run
-runLoaded r i ws o =
+abbrev pub run_loaded : Run → ℕ → List ℕ → LoadResult → Run
+run_loaded r i ws o =
     record {
       now = record { state = o.state; pool = o.pool };
-      past = cond (eqb o.result 0) (imageAt r.images i).past r.past;
+      past = cond (eqb o.result 0) (image_at r.images i).past r.past;
       images = r.images;
       stateless = not (eqb o.result 0);
       lent = ws;
     }
 
 -- "Reading back gives the same state, and a run goes on from its saved history; what came after the save is forgotten."
-abbrev pub runAfter : Layout → Run → Call → Run
-runAfter L r (call k) = record { now = after_call L r.now k; past = pastAfter L r.now r.past k; images = r.images; stateless = r.stateless; lent = r.lent }
-runAfter L r (save work target) = record { now = r.now; past = r.past; images = imagesAfter L r work target; stateless = r.stateless; lent = r.lent }
-runAfter L r (load i ns ds ws work) = runLoaded r i ws (loadResult L r i ns ds ws work)
+abbrev pub run_after : Layout → Run → Call → Run
+run_after L r (call k) = record { now = after_call L r.now k; past = past_after L r.now r.past k; images = r.images; stateless = r.stateless; lent = r.lent }
+run_after L r (save work target) = record { now = r.now; past = r.past; images = images_after L r work target; stateless = r.stateless; lent = r.lent }
+run_after L r (load i ns ds ws work) = run_loaded r i ws (load_result L r i ns ds ws work)
 
 abbrev pub run_of : Layout → Run → List Call → Run
 run_of L r [] = r
-run_of L r (c ∷ cs) = run_of L (runAfter L r c) cs
+run_of L r (c ∷ cs) = run_of L (run_after L r c) cs
 
 -- ---- what frames did and read, by the engine's answers; frames and names are those of the plain machine fed the same
 
 -- "100 plus the kind"
-abbrev pub saysAccepted : ℕ × ℕ → Bool
-saysAccepted a = leb 100 a.0
+abbrev pub says_accepted : ℕ × ℕ → Bool
+says_accepted a = leb 100 a.0
 
 -- "the list of values that the engine answered to its reads"
-abbrev pub valueAnswered : Action → ℕ × ℕ → ℕ
-valueAnswered spawn a = 0
-valueAnswered return a = 0
-valueAnswered sync a = 0
-valueAnswered (read x) a = a.1
-valueAnswered (write x v) a = 0
-valueAnswered (fold r v) a = 0
+abbrev pub value_answered : Action → ℕ × ℕ → ℕ
+value_answered spawn a = 0
+value_answered return a = 0
+value_answered sync a = 0
+value_answered (read x) a = a.1
+value_answered (write x v) a = 0
+value_answered (fold r v) a = 0
 
-abbrev pub bottomEntry : List Frame → Action → ℕ × ℕ → List Entry
-bottomEntry [] act a = []
-bottomEntry (q ∷ d) act a = record { frame = q.name; action = act; value = valueAnswered act a } ∷ []
+abbrev pub bottom_entry : List Frame → Action → ℕ × ℕ → List Entry
+bottom_entry [] act a = []
+bottom_entry (q ∷ d) act a = record { frame = q.name; action = act; value = value_answered act a } ∷ []
 
-abbrev pub turnEntry : Machine → Turn → ℕ × ℕ → List Entry
-turnEntry M (acting w act) a = bottomEntry (deque M w) act a
-turnEntry M (stealing w v) a = []
+abbrev pub turn_entry : Machine → Turn → ℕ × ℕ → List Entry
+turn_entry M (acting w act) a = bottom_entry (deque M w) act a
+turn_entry M (stealing w v) a = []
 
 -- the trace of a run by the engine's answers, from the machine M
-abbrev pub traceFrom : Machine → List Exchange → List Entry
-traceFrom M [] = []
-traceFrom M ((Valid st, a) ∷ es) = cond (saysAccepted a) (turnEntry M (turn_of st) a) [] ++ traceFrom (step M st) es
-traceFrom M ((Invalid, a) ∷ es) = traceFrom M es
+abbrev pub trace_from : Machine → List Exchange → List Entry
+trace_from M [] = []
+trace_from M ((Valid st, a) ∷ es) = cond (says_accepted a) (turn_entry M (turn_of st) a) [] ++ trace_from (step M st) es
+trace_from M ((Invalid, a) ∷ es) = trace_from M es

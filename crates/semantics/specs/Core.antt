@@ -2,14 +2,14 @@
 -- L is the layout of the pool (crate soundness, Layout): R-8. Definitions only; every one is total.
 use Rattle.std.specs.Prelude.{Bool, cond, not, ◌||◌, List, [], ◌∷◌, ◌++◌, ℕ, zero, suc, eqb, ltb}
 use Rattle.words.specs.Basics.{none, plus, all}
-use Rattle.reducers.specs.Reducers.{viewWords}
+use Rattle.reducers.specs.Reducers.{view_words}
 use Rattle.frames.specs.declared.Frame.{Frame}
 use Rattle.frames.specs.declared.Returned.{Returned}
 use Rattle.frames.specs.declared.Returned.TheVariants.{Continued, Finished, Waiting}
-use Rattle.frames.specs.Frames.{frameAt, setFrame, withRoot, asReturning}
+use Rattle.frames.specs.Frames.{frame_at, set_frame, with_root, as_returning}
 use Rattle.frames.specs.Deques.{size, bottom, pop}
-use Rattle.frames.specs.Steps.{Table, acting, spawn, suspend, endFrame, endsToo, goOn, wentOn, steal, stolen, sync, synced, fold}
-use Rattle.soundness.specs.Numbers.{setFreeNode, setFreePlace}
+use Rattle.frames.specs.Steps.{Table, acting, spawn, suspend, end_frame, ends_too, go_on, went_on, steal, stolen, sync, synced, fold}
+use Rattle.soundness.specs.Numbers.{set_free_node, set_free_place}
 use Rattle.model.specs.declared.Step.{Step}
 use Rattle.model.specs.declared.Step.TheVariants.{Spawn, Return, Steal, Sync, Read, Write, Fold}
 use Rattle.model.specs.Steps.{reducers}
@@ -34,41 +34,41 @@ pub record StepResult : Type 0 where
   pub core : Core
   pub answer : Answer
 
-abbrev pub stepResult : Head → List ℕ → List ℕ → List Frame → List ℕ → Answer → StepResult
-stepResult h ts ds fs ws a = record { core = record { head = h; totals = ts; deques = ds; frames = fs; pool = ws }; answer = a }
+abbrev pub step_result : Head → List ℕ → List ℕ → List Frame → List ℕ → Answer → StepResult
+step_result h ts ds fs ws a = record { core = record { head = h; totals = ts; deques = ds; frames = fs; pool = ws }; answer = a }
 
 abbrev pub table_of : Core → Table
 table_of c = record { deques = c.deques; frames = c.frames; free_place = c.head.numbers.free_place }
 
 -- the frame that worker w executes
-abbrev pub actingIn : Core → ℕ → Frame
-actingIn c w = acting (table_of c) w
+abbrev pub acting_in : Core → ℕ → Frame
+acting_in c w = acting (table_of c) w
 
 -- ---- numbers
 
 -- with another first free place
-abbrev pub withFreePlace : Head → ℕ → Head
-withFreePlace h p = record { numbers = setFreePlace h.numbers p; height = h.height; free_count = h.free_count }
+abbrev pub with_free_place : Head → ℕ → Head
+with_free_place h p = record { numbers = set_free_place h.numbers p; height = h.height; free_count = h.free_count }
 
 -- with another first free node and number of free nodes
-abbrev pub withFreeNodes : Head → ℕ → ℕ → Head
-withFreeNodes h f k = record { numbers = setFreeNode h.numbers f; height = h.height; free_count = k }
+abbrev pub with_free_nodes : Head → ℕ → ℕ → Head
+with_free_nodes h f k = record { numbers = set_free_node h.numbers f; height = h.height; free_count = k }
 
 -- the core with other deques, frame table and first free place
-abbrev pub withTable : Core → Table → Core
-withTable c t = record { head = withFreePlace c.head t.free_place; totals = c.totals; deques = t.deques; frames = t.frames; pool = c.pool }
+abbrev pub with_table : Core → Table → Core
+with_table c t = record { head = with_free_place c.head t.free_place; totals = c.totals; deques = t.deques; frames = t.frames; pool = c.pool }
 
 -- ---- refusals
 
 abbrev pub idle : Core → ℕ → Bool
 idle c w = eqb (size c.deques w) 0
 
-abbrev pub noWorker : Core → ℕ → Bool
-noWorker c w = not (ltb w c.head.numbers.workers)
+abbrev pub no_worker : Core → ℕ → Bool
+no_worker c w = not (ltb w c.head.numbers.workers)
 
 -- "Main has returned": in a sound state a frame that lives is in a deque, or a frame below it is
-abbrev pub allIdle : Core → Bool
-allIdle c = all c.head.numbers.workers (idle c)
+abbrev pub all_idle : Core → Bool
+all_idle c = all c.head.numbers.workers (idle c)
 
 -- the first test that holds refuses, and nothing changes
 abbrev pub judged : List (Bool × Refusal) → Core → StepResult → StepResult
@@ -76,33 +76,33 @@ judged [] c d = d
 judged (t ∷ ts) c d = cond t.0 (record { core = c; answer = Refused t.1 }) (judged ts c d)
 
 -- refusals 8, 9 and 10
-abbrev pub actingTests : Core → ℕ → List (Bool × Refusal)
-actingTests c w = (noWorker c w, NoWorker) ∷ (allIdle c, MainReturned) ∷ (idle c w, WorkerIdle) ∷ []
+abbrev pub acting_tests : Core → ℕ → List (Bool × Refusal)
+acting_tests c w = (no_worker c w, NoWorker) ∷ (all_idle c, MainReturned) ∷ (idle c w, WorkerIdle) ∷ []
 
 -- ---- the seven kinds
 
-unfoldable pub spawnOn : Layout → Core → ℕ → StepResult
-spawnOn L c w =
+unfoldable pub spawn_on : Layout → Core → ℕ → StepResult
+spawn_on L c w =
     let t : Table = spawn (table_of c) w in
-    stepResult (withFreePlace c.head t.free_place) c.totals t.deques t.frames (L.retain c.pool (actingIn c w).root) (Accepted (Spawned (plus (actingIn c w).depth 1)))
+    step_result (with_free_place c.head t.free_place) c.totals t.deques t.frames (L.retain c.pool (acting_in c w).root) (Accepted (Spawned (plus (acting_in c w).depth 1)))
 
 -- a return that left the core c, with the outcome o
 abbrev pub returned : Core → Returned → StepResult
 returned c o = record { core = c; answer = Accepted (Ended o) }
 
 -- R-5: "Once Main has returned, each total is ..": Main's view, at its end
-abbrev pub totalsAfter : Core → Frame → List ℕ
-totalsAfter c f = cond (eqb f.parent none) (viewWords f.view) c.totals
+abbrev pub totals_after : Core → Frame → List ℕ
+totals_after c f = cond (eqb f.parent none) (view_words f.view) c.totals
 
 -- the frame at place p ends: its tree is released, and its place is the first free one
 unfoldable pub end_at : Layout → Core → ℕ → Core
 end_at L c p =
-    let r : List ℕ × ℕ × ℕ = L.release c.head.numbers.nodes c.head.height c.pool c.head.numbers.free_node c.head.free_count (frameAt c.frames p).root in
+    let r : List ℕ × ℕ × ℕ = L.release c.head.numbers.nodes c.head.height c.pool c.head.numbers.free_node c.head.free_count (frame_at c.frames p).root in
     record {
-      head = withFreeNodes (withFreePlace c.head p) r.1 r.2;
-      totals = totalsAfter c (frameAt c.frames p);
+      head = with_free_nodes (with_free_place c.head p) r.1 r.2;
+      totals = totals_after c (frame_at c.frames p);
       deques = c.deques;
-      frames = endFrame c.frames c.head.numbers.free_place p;
+      frames = end_frame c.frames c.head.numbers.free_place p;
       pool = r.0;
     }
 
@@ -111,86 +111,86 @@ end_at L c p =
 unfoldable pub upward : Layout → ℕ → Core → ℕ → ℕ → StepResult
 upward L zero c w q = returned c Finished
 upward L (suc d) c w q =
-    let f : Frame = frameAt c.frames q in
+    let f : Frame = frame_at c.frames q in
     let ends = upward L d (end_at L c q) w f.parent in
-    cond (endsToo f) ends (returned (withTable c (goOn (table_of c) w q)) (wentOn (table_of c) q))
+    cond (ends_too f) ends (returned (with_table c (go_on (table_of c) w q)) (went_on (table_of c) q))
 
 -- worker w's bottom frame leaves its deque
 abbrev pub popped : Core → ℕ → Core
 popped c w = record { head = c.head; totals = c.totals; deques = pop c.deques w; frames = c.frames; pool = c.pool }
 
 -- worker w's bottom frame ends; "If its parent is then the bottom, the outcome is 0"
-unfoldable pub endBottom : Layout → Core → ℕ → StepResult
-endBottom L c w =
-    let f : Frame = actingIn c w in
+unfoldable pub end_bottom : Layout → Core → ℕ → StepResult
+end_bottom L c w =
+    let f : Frame = acting_in c w in
     let c' : Core = end_at L (popped c w) (bottom c.deques w) in
     let ends = upward L f.depth c' w f.parent in
     cond (eqb (size c'.deques w) 0) ends (returned c' Continued)
 
 -- R-3: "A return with a live child now suspends the frame as returning and gives outcome 4; its worker goes idle, and its tree is held."
-unfoldable pub returnOn : Layout → Core → ℕ → StepResult
-returnOn L c w =
-    let ends = endBottom L c w in
-    cond (eqb (actingIn c w).outstanding 0) ends (returned (withTable c (suspend (table_of c) w (asReturning (actingIn c w)))) Waiting)
+unfoldable pub return_on : Layout → Core → ℕ → StepResult
+return_on L c w =
+    let ends = end_bottom L c w in
+    cond (eqb (acting_in c w).outstanding 0) ends (returned (with_table c (suspend (table_of c) w (as_returning (acting_in c w)))) Waiting)
 
-unfoldable pub stealOn : Core → ℕ → ℕ → StepResult
-stealOn c w v =
+unfoldable pub steal_on : Core → ℕ → ℕ → StepResult
+steal_on c w v =
     let t : Table = steal (table_of c) w v in
-    stepResult c.head c.totals t.deques c.frames c.pool (Accepted (Stolen (stolen (table_of c) v).depth))
+    step_result c.head c.totals t.deques c.frames c.pool (Accepted (Stolen (stolen (table_of c) v).depth))
 
-unfoldable pub syncOn : Core → ℕ → StepResult
-syncOn c w =
+unfoldable pub sync_on : Core → ℕ → StepResult
+sync_on c w =
     let t : Table = sync (table_of c) w in
-    stepResult c.head c.totals t.deques t.frames c.pool (Accepted (Waited (synced (table_of c) w)))
+    step_result c.head c.totals t.deques t.frames c.pool (Accepted (Waited (synced (table_of c) w)))
 
 unfoldable pub read_on : Layout → Core → ℕ → ℕ → StepResult
-read_on L c w x = record { core = c; answer = Accepted (Value (L.read c.head.height c.pool (actingIn c w).root x)) }
+read_on L c w x = record { core = c; answer = Accepted (Value (L.read c.head.height c.pool (acting_in c w).root x)) }
 
-unfoldable pub writeOn : Layout → Core → ℕ → ℕ → ℕ → StepResult
-writeOn L c w x v =
-    let p : List ℕ × ℕ × ℕ × ℕ = L.write c.head.height c.pool c.head.numbers.free_node c.head.free_count (actingIn c w).root x v in
-    stepResult (withFreeNodes c.head p.1 p.2) c.totals c.deques (setFrame c.frames (bottom c.deques w) (withRoot (actingIn c w) p.3)) p.0
+unfoldable pub write_on : Layout → Core → ℕ → ℕ → ℕ → StepResult
+write_on L c w x v =
+    let p : List ℕ × ℕ × ℕ × ℕ = L.write c.head.height c.pool c.head.numbers.free_node c.head.free_count (acting_in c w).root x v in
+    step_result (with_free_nodes c.head p.1 p.2) c.totals c.deques (set_frame c.frames (bottom c.deques w) (with_root (acting_in c w) p.3)) p.0
     (Accepted (Written p.2))
 
 -- R-5: "Record kind 7 folds its value into the reducer named in its splitter field and answers 107 0"
-unfoldable pub foldOn : Core → ℕ → ℕ → ℕ → StepResult
-foldOn c w r v = stepResult c.head c.totals c.deques (fold (table_of c) w r v).frames c.pool (Accepted Folded)
+unfoldable pub fold_on : Core → ℕ → ℕ → ℕ → StepResult
+fold_on c w r v = step_result c.head c.totals c.deques (fold (table_of c) w r v).frames c.pool (Accepted Folded)
 
 -- ---- a step
 
 -- refusals 13, 15, 16 and 20, of the kind alone; 13, by R-6: as many frames live as the table has places, so that none is free; "14 no longer occurs" (R-3). 20 stands "in the place of 15" (R-5). 16, by R-2: "when fewer nodes are free than that rest has", of the path to the splitter
-abbrev pub kindTests : Layout → Core → Step → List (Bool × Refusal)
-kindTests L c (Spawn w) = (eqb c.head.numbers.free_place none, FramesFull) ∷ []
-kindTests L c (Return w) = []
-kindTests L c (Steal w v) = []
-kindTests L c (Sync w) = []
-kindTests L c (Read w x) = (not (ltb x c.head.numbers.splitters), NoSplitter) ∷ []
-kindTests L c (Write w x v) = (not (ltb x c.head.numbers.splitters), NoSplitter) ∷ (ltb c.head.free_count (L.rest c.head.height c.pool (actingIn c w).root x), PoolFull) ∷ []
-kindTests L c (Fold w r v) = (not (ltb r reducers), NoReducer) ∷ []
+abbrev pub kind_tests : Layout → Core → Step → List (Bool × Refusal)
+kind_tests L c (Spawn w) = (eqb c.head.numbers.free_place none, FramesFull) ∷ []
+kind_tests L c (Return w) = []
+kind_tests L c (Steal w v) = []
+kind_tests L c (Sync w) = []
+kind_tests L c (Read w x) = (not (ltb x c.head.numbers.splitters), NoSplitter) ∷ []
+kind_tests L c (Write w x v) = (not (ltb x c.head.numbers.splitters), NoSplitter) ∷ (ltb c.head.free_count (L.rest c.head.height c.pool (acting_in c w).root x), PoolFull) ∷ []
+kind_tests L c (Fold w r v) = (not (ltb r reducers), NoReducer) ∷ []
 
 -- refusals 8, 9, 11 and 12
-abbrev pub stealTests : Core → ℕ → ℕ → List (Bool × Refusal)
-stealTests c w v = (noWorker c w, NoWorker) ∷ (allIdle c, MainReturned) ∷ (not (idle c w), ThiefBusy) ∷ (noWorker c v || ltb (size c.deques v) 2, NoVictim) ∷ []
+abbrev pub steal_tests : Core → ℕ → ℕ → List (Bool × Refusal)
+steal_tests c w v = (no_worker c w, NoWorker) ∷ (all_idle c, MainReturned) ∷ (not (idle c w), ThiefBusy) ∷ (no_worker c v || ltb (size c.deques v) 2, NoVictim) ∷ []
 
 -- its refusals, in checking order
-abbrev pub testsOf : Layout → Core → Step → List (Bool × Refusal)
-testsOf L c (Spawn w) = actingTests c w ++ kindTests L c (Spawn w)
-testsOf L c (Return w) = actingTests c w ++ kindTests L c (Return w)
-testsOf L c (Steal w v) = stealTests c w v
-testsOf L c (Sync w) = actingTests c w ++ kindTests L c (Sync w)
-testsOf L c (Read w x) = actingTests c w ++ kindTests L c (Read w x)
-testsOf L c (Write w x v) = actingTests c w ++ kindTests L c (Write w x v)
-testsOf L c (Fold w r v) = actingTests c w ++ kindTests L c (Fold w r v)
+abbrev pub tests_of : Layout → Core → Step → List (Bool × Refusal)
+tests_of L c (Spawn w) = acting_tests c w ++ kind_tests L c (Spawn w)
+tests_of L c (Return w) = acting_tests c w ++ kind_tests L c (Return w)
+tests_of L c (Steal w v) = steal_tests c w v
+tests_of L c (Sync w) = acting_tests c w ++ kind_tests L c (Sync w)
+tests_of L c (Read w x) = acting_tests c w ++ kind_tests L c (Read w x)
+tests_of L c (Write w x v) = acting_tests c w ++ kind_tests L c (Write w x v)
+tests_of L c (Fold w r v) = acting_tests c w ++ kind_tests L c (Fold w r v)
 
 -- what it does if none holds
-abbrev pub doneBy : Layout → Core → Step → StepResult
-doneBy L c (Spawn w) = spawnOn L c w
-doneBy L c (Return w) = returnOn L c w
-doneBy L c (Steal w v) = stealOn c w v
-doneBy L c (Sync w) = syncOn c w
-doneBy L c (Read w x) = read_on L c w x
-doneBy L c (Write w x v) = writeOn L c w x v
-doneBy L c (Fold w r v) = foldOn c w r v
+abbrev pub done_by : Layout → Core → Step → StepResult
+done_by L c (Spawn w) = spawn_on L c w
+done_by L c (Return w) = return_on L c w
+done_by L c (Steal w v) = steal_on c w v
+done_by L c (Sync w) = sync_on c w
+done_by L c (Read w x) = read_on L c w x
+done_by L c (Write w x v) = write_on L c w x v
+done_by L c (Fold w r v) = fold_on c w r v
 
-unfoldable pub stepOn : Layout → Core → Step → StepResult
-stepOn L c st = judged (testsOf L c st) c (doneBy L c st)
+unfoldable pub step_on : Layout → Core → Step → StepResult
+step_on L c st = judged (tests_of L c st) c (done_by L c st)

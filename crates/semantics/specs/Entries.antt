@@ -1,25 +1,25 @@
 -- The entries: start, a step from outside, a tape. What each returns and leaves, on all inputs. Definitions only.
 use Rattle.std.specs.Prelude.{Bool, cond, not, ◌||◌, ◌&&◌, List, [], ◌∷◌, ℕ, zero, suc, ◌+◌, ◌*◌, ◌/◌, ◌%◌, length, set, replicate, eqb, ltb}
-use Rattle.sizes.specs.Sizes.{height, treeNodes}
-use Rattle.frames.specs.Widths.{maxPlaces, dequeWords}
+use Rattle.sizes.specs.Sizes.{height, tree_nodes}
+use Rattle.frames.specs.Widths.{max_places, deque_words}
 use Rattle.frames.specs.declared.Frame.{Frame}
-use Rattle.frames.specs.Frames.{initFrames, firstFree}
-use Rattle.frames.specs.Deques.{initDeques}
+use Rattle.frames.specs.Frames.{init_frames, first_free}
+use Rattle.frames.specs.Deques.{init_deques}
 use Rattle.soundness.specs.declared.Numbers.{Numbers}
 use Rattle.soundness.specs.declared.Checked.{Checked}
 use Rattle.soundness.specs.declared.Checked.TheVariants.{NoRoom, Sound}
-use Rattle.soundness.specs.Numbers.{numbersIn, numberWords, numberCount, totalCount, totalsIn}
-use Rattle.soundness.specs.Soundness.{sound, freeCount, checked, cleared}
+use Rattle.soundness.specs.Numbers.{numbers_in, number_words, number_count, total_count, totals_in}
+use Rattle.soundness.specs.Soundness.{sound, count_of_free, checked, cleared}
 use Rattle.model.specs.declared.Decoded.{Decoded}
 use Rattle.model.specs.declared.Decoded.TheVariants.{Valid, Invalid}
-use Rattle.model.specs.Record.{decodeAt}
+use Rattle.model.specs.Record.{decode_at}
 use Rattle.semantics.specs.declared.Head.{Head}
 use Rattle.semantics.specs.declared.Refusal.{Refusal}
 use Rattle.semantics.specs.declared.Refusal.TheVariants.{Values, Workers, Places, Nodes, Tape, Work, Record, Lengths}
 use Rattle.semantics.specs.declared.Answer.{Answer}
 use Rattle.semantics.specs.declared.Answer.TheVariants.{Refused}
-use Rattle.semantics.specs.Answers.{refusalNumber, answerWords, bothWords}
-use Rattle.semantics.specs.Core.{Core, StepResult, stepOn}
+use Rattle.semantics.specs.Answers.{refusal_number, answer_words, both_words}
+use Rattle.semantics.specs.Core.{Core, StepResult, step_on}
 use Rattle.soundness.specs.Layout.{Layout}
 
 -- ---- the state that a host lends, in three parts, in the order of document 02's R-1
@@ -33,39 +33,39 @@ pub record State : Type 0 where
 
 -- the parts of words have their lengths; else the entries' own refusal, 99, comes before all others and nothing changes. The table may have any length
 abbrev pub fits : State → Bool
-fits s = eqb (length s.numbers) numberCount && eqb (length s.deques) dequeWords
+fits s = eqb (length s.numbers) number_count && eqb (length s.deques) deque_words
 
-abbrev pub numbersOf : State → Numbers
-numbersOf s = numbersIn s.numbers
+abbrev pub numbers_of : State → Numbers
+numbers_of s = numbers_in s.numbers
 
-abbrev pub totalsOf : State → List ℕ
-totalsOf s = totalsIn s.numbers
+abbrev pub totals_of : State → List ℕ
+totals_of s = totals_in s.numbers
 
 -- with k free nodes
-abbrev pub headOf : Numbers → ℕ → Head
-headOf s k = record { numbers = s; height = height s.splitters; free_count = k }
+abbrev pub head_of : Numbers → ℕ → Head
+head_of s k = record { numbers = s; height = height s.splitters; free_count = k }
 
 abbrev pub core_of : State → List ℕ → ℕ → Core
-core_of s ws k = record { head = headOf (numbersOf s) k; totals = totalsOf s; deques = s.deques; frames = s.frames; pool = ws }
+core_of s ws k = record { head = head_of (numbers_of s) k; totals = totals_of s; deques = s.deques; frames = s.frames; pool = ws }
 
 abbrev pub state_of : Core → State
-state_of c = record { numbers = numberWords c.head.numbers c.totals; deques = c.deques; frames = c.frames }
+state_of c = record { numbers = number_words c.head.numbers c.totals; deques = c.deques; frames = c.frames }
 
 -- soundness of a state with the pool ws, the check's answer with the work slice ks, and the nodes on the free chain
-abbrev pub isSound : Layout → State → List ℕ → Bool
-isSound L s ws = sound L (numbersOf s) (totalsOf s) s.deques s.frames ws
+abbrev pub is_sound : Layout → State → List ℕ → Bool
+is_sound L s ws = sound L (numbers_of s) (totals_of s) s.deques s.frames ws
 
-abbrev pub checkedState : Layout → State → List ℕ → List ℕ → Checked
-checkedState L s ws ks = checked L (numbersOf s) (totalsOf s) s.deques s.frames ws ks
+abbrev pub checked_state : Layout → State → List ℕ → List ℕ → Checked
+checked_state L s ws ks = checked L (numbers_of s) (totals_of s) s.deques s.frames ws ks
 
-abbrev pub chainFree : Layout → State → List ℕ → ℕ
-chainFree L s ws = freeCount L (numbersOf s) ws
+abbrev pub chain_free : Layout → State → List ℕ → ℕ
+chain_free L s ws = count_of_free L (numbers_of s) ws
 
 -- ---- start
 
 -- "a refused start hands out a state of zeros"; fs is the frame table
 abbrev pub zeros : List Frame → State
-zeros fs = record { numbers = replicate numberCount 0; deques = replicate dequeWords 0; frames = fs }
+zeros fs = record { numbers = replicate number_count 0; deques = replicate deque_words 0; frames = fs }
 
 -- what a start leaves: the state and the pool's words; and its result, 0 or a refusal
 pub record StartResult : Type 0 where
@@ -74,47 +74,47 @@ pub record StartResult : Type 0 where
   pub result : ℕ
 
 -- "the pool's whole nodes"
-abbrev pub wholeNodes : Layout → List ℕ → ℕ
-wholeNodes L ws = length ws / L.words
+abbrev pub whole_nodes : Layout → List ℕ → ℕ
+whole_nodes L ws = length ws / L.words
 
 -- document 01's start: "Main, depth 0, is alone on worker 0's deque", in place 0; R-6: the table's length is recorded
-abbrev pub firstNumbers : ℕ → ℕ → ℕ → ℕ → ℕ → Numbers
-firstNumbers workers n nodes free places =
-    record { workers = workers; splitters = n; nodes = nodes; free_node = free; free_place = firstFree places; places = places }
+abbrev pub first_numbers : ℕ → ℕ → ℕ → ℕ → ℕ → Numbers
+first_numbers workers n nodes free places =
+    record { workers = workers; splitters = n; nodes = nodes; free_node = free; free_place = first_free places; places = places }
 
 -- in the lent table fs, whatever it holds
-abbrev pub firstState : ℕ → ℕ → ℕ → ℕ → List Frame → State
-firstState workers n nodes free fs =
-    record { numbers = numberWords (firstNumbers workers n nodes free (length fs)) (replicate totalCount 0); deques = initDeques (replicate dequeWords 0); frames = initFrames fs }
+abbrev pub first_state : ℕ → ℕ → ℕ → ℕ → List Frame → State
+first_state workers n nodes free fs =
+    record { numbers = number_words (first_numbers workers n nodes free (length fs)) (replicate total_count 0); deques = init_deques (replicate deque_words 0); frames = init_frames fs }
 
-abbrev pub startAccepted : Layout → ℕ → List ℕ → List Frame → List ℕ → StartResult
-startAccepted L workers vs fs ws =
-    let p : List ℕ × ℕ = L.start ws (length vs) (wholeNodes L ws) vs in
-    record { state = firstState workers (length vs) (wholeNodes L ws) p.1 fs; pool = p.0; result = 0 }
+abbrev pub start_accepted : Layout → ℕ → List ℕ → List Frame → List ℕ → StartResult
+start_accepted L workers vs fs ws =
+    let p : List ℕ × ℕ = L.start ws (length vs) (whole_nodes L ws) vs in
+    record { state = first_state workers (length vs) (whole_nodes L ws) p.1 fs; pool = p.0; result = 0 }
 
 -- table and pool are left as they were
-abbrev pub startRefused : Refusal → List Frame → List ℕ → StartResult
-startRefused r fs ws = record { state = zeros fs; pool = ws; result = refusalNumber r }
+abbrev pub start_refused : Refusal → List Frame → List ℕ → StartResult
+start_refused r fs ws = record { state = zeros fs; pool = ws; result = refusal_number r }
 
 -- 1. "there are 0 or more than 256 initial values" 2. "there are 0 or more than 8 workers" 21. "the table has 0 or more than 256 places, after 2"
 -- 3. "the pool has fewer than T(n) or more than 16,384 nodes"
-unfoldable pub startWith : Layout → ℕ → List ℕ → List Frame → List ℕ → StartResult
-startWith L workers vs fs ws =
-    cond (eqb (length vs) 0 || ltb 256 (length vs)) (startRefused Values fs ws)
-    (cond (eqb workers 0 || ltb 8 workers) (startRefused Workers fs ws)
-    (cond (eqb (length fs) 0 || ltb maxPlaces (length fs)) (startRefused Places fs ws)
-    (cond (ltb (wholeNodes L ws) (treeNodes (length vs)) || ltb 16384 (wholeNodes L ws)) (startRefused Nodes fs ws) (startAccepted L workers vs fs ws))))
+unfoldable pub start_with : Layout → ℕ → List ℕ → List Frame → List ℕ → StartResult
+start_with L workers vs fs ws =
+    cond (eqb (length vs) 0 || ltb 256 (length vs)) (start_refused Values fs ws)
+    (cond (eqb workers 0 || ltb 8 workers) (start_refused Workers fs ws)
+    (cond (eqb (length fs) 0 || ltb max_places (length fs)) (start_refused Places fs ws)
+    (cond (ltb (whole_nodes L ws) (tree_nodes (length vs)) || ltb 16384 (whole_nodes L ws)) (start_refused Nodes fs ws) (start_accepted L workers vs fs ws))))
 
 -- the start, over the lent parts s, whatever they hold
-unfoldable pub startOn : Layout → State → ℕ → List ℕ → List ℕ → StartResult
-startOn L s workers vs ws = cond (fits s) (startWith L workers vs s.frames ws) (record { state = s; pool = ws; result = refusalNumber Lengths })
+unfoldable pub start_on : Layout → State → ℕ → List ℕ → List ℕ → StartResult
+start_on L s workers vs ws = cond (fits s) (start_with L workers vs s.frames ws) (record { state = s; pool = ws; result = refusal_number Lengths })
 
 -- ---- a step from outside
 
 -- a record's step, or refusal 7
-abbrev pub recordOn : Layout → Core → Decoded → StepResult
-recordOn L c (Valid st) = stepOn L c st
-recordOn L c Invalid = record { core = c; answer = Refused Record }
+abbrev pub record_on : Layout → Core → Decoded → StepResult
+record_on L c (Valid st) = step_on L c st
+record_on L c Invalid = record { core = c; answer = Refused Record }
 
 -- what a step leaves: the state, the pool's words and the work slice; and its result, the two answer words in one number
 pub record OutsideResult : Type 0 where
@@ -123,54 +123,54 @@ pub record OutsideResult : Type 0 where
   pub work : List ℕ
   pub result : ℕ
 
-abbrev pub answerResult : Answer → ℕ
-answerResult a = bothWords (answerWords a)
+abbrev pub answer_result : Answer → ℕ
+answer_result a = both_words (answer_words a)
 
-abbrev pub outsideDone : StepResult → List ℕ → OutsideResult
-outsideDone d work = record { state = state_of d.core; pool = d.core.pool; work = work; result = answerResult d.answer }
+abbrev pub outside_done : StepResult → List ℕ → OutsideResult
+outside_done d work = record { state = state_of d.core; pool = d.core.pool; work = work; result = answer_result d.answer }
 
-abbrev pub outsideRefused : State → List ℕ → List ℕ → Refusal → OutsideResult
-outsideRefused s ws work r = record { state = s; pool = ws; work = work; result = answerResult (Refused r) }
+abbrev pub outside_refused : State → List ℕ → List ℕ → Refusal → OutsideResult
+outside_refused s ws work r = record { state = s; pool = ws; work = work; result = answer_result (Refused r) }
 
 -- the check's answer, then the step
-abbrev pub outsideChecked : Layout → Checked → State → List ℕ → List ℕ → Decoded → OutsideResult
-outsideChecked L NoRoom s ws work d = outsideRefused s ws work Work
-outsideChecked L Checked.Unsound s ws work d = outsideRefused s ws (cleared (numbersOf s).nodes work) Refusal.Unsound
-outsideChecked L (Sound k) s ws work d = outsideDone (recordOn L (core_of s ws k) d) (cleared (numbersOf s).nodes work)
+abbrev pub outside_checked : Layout → Checked → State → List ℕ → List ℕ → Decoded → OutsideResult
+outside_checked L NoRoom s ws work d = outside_refused s ws work Work
+outside_checked L Checked.Unsound s ws work d = outside_refused s ws (cleared (numbers_of s).nodes work) Refusal.Unsound
+outside_checked L (Sound k) s ws work d = outside_done (record_on L (core_of s ws k) d) (cleared (numbers_of s).nodes work)
 
 -- "A step entered from outside checks soundness first"
-unfoldable pub outsideWith : Layout → State → List ℕ → List ℕ → Decoded → OutsideResult
-outsideWith L s ws work d = outsideChecked L (checkedState L s ws work) s ws work d
+unfoldable pub outside_with : Layout → State → List ℕ → List ℕ → Decoded → OutsideResult
+outside_with L s ws work d = outside_checked L (checked_state L s ws work) s ws work d
 
-unfoldable pub outsideOn : Layout → State → List ℕ → List ℕ → Decoded → OutsideResult
-outsideOn L s ws work d = cond (fits s) (outsideWith L s ws work d) (outsideRefused s ws work Lengths)
+unfoldable pub outside_on : Layout → State → List ℕ → List ℕ → Decoded → OutsideResult
+outside_on L s ws work d = cond (fits s) (outside_with L s ws work d) (outside_refused s ws work Lengths)
 
 -- ---- a tape
 
 -- "each 8-byte record": k records from the byte `at` on
-unfoldable pub recordsFrom : ℕ → List ℕ → ℕ → List Decoded
-recordsFrom zero tape at = []
-recordsFrom (suc k) tape at = decodeAt tape at ∷ recordsFrom k tape (at + 8)
+unfoldable pub records_from : ℕ → List ℕ → ℕ → List Decoded
+records_from zero tape at = []
+records_from (suc k) tape at = decode_at tape at ∷ records_from k tape (at + 8)
 
-abbrev pub recordsOf : List ℕ → List Decoded
-recordsOf tape = recordsFrom (length tape / 8) tape 0
+abbrev pub records_of : List ℕ → List Decoded
+records_of tape = records_from (length tape / 8) tape 0
 
 -- "Each record gives two answer words"
-abbrev pub putAnswer : List ℕ → ℕ → Answer → List ℕ
-putAnswer answers k a = set (set answers k (answerWords a).0) (suc k) (answerWords a).1
+abbrev pub put_answer : List ℕ → ℕ → Answer → List ℕ
+put_answer answers k a = set (set answers k (answer_words a).0) (suc k) (answer_words a).1
 
 -- a core and the answer words
 pub record RecordsResult : Type 0 where
   pub core : Core
   pub answers : List ℕ
 
-abbrev pub recordsResult : Core → List ℕ → RecordsResult
-recordsResult c answers = record { core = c; answers = answers }
+abbrev pub records_result : Core → List ℕ → RecordsResult
+records_result c answers = record { core = c; answers = answers }
 
 -- the records in order, their answer words from place k on; "and the tape goes on"
-unfoldable pub runOn : Layout → RecordsResult → ℕ → List Decoded → RecordsResult
-runOn L r k [] = r
-runOn L r k (d ∷ ds) = let o : StepResult = recordOn L r.core d in runOn L (recordsResult o.core (putAnswer r.answers k o.answer)) (k + 2) ds
+unfoldable pub run_on : Layout → RecordsResult → ℕ → List Decoded → RecordsResult
+run_on L r k [] = r
+run_on L r k (d ∷ ds) = let o : StepResult = record_on L r.core d in run_on L (records_result o.core (put_answer r.answers k o.answer)) (k + 2) ds
 
 -- what a tape leaves: the state, the pool's words, the work slice and the answer words; and its result, 0 or a refusal
 pub record TapeResult : Type 0 where
@@ -180,24 +180,24 @@ pub record TapeResult : Type 0 where
   pub answers : List ℕ
   pub result : ℕ
 
-abbrev pub tapeDone : RecordsResult → List ℕ → TapeResult
-tapeDone r work = record { state = state_of r.core; pool = r.core.pool; work = work; answers = r.answers; result = 0 }
+abbrev pub tape_done : RecordsResult → List ℕ → TapeResult
+tape_done r work = record { state = state_of r.core; pool = r.core.pool; work = work; answers = r.answers; result = 0 }
 
-abbrev pub tapeRefused : State → List ℕ → List ℕ → List ℕ → Refusal → TapeResult
-tapeRefused s ws work answers r = record { state = s; pool = ws; work = work; answers = answers; result = refusalNumber r }
+abbrev pub tape_refused : State → List ℕ → List ℕ → List ℕ → Refusal → TapeResult
+tape_refused s ws work answers r = record { state = s; pool = ws; work = work; answers = answers; result = refusal_number r }
 
-abbrev pub tapeChecked : Layout → Checked → State → List ℕ → List ℕ → List ℕ → List ℕ → TapeResult
-tapeChecked L NoRoom s ws work tape answers = tapeRefused s ws work answers Work
-tapeChecked L Checked.Unsound s ws work tape answers = tapeRefused s ws (cleared (numbersOf s).nodes work) answers Refusal.Unsound
-tapeChecked L (Sound k) s ws work tape answers = tapeDone (runOn L (recordsResult (core_of s ws k) answers) 0 (recordsOf tape)) (cleared (numbersOf s).nodes work)
+abbrev pub tape_checked : Layout → Checked → State → List ℕ → List ℕ → List ℕ → List ℕ → TapeResult
+tape_checked L NoRoom s ws work tape answers = tape_refused s ws work answers Work
+tape_checked L Checked.Unsound s ws work tape answers = tape_refused s ws (cleared (numbers_of s).nodes work) answers Refusal.Unsound
+tape_checked L (Sound k) s ws work tape answers = tape_done (run_on L (records_result (core_of s ws k) answers) 0 (records_of tape)) (cleared (numbers_of s).nodes work)
 
 -- 4. "The tape is not a multiple of 8 bytes, or the answer slice has fewer than two words per record."
-abbrev pub unfitTape : List ℕ → List ℕ → Bool
-unfitTape tape answers = not (eqb (length tape % 8) 0) || ltb (length answers) (2 * (length tape / 8))
+abbrev pub unfit_tape : List ℕ → List ℕ → Bool
+unfit_tape tape answers = not (eqb (length tape % 8) 0) || ltb (length answers) (2 * (length tape / 8))
 
 -- "a tape checks once"
-unfoldable pub tapeWith : Layout → State → List ℕ → List ℕ → List ℕ → List ℕ → TapeResult
-tapeWith L s ws work tape answers = cond (unfitTape tape answers) (tapeRefused s ws work answers Tape) (tapeChecked L (checkedState L s ws work) s ws work tape answers)
+unfoldable pub tape_with : Layout → State → List ℕ → List ℕ → List ℕ → List ℕ → TapeResult
+tape_with L s ws work tape answers = cond (unfit_tape tape answers) (tape_refused s ws work answers Tape) (tape_checked L (checked_state L s ws work) s ws work tape answers)
 
-unfoldable pub tapeOn : Layout → State → List ℕ → List ℕ → List ℕ → List ℕ → TapeResult
-tapeOn L s ws work tape answers = cond (fits s) (tapeWith L s ws work tape answers) (tapeRefused s ws work answers Lengths)
+unfoldable pub tape_on : Layout → State → List ℕ → List ℕ → List ℕ → List ℕ → TapeResult
+tape_on L s ws work tape answers = cond (fits s) (tape_with L s ws work tape answers) (tape_refused s ws work answers Lengths)

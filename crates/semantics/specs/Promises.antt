@@ -1,9 +1,9 @@
 -- What the entries promise: result, state with its table, pool, work slice and answer words, each by an equation with a definition of Entries.
 -- Definitions only.
 use Rattle.std.specs.Prelude.{◌≡◌, List, ℕ, length}
-use Rattle.frames.specs.Widths.{dequeWords}
+use Rattle.frames.specs.Widths.{deque_words}
 use Rattle.frames.specs.declared.Frame.{Frame}
-use Rattle.soundness.specs.Numbers.{numberCount}
+use Rattle.soundness.specs.Numbers.{number_count}
 use Rattle.semantics.specs.Entries.{State, StartResult, OutsideResult, TapeResult}
 use Rattle.semantics.specs.Images.{SaveResult, LoadResult}
 use Rattle.semantics.specs.Report.{Lent, ReportResult}
@@ -16,8 +16,8 @@ parts ns ds fs = record { numbers = ns; deques = ds; frames = fs }
 
 -- the parts of words have their lengths
 pub record Fits (s : State) : Type 0 where
-  pub numbers : length s.numbers ≡ numberCount
-  pub deques : length s.deques ≡ dequeWords
+  pub numbers : length s.numbers ≡ number_count
+  pub deques : length s.deques ≡ deque_words
 
 -- the parts ns, ds and fs, the pool ws and the result r are those of the start's result o
 pub record IsStart (o : StartResult) (ns ds : List ℕ) (fs : List Frame) (ws : List ℕ) (r : ℕ) : Type 0 where

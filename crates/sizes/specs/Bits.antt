@@ -6,9 +6,9 @@ use Rattle.std.proofs.lemmas.Nat.{mod-pow-add, and_mask}
 use Rattle.std.specs.Int.Bits.{bit_and}
 use Rattle.sizes.specs.Sizes.{bit}
 
-pub bit-lt : (l x : ℕ) → bit l x < 2
+pub bit_lt : (l x : ℕ) → bit l x < 2
 unfolding bit
-bit-lt l x = mod-lt (x / 2 ^ l) (omega arith)
+bit_lt l x = mod-lt (x / 2 ^ l) (omega arith)
 
 low : (l x : ℕ) → x % 2 ^ suc l ≡ bit l x * 2 ^ l + x % 2 ^ l
 unfolding bit
@@ -20,8 +20,8 @@ low0 l x e = low l x ∙ ap (λ (b : ℕ). b * 2 ^ l + x % 2 ^ l) e ∙ omega ar
 pub low1 : (l x : ℕ) → bit l x ≡ 1 → x % 2 ^ suc l ≡ 2 ^ l + x % 2 ^ l
 low1 l x e = low l x ∙ ap (λ (b : ℕ). b * 2 ^ l + x % 2 ^ l) e ∙ omega arith
 
-pub low-lt : (l x : ℕ) → x % 2 ^ l < 2 ^ l
-low-lt l x = mod-lt x (pow_pos l)
+pub low_lt : (l x : ℕ) → x % 2 ^ l < 2 ^ l
+low_lt l x = mod-lt x (pow_pos l)
 
 -- the bits from k to l - 1 agree; one of them differs
 abbrev pub Agree : ℕ → ℕ → ℕ → ℕ → Type 0
@@ -41,37 +41,37 @@ agree_differ k (suc l) x y = elim (ℕ_discrete (bit l x) (bit l y)) [
     up (inl f) e = inl (λ m a b. elim (ℕ_discrete m l) [ yes q ↦ ap (λ (i : ℕ). bit i x) q ∙ e ∙ ap (λ (i : ℕ). bit i y) (sym q) | no q ↦ f m a (omega arith) ])
     up (inr d) e = inr (d.0, d.1, omega (arith, d.2), d.3)
 
-pub agree-low : (l x y : ℕ) → Agree 0 l x y → x % 2 ^ l ≡ y % 2 ^ l
-agree-low zero x y h = omega (arith, low-lt 0 x, low-lt 0 y)
-agree-low (suc l) x y h =
-    let i = agree-low l x y (λ m a b. h m a (omega arith)) in
+pub agree_low : (l x y : ℕ) → Agree 0 l x y → x % 2 ^ l ≡ y % 2 ^ l
+agree_low zero x y h = omega (arith, low_lt 0 x, low_lt 0 y)
+agree_low (suc l) x y h =
+    let i = agree_low l x y (λ m a b. h m a (omega arith)) in
     let e = h l (omega arith) (omega arith) in
     elim (ℕ_discrete (bit l x) 0) [
       | yes z ↦ low0 l x z ∙ i ∙ sym (low0 l y (sym e ∙ z))
-      | no z ↦ omega (arith, low1 l x (omega (arith, bit-lt l x)), low1 l y (omega (arith, bit-lt l x)), i)
+      | no z ↦ omega (arith, low1 l x (omega (arith, bit_lt l x)), low1 l y (omega (arith, bit_lt l x)), i)
     ]
 
-bit-shift : (k m x : ℕ) → bit m (x / 2 ^ k) ≡ bit (k + m) x
+bit_shift : (k m x : ℕ) → bit m (x / 2 ^ k) ≡ bit (k + m) x
 unfolding bit
-bit-shift k m x = ap (λ (q : ℕ). q % 2) (shr-shr x k m)
+bit_shift k m x = ap (λ (q : ℕ). q % 2) (shr-shr x k m)
 
 -- one group at level k
-pub group-agree : (k l x y : ℕ) → x / 2 ^ k ≡ y / 2 ^ k → Agree k l x y
-group-agree k l x y e m a b =
+pub group_agree : (k l x y : ℕ) → x / 2 ^ k ≡ y / 2 ^ k → Agree k l x y
+group_agree k l x y e m a b =
     let s : k + (m - k) ≡ m = omega arith in
-    ap (λ (i : ℕ). bit i x) (sym s) ∙ sym (bit-shift k (m - k) x) ∙ ap (bit (m - k)) e ∙ bit-shift k (m - k) y ∙ ap (λ (i : ℕ). bit i y) s
+    ap (λ (i : ℕ). bit i x) (sym s) ∙ sym (bit_shift k (m - k) x) ∙ ap (bit (m - k)) e ∙ bit_shift k (m - k) y ∙ ap (λ (i : ℕ). bit i y) s
 
-pub agree-group : (k l x y : ℕ) → k ≤ l → x < 2 ^ l → y < 2 ^ l → Agree k l x y → x / 2 ^ k ≡ y / 2 ^ k
-agree-group k l x y h bx by g =
+pub agree_group : (k l x y : ℕ) → k ≤ l → x < 2 ^ l → y < 2 ^ l → Agree k l x y → x / 2 ^ k ≡ y / 2 ^ k
+agree_group k l x y h bx by g =
     sym (mod-eq_of_lt (shr_lt (l - k) k (subst (λ (q : ℕ). x < 2 ^ q) s bx)))
-    ∙ agree-low (l - k) (x / 2 ^ k) (y / 2 ^ k) (λ m a b. bit-shift k m x ∙ g (k + m) (omega arith) (omega arith) ∙ sym (bit-shift k m y))
+    ∙ agree_low (l - k) (x / 2 ^ k) (y / 2 ^ k) (λ m a b. bit_shift k m x ∙ g (k + m) (omega arith) (omega arith) ∙ sym (bit_shift k m y))
     ∙ mod-eq_of_lt (shr_lt (l - k) k (subst (λ (q : ℕ). y < 2 ^ q) s by))
   where
     s : l ≡ (l - k) + k
     s = omega arith
 
-pub differ-group : (k l x y : ℕ) → Differ k l x y → x / 2 ^ k ≢ y / 2 ^ k
-differ-group k l x y d e = d.3 (group-agree k l x y e d.0 d.1 d.2)
+pub differ_group : (k l x y : ℕ) → Differ k l x y → x / 2 ^ k ≢ y / 2 ^ k
+differ_group k l x y d e = d.3 (group_agree k l x y e d.0 d.1 d.2)
 
 pub agree_refl : (k l x : ℕ) → Agree k l x x
 agree_refl k l x m a b = refl

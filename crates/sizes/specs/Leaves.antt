@@ -31,14 +31,14 @@ pub leaves_none : (n l g : ℕ) → ¬ (g * 2 ^ l < n) → leaves n l g ≡ 0
 unfolding leaves
 leaves_none n l g h = omega arith
 
-pub leaves-back : (n l g : ℕ) → 0 < leaves n l g → g * 2 ^ l < n
+pub leaves_back : (n l g : ℕ) → 0 < leaves n l g → g * 2 ^ l < n
 unfolding leaves
-leaves-back n l g h = omega arith
+leaves_back n l g h = omega arith
 
 pub leaves-top : (n l : ℕ) → n ≤ 2 ^ l → leaves n l 0 ≡ n
 unfolding leaves
 leaves-top n l h = omega arith
 
-pub leaves-leaf : (n g : ℕ) → g * 2 ^ 0 < n → leaves n 0 g ≡ 1
+pub leaves_leaf : (n g : ℕ) → g * 2 ^ 0 < n → leaves n 0 g ≡ 1
 unfolding leaves
-leaves-leaf n g h = omega arith
+leaves_leaf n g h = omega arith

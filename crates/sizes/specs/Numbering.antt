@@ -5,7 +5,7 @@ use Prim.Native.Nat.{ℕ, zero, suc, ◌+◌, ◌-◌, ◌≤◌, ◌<◌}
 use native.Mathlib.Omega.{arith}
 use Rattle.std.proofs.Math.Decide.{ℕ_discrete, dec_lt, dec_le}
 use Rattle.words.specs.Basics.{sum}
-use Rattle.sizes.specs.Sizes.{width, height, treeNodes}
+use Rattle.sizes.specs.Sizes.{width, height, tree_nodes}
 
 -- the nodes of the c levels above level l
 unfoldable pub above : ℕ → ℕ → ℕ → ℕ
@@ -16,17 +16,17 @@ above n (suc c) l = above n c (suc l) + width n (suc l)
 unfoldable pub first : ℕ → ℕ → ℕ → ℕ
 first n H l = above n (H - l) l
 
-unfoldable pub nodesTo : ℕ → ℕ → ℕ
-nodesTo n H = first n H 0 + width n 0
+unfoldable pub nodes_to : ℕ → ℕ → ℕ
+nodes_to n H = first n H 0 + width n 0
 
-unfoldable pub levelAt : {a b : ℕ} → Dec (a ≤ b) → ℕ → ℕ → ℕ
-levelAt (yes p) l r = l
-levelAt (no p) l r = r
+unfoldable pub level_at : {a b : ℕ} → Dec (a ≤ b) → ℕ → ℕ → ℕ
+level_at (yes p) l r = l
+level_at (no p) l r = r
 
 -- the level of node i, from level H - c upwards
-unfoldable pub levelOf : ℕ → ℕ → ℕ → ℕ → ℕ
-levelOf n H zero i = H
-levelOf n H (suc c) i = levelAt (dec_le (first n H (H - suc c)) i) (H - suc c) (levelOf n H c i)
+unfoldable pub level_of : ℕ → ℕ → ℕ → ℕ → ℕ
+level_of n H zero i = H
+level_of n H (suc c) i = level_at (dec_le (first n H (H - suc c)) i) (H - suc c) (level_of n H c i)
 
 module _ (n H : ℕ) where
   pub first-top : first n H H ≡ 0
@@ -37,65 +37,65 @@ module _ (n H : ℕ) where
   unfolding first above
   first_step l h = (let e : H - l ≡ suc (H - suc l) = omega arith in ap (λ (c : ℕ). above n c l) e)
 
-  first-mono : (c l m : ℕ) → l + suc c ≡ m → m ≤ H → first n H m + width n m ≤ first n H l
-  first-mono zero l m e h = omega (arith, first_step l (omega arith), ap (first n H) e', ap (width n) e')
+  first_mono : (c l m : ℕ) → l + suc c ≡ m → m ≤ H → first n H m + width n m ≤ first n H l
+  first_mono zero l m e h = omega (arith, first_step l (omega arith), ap (first n H) e', ap (width n) e')
     where
       e' : m ≡ suc l
       e' = omega arith
-  first-mono (suc c) l m e h = omega (arith, first_step l (omega arith), first-mono c (suc l) m (omega arith) h)
+  first_mono (suc c) l m e h = omega (arith, first_step l (omega arith), first_mono c (suc l) m (omega arith) h)
 
-  pub first-lt : (l m : ℕ) → l < m → m ≤ H → first n H m + width n m ≤ first n H l
-  first-lt l m h k = first-mono (m - suc l) l m (omega arith) k
+  pub first_lt : (l m : ℕ) → l < m → m ≤ H → first n H m + width n m ≤ first n H l
+  first_lt l m h k = first_mono (m - suc l) l m (omega arith) k
 
-  pub id-lt : (l g : ℕ) → l ≤ H → g < width n l → first n H l + g < nodesTo n H
-  unfolding nodesTo
-  id-lt l g h b = elim (ℕ_discrete l 0) [
+  pub id_lt : (l g : ℕ) → l ≤ H → g < width n l → first n H l + g < nodes_to n H
+  unfolding nodes_to
+  id_lt l g h b = elim (ℕ_discrete l 0) [
     | yes e ↦ omega (arith, ap (first n H) e, ap (width n) e)
-    | no e ↦ omega (arith, first-lt 0 l (omega arith) h)
+    | no e ↦ omega (arith, first_lt 0 l (omega arith) h)
   ]
 
-  pub id-inj : (l g m k : ℕ) → l ≤ H → m ≤ H → g < width n l → k < width n m → first n H l + g ≡ first n H m + k → (l ≡ m) × (g ≡ k)
-  id-inj l g m k hl hm bg bk e = elim (ℕ_discrete l m) [
+  pub id_inj : (l g m k : ℕ) → l ≤ H → m ≤ H → g < width n l → k < width n m → first n H l + g ≡ first n H m + k → (l ≡ m) × (g ≡ k)
+  id_inj l g m k hl hm bg bk e = elim (ℕ_discrete l m) [
     | yes q ↦ (q, omega (arith, ap (first n H) q))
     | no q ↦ elim (dec_lt l m) [
-      | yes r ↦ absurd (omega (arith, first-lt l m r hm))
-      | no r ↦ absurd (omega (arith, first-lt m l (omega arith) hl))
+      | yes r ↦ absurd (omega (arith, first_lt l m r hm))
+      | no r ↦ absurd (omega (arith, first_lt m l (omega arith) hl))
     ]
   ]
 
-  id-of-go : (c i : ℕ) → c ≤ H → i < first n H (H - c) + width n (H - c) → (l : ℕ) × (g : ℕ) × (l ≤ H) × (g < width n l) × (i ≡ first n H l + g)
-  id-of-go zero i h b = (H, i, omega arith, omega (arith, ap (first n H) e, ap (width n) e, first-top), omega (arith, first-top))
+  id_of_go : (c i : ℕ) → c ≤ H → i < first n H (H - c) + width n (H - c) → (l : ℕ) × (g : ℕ) × (l ≤ H) × (g < width n l) × (i ≡ first n H l + g)
+  id_of_go zero i h b = (H, i, omega arith, omega (arith, ap (first n H) e, ap (width n) e, first-top), omega (arith, first-top))
     where
       e : H - 0 ≡ H
       e = omega arith
-  id-of-go (suc c) i h b = elim (dec_le (first n H (H - suc c)) i) [
+  id_of_go (suc c) i h b = elim (dec_le (first n H (H - suc c)) i) [
     | yes p ↦ (H - suc c, i - first n H (H - suc c), omega arith, omega arith, omega arith)
-    | no p ↦ id-of-go c i (omega arith) (omega (arith, first_step (H - suc c) (omega arith), ap (first n H) e, ap (width n) e))
+    | no p ↦ id_of_go c i (omega arith) (omega (arith, first_step (H - suc c) (omega arith), ap (first n H) e, ap (width n) e))
   ]
     where
       e : suc (H - suc c) ≡ H - c
       e = omega arith
 
-  pub id-of : (i : ℕ) → i < nodesTo n H → (l : ℕ) × (g : ℕ) × (l ≤ H) × (g < width n l) × (i ≡ first n H l + g)
-  unfolding nodesTo
-  id-of i b = id-of-go H i (omega arith) (omega (arith, ap (first n H) e, ap (width n) e))
+  pub id_of : (i : ℕ) → i < nodes_to n H → (l : ℕ) × (g : ℕ) × (l ≤ H) × (g < width n l) × (i ≡ first n H l + g)
+  unfolding nodes_to
+  id_of i b = id_of_go H i (omega arith) (omega (arith, ap (first n H) e, ap (width n) e))
     where
       e : H - H ≡ 0
       e = omega arith
 
-  level-go : (c l g : ℕ) → H - c ≤ l → c ≤ H → l ≤ H → g < width n l → levelOf n H c (first n H l + g) ≡ l
-  unfolding levelOf
-  level-go zero l g h hc hl b = omega arith
-  level-go (suc c) l g h hc hl b = go (dec_le (first n H (H - suc c)) (first n H l + g)) (λ q. level-go c l g q (omega arith) hl b)
+  level_go : (c l g : ℕ) → H - c ≤ l → c ≤ H → l ≤ H → g < width n l → level_of n H c (first n H l + g) ≡ l
+  unfolding level_of
+  level_go zero l g h hc hl b = omega arith
+  level_go (suc c) l g h hc hl b = go (dec_le (first n H (H - suc c)) (first n H l + g)) (λ q. level_go c l g q (omega arith) hl b)
     where
-      go : (d : Dec (first n H (H - suc c) ≤ first n H l + g)) → (H - c ≤ l → levelOf n H c (first n H l + g) ≡ l) → levelAt d (H - suc c) (levelOf n H c (first n H l + g)) ≡ l
-      go d = unfold levelAt in elim d [
-        | yes p ↦ (λ r. elim (ℕ_discrete (H - suc c) l) [ yes e ↦ e | no e ↦ absurd (omega (arith, first-lt (H - suc c) l (omega arith) hl)) ])
+      go : (d : Dec (first n H (H - suc c) ≤ first n H l + g)) → (H - c ≤ l → level_of n H c (first n H l + g) ≡ l) → level_at d (H - suc c) (level_of n H c (first n H l + g)) ≡ l
+      go d = unfold level_at in elim d [
+        | yes p ↦ (λ r. elim (ℕ_discrete (H - suc c) l) [ yes e ↦ e | no e ↦ absurd (omega (arith, first_lt (H - suc c) l (omega arith) hl)) ])
         | no p ↦ (λ r. r (elim (ℕ_discrete (H - suc c) l) [ yes e ↦ absurd (omega (arith, ap (first n H) e)) | no e ↦ omega arith ]))
       ]
 
-  pub level-is : (l g : ℕ) → l ≤ H → g < width n l → levelOf n H H (first n H l + g) ≡ l
-  level-is l g hl b = level-go H l g (omega arith) (omega arith) hl b
+  pub level_is : (l g : ℕ) → l ≤ H → g < width n l → level_of n H H (first n H l + g) ≡ l
+  level_is l g hl b = level_go H l g (omega arith) (omega arith) hl b
 
 above-sum : (n c l : ℕ) → above n c l + sum (suc l) (width n) ≡ sum (suc (l + c)) (width n)
 unfolding above
@@ -108,8 +108,8 @@ above-sum n (suc c) l = omega (arith, above-sum n c (suc l), ap (λ q. sum (suc 
     e : suc l + c ≡ l + suc c
     e = omega arith
 
-pub nodes-sum : (n H : ℕ) → nodesTo n H ≡ sum (suc H) (width n)
-unfolding nodesTo first
+pub nodes-sum : (n H : ℕ) → nodes_to n H ≡ sum (suc H) (width n)
+unfolding nodes_to first
 nodes-sum n H = omega (arith, above-sum n H 0, ap (λ q. sum (suc q) (width n)) e, ap (λ c. above n c 0) z)
   where
     e : 0 + H ≡ H
@@ -119,6 +119,6 @@ nodes-sum n H = omega (arith, above-sum n H 0, ap (λ q. sum (suc q) (width n)) 
     z = omega arith
 
 -- all levels' nodes are T(n)
-pub nodes-tree : (n : ℕ) → nodesTo n (height n) ≡ treeNodes n
-unfolding treeNodes
+pub nodes-tree : (n : ℕ) → nodes_to n (height n) ≡ tree_nodes n
+unfolding tree_nodes
 nodes-tree n = nodes-sum n (height n)

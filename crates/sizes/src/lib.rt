@@ -1,6 +1,6 @@
 // The split tree's measures for n splitters: its height, the nodes of a level, all its nodes.
 ghost use Rattle.std.specs.Prelude.{◌≡◌};
-ghost use Rattle.sizes.specs.Sizes.{height, width, treeNodes};
+ghost use Rattle.sizes.specs.Sizes.{height, width, tree_nodes};
 
 // The least h with 2^h at least n.
 pub fn height_of(n: u32) -> u32
@@ -30,7 +30,7 @@ pub fn width_of(n: u32, l: u32) -> u32
 
 // T(n): the nodes of all levels.
 pub fn tree_nodes(n: u32) -> u64
-    ensures { result ≡ treeNodes n }
+    ensures { result ≡ tree_nodes n }
 {
     let h = height_of(n);
     let mut total: u64 = 0;

@@ -6,20 +6,20 @@ use Prim.Native.String.{String}
 use Rattle.words.specs.Basics.{none, all, δ, count, below}
 use Rattle.words.specs.Tests.{decided}
 use Rattle.words.specs.Counting.{all_of}
-use Rattle.sizes.specs.Sizes.{height, width, treeNodes}
-use Rattle.pool.specs.Pool.{refcount, left, right, value, setNode, initLevel, initInner, initLeaves, initFree, initPool}
-use Rattle.frames.specs.Widths.{maxWorkers, dequePlaces, dequeStride, dequeWords}
+use Rattle.sizes.specs.Sizes.{height, width, tree_nodes}
+use Rattle.pool.specs.Pool.{refcount, left, right, value, set_node, init_level, init_inner, init_leaves, init_free, init_pool}
+use Rattle.frames.specs.Widths.{max_workers, deque_places, deque_stride, deque_words}
 use Rattle.frames.specs.declared.Frame.{Frame}
-use Rattle.frames.specs.Frames.{recordIn, words_of, frameAt, setFrame, asReturning, freePlace, mainFrame, initPlaces, initFrames}
-use Rattle.frames.specs.Deques.{size, setSize, place, setPlace, bottom, top, push, pop, shiftUp, dropTop, initDeques}
-use Rattle.frames.specs.Siblings.{chained, relinkFrom}
-use Rattle.frames.specs.Steps.{Table, acting, addChild, spawn, suspend, steal, sync}
+use Rattle.frames.specs.Frames.{record_in, words_of, frame_at, set_frame, as_returning, free_record, main_frame, init_places, init_frames}
+use Rattle.frames.specs.Deques.{size, set_size, place, set_place, bottom, top, push, pop, shift_up, drop_top, init_deques}
+use Rattle.frames.specs.Siblings.{chained, relink_from}
+use Rattle.frames.specs.Steps.{Table, acting, add_child, spawn, suspend, steal, sync}
 use Rattle.soundness.specs.declared.Numbers.{Numbers}
-use Rattle.soundness.specs.Layout.{Layout, fourWords}
-use Rattle.soundness.specs.Numbers.{headCount, numbersIn, totalsIn}
-use Rattle.soundness.specs.Soundness.{oneMain, parentsLive, countsRight, placedOnce, returningRight, linksRight, totalsRight, holdLive, absentEmpty, restZero, linked, onlyBelow, placesFree, rootsBelow}
-use Rattle.soundness.specs.Trees.{treeAt, nodesAt}
-use Rattle.soundness.specs.Soundness.{numberSentences, freePlaces, viewZero, sentences}
+use Rattle.soundness.specs.Layout.{Layout, four_words}
+use Rattle.soundness.specs.Numbers.{head_count, numbers_in, totals_in}
+use Rattle.soundness.specs.Soundness.{one_main, parents_live, counts_right, placed_once, returning_right, links_right, totals_right, hold_live, absent_empty, rest_zero, linked, only_below, places_free, roots_below}
+use Rattle.soundness.specs.Trees.{tree_at, nodes_at}
+use Rattle.soundness.specs.Soundness.{number_sentences, free_places, view_zero, sentences}
 use Rattle.soundness.specs.Sentence.{Sentence, says, words, holds}
 
 -- ---- sound states
@@ -33,29 +33,29 @@ record State : Type 0 where
 
 -- two workers, two splitters, five nodes; the lent pool has a sixth
 with : ℕ → ℕ → Table → State
-with holders freeNode t =
+with holders free_node t =
     record {
-      numbers = 2 ∷ 2 ∷ 5 ∷ freeNode ∷ t.free_place ∷ 0 ∷ 0 ∷ 0 ∷ 0 ∷ length t.frames ∷ [];
+      numbers = 2 ∷ 2 ∷ 5 ∷ free_node ∷ t.free_place ∷ 0 ∷ 0 ∷ 0 ∷ 0 ∷ length t.frames ∷ [];
       deques = t.deques;
       frames = t.frames;
-      pool = set (initPool (replicate 24 7) 2 5 (10 ∷ 20 ∷ [])).0 0 holders;
+      pool = set (init_pool (replicate 24 7) 2 5 (10 ∷ 20 ∷ [])).0 0 holders;
     }
 
 -- c free places in rising order, the second being p
 rising : ℕ → ℕ → List Frame
 rising zero p = []
-rising (suc c) p = freePlace (cond (eqb c 0) none p) ∷ rising c (suc p)
+rising (suc c) p = free_record (cond (eqb c 0) none p) ∷ rising c (suc p)
 
 -- Main's record: no view has anything folded into it yet
 first : Frame
-first = recordIn (1 ∷ none ∷ 0 ∷ 0 ∷ 0 ∷ 0 ∷ 0 ∷ 0 ∷ none ∷ 1 ∷ 0 ∷ none ∷ [])
+first = record_in (1 ∷ none ∷ 0 ∷ 0 ∷ 0 ∷ 0 ∷ 0 ∷ 0 ∷ none ∷ 1 ∷ 0 ∷ none ∷ [])
 
 table : Table
 table = record { deques = 1 ∷ replicate 2055 0; frames = first ∷ rising 7 2; free_place = 1 }
 
 -- the tables at a start, whatever the lent one held
-table-first : (initDeques (replicate dequeWords 0) ≡ table.deques) × (initFrames (replicate 8 (mainFrame 5)) ≡ table.frames)
-unfolding table first rising initDeques push setSize setPlace size initFrames initPlaces setFrame
+table-first : (init_deques (replicate deque_words 0) ≡ table.deques) × (init_frames (replicate 8 (main_frame 5)) ≡ table.frames)
+unfolding table first rising init_deques push set_size set_place size init_frames init_places set_frame
 table-first = (refl, refl)
 
 -- Main alone, on worker 0's deque: the start. Node 0 is the root, 1 and 2 are its leaves, 3 and 4 are free
@@ -72,7 +72,7 @@ waiting = with 2 3 (sync (steal (spawn table 0) 1 0) 1)
 
 -- R-3: the same, with Main waiting in its return
 leaving : State
-leaving = let t : Table = steal (spawn table 0) 1 0 in with 2 3 (suspend t 1 (asReturning (acting t 1)))
+leaving = let t : Table = steal (spawn table 0) 1 0 in with 2 3 (suspend t 1 (as_returning (acting t 1)))
 
 -- Main, its child 1 and the child 2 of 1, on worker 0's deque
 stacked : State
@@ -88,11 +88,11 @@ twins = with 3 3 (spawn (steal (spawn table 0) 1 0) 1)
 
 -- Main has returned: no frame, any totals, and n nodes free in a lent pool of n
 ended : ℕ → State
-ended n = record { numbers = 2 ∷ 2 ∷ n ∷ 0 ∷ 0 ∷ 70 ∷ 7 ∷ 6 ∷ 5 ∷ 8 ∷ []; deques = replicate dequeWords 0; frames = rising 8 1; pool = initFree n (replicate (4 * n) 0) 0 }
+ended n = record { numbers = 2 ∷ 2 ∷ n ∷ 0 ∷ 0 ∷ 70 ∷ 7 ∷ 6 ∷ 5 ∷ 8 ∷ []; deques = replicate deque_words 0; frames = rising 8 1; pool = init_free n (replicate (4 * n) 0) 0 }
 
 -- three splitters: node 0, under it 1 and 2, the leaves 3, 4 under 1 and 5 under 2, which has no right half; 6 is free
 three : State
-three = record { numbers = 2 ∷ 3 ∷ 7 ∷ 6 ∷ 1 ∷ 0 ∷ 0 ∷ 0 ∷ 0 ∷ 8 ∷ []; deques = table.deques; frames = table.frames; pool = (initPool (replicate 28 7) 3 7 (10 ∷ 20 ∷ 30 ∷ [])).0 }
+three = record { numbers = 2 ∷ 3 ∷ 7 ∷ 6 ∷ 1 ∷ 0 ∷ 0 ∷ 0 ∷ 0 ∷ 8 ∷ []; deques = table.deques; frames = table.frames; pool = (init_pool (replicate 28 7) 3 7 (10 ∷ 20 ∷ 30 ∷ [])).0 }
 
 -- Main alone, in a table of one place
 lone : State
@@ -100,7 +100,7 @@ lone = with 1 3 (record { deques = table.deques; frames = first ∷ []; free_pla
 
 -- Main has returned, in a table of n places
 small : ℕ → State
-small n = record { numbers = 2 ∷ 2 ∷ 5 ∷ 0 ∷ cond (eqb n 0) none 0 ∷ 0 ∷ 0 ∷ 0 ∷ 0 ∷ n ∷ []; deques = replicate dequeWords 0; frames = rising n 1; pool = (ended 5).pool }
+small n = record { numbers = 2 ∷ 2 ∷ 5 ∷ 0 ∷ cond (eqb n 0) none 0 ∷ 0 ∷ 0 ∷ 0 ∷ 0 ∷ n ∷ []; deques = replicate deque_words 0; frames = rising n 1; pool = (ended 5).pool }
 
 -- ---- changes
 
@@ -110,11 +110,11 @@ data Change : Type 0 where
   workers : ℕ → Change
   splitters : ℕ → Change
   nodes : ℕ → Change
-  freeNode : ℕ → Change
-  firstPlace : ℕ → Change
+  free_node : ℕ → Change
+  first_place : ℕ → Change
   places : ℕ → Change
   total : ℕ → ℕ → Change
-  inDeque : ℕ → ℕ → Change
+  in_deque : ℕ → ℕ → Change
   at_place : ℕ → ℕ → ℕ → Change
   live : ℕ → ℕ → Change
   parent : ℕ → ℕ → Change
@@ -123,50 +123,50 @@ data Change : Type 0 where
   suspended : ℕ → ℕ → Change
   root : ℕ → ℕ → Change
   returning : ℕ → ℕ → Change
-  viewWord : ℕ → ℕ → ℕ → Change
+  view_word : ℕ → ℕ → ℕ → Change
   next : ℕ → ℕ → Change
   node : ℕ → List ℕ → Change
-  nodeHolders : ℕ → ℕ → Change
-  nodeLeft : ℕ → ℕ → Change
-  nodeRight : ℕ → ℕ → Change
-  nodeValue : ℕ → ℕ → Change
+  node_holders : ℕ → ℕ → Change
+  node_left : ℕ → ℕ → Change
+  node_right : ℕ → ℕ → Change
+  node_value : ℕ → ℕ → Change
 
-setNumber : State → ℕ → ℕ → State
-setNumber s i v = record { numbers = set s.numbers i v; deques = s.deques; frames = s.frames; pool = s.pool }
+set_number : State → ℕ → ℕ → State
+set_number s i v = record { numbers = set s.numbers i v; deques = s.deques; frames = s.frames; pool = s.pool }
 
-setDeques : State → List ℕ → State
-setDeques s ds = record { numbers = s.numbers; deques = ds; frames = s.frames; pool = s.pool }
+set_deques : State → List ℕ → State
+set_deques s ds = record { numbers = s.numbers; deques = ds; frames = s.frames; pool = s.pool }
 
-setField : State → ℕ → ℕ → ℕ → State
-setField s p k v = record { numbers = s.numbers; deques = s.deques; frames = setFrame s.frames p (recordIn (set (words_of (frameAt s.frames p)) k v)); pool = s.pool }
+set_field : State → ℕ → ℕ → ℕ → State
+set_field s p k v = record { numbers = s.numbers; deques = s.deques; frames = set_frame s.frames p (record_in (set (words_of (frame_at s.frames p)) k v)); pool = s.pool }
 
-setPool : State → List ℕ → State
-setPool s ws = record { numbers = s.numbers; deques = s.deques; frames = s.frames; pool = ws }
+set_pool : State → List ℕ → State
+set_pool s ws = record { numbers = s.numbers; deques = s.deques; frames = s.frames; pool = ws }
 
 changed : State → Change → State
-changed s (workers v) = setNumber s 0 v
-changed s (splitters v) = setNumber s 1 v
-changed s (nodes v) = setNumber s 2 v
-changed s (freeNode v) = setNumber s 3 v
-changed s (firstPlace v) = setNumber s 4 v
-changed s (places v) = setNumber s 9 v
-changed s (total i v) = setNumber s (headCount + i) v
-changed s (inDeque w v) = setDeques s (setSize s.deques w v)
-changed s (at_place w k v) = setDeques s (setPlace s.deques w k v)
-changed s (live p v) = setField s p 0 v
-changed s (parent p v) = setField s p 1 v
-changed s (depth p v) = setField s p 2 v
-changed s (outstanding p v) = setField s p 3 v
-changed s (suspended p v) = setField s p 4 v
-changed s (root p v) = setField s p 5 v
-changed s (returning p v) = setField s p 6 v
-changed s (viewWord k p v) = setField s p (7 + k) v
-changed s (next p v) = setField s p 11 v
-changed s (node i vs) = setPool s (setNode s.pool i (get_or vs 0 0) (get_or vs 1 0) (get_or vs 2 0) (get_or vs 3 0))
-changed s (nodeHolders i v) = setPool s (set s.pool (4 * i) v)
-changed s (nodeLeft i v) = setPool s (set s.pool (4 * i + 1) v)
-changed s (nodeRight i v) = setPool s (set s.pool (4 * i + 2) v)
-changed s (nodeValue i v) = setPool s (set s.pool (4 * i + 3) v)
+changed s (workers v) = set_number s 0 v
+changed s (splitters v) = set_number s 1 v
+changed s (nodes v) = set_number s 2 v
+changed s (free_node v) = set_number s 3 v
+changed s (first_place v) = set_number s 4 v
+changed s (places v) = set_number s 9 v
+changed s (total i v) = set_number s (head_count + i) v
+changed s (in_deque w v) = set_deques s (set_size s.deques w v)
+changed s (at_place w k v) = set_deques s (set_place s.deques w k v)
+changed s (live p v) = set_field s p 0 v
+changed s (parent p v) = set_field s p 1 v
+changed s (depth p v) = set_field s p 2 v
+changed s (outstanding p v) = set_field s p 3 v
+changed s (suspended p v) = set_field s p 4 v
+changed s (root p v) = set_field s p 5 v
+changed s (returning p v) = set_field s p 6 v
+changed s (view_word k p v) = set_field s p (7 + k) v
+changed s (next p v) = set_field s p 11 v
+changed s (node i vs) = set_pool s (set_node s.pool i (get_or vs 0 0) (get_or vs 1 0) (get_or vs 2 0) (get_or vs 3 0))
+changed s (node_holders i v) = set_pool s (set s.pool (4 * i) v)
+changed s (node_left i v) = set_pool s (set s.pool (4 * i + 1) v)
+changed s (node_right i v) = set_pool s (set s.pool (4 * i + 2) v)
+changed s (node_value i v) = set_pool s (set s.pool (4 * i + 3) v)
 
 infixl 90 ◌but◌
 ◌but◌ : State → List Change → State
@@ -181,7 +181,7 @@ sounds : List State
 sounds =
     start ∷ stolen ∷ waiting ∷ leaving ∷ stacked ∷ grown ∷ twins ∷ triplets ∷ ended 5 ∷ three ∷
     -- a live frame's view is any four words
-    start but (viewWord 0 0 5 ∷ viewWord 1 0 6 ∷ viewWord 2 0 7 ∷ viewWord 3 0 8 ∷ []) ∷
+    start but (view_word 0 0 5 ∷ view_word 1 0 6 ∷ view_word 2 0 7 ∷ view_word 3 0 8 ∷ []) ∷
     -- so are the totals when no frame lives
     ended 5 but (total 0 0 ∷ total 1 none ∷ []) ∷
     -- a table of one place
@@ -198,29 +198,29 @@ infixl 80 ◌alone◌
 ◌alone◌ : String → List State → Row
 t alone ss = record { sentence = t; states = ss }
 
-numberRows : List Row
-numberRows =
+number_rows : List Row
+number_rows =
     ("Workers are 1 .." alone (ended 5 but (workers 0 ∷ []) ∷ [])) ∷
     (".. to 8" alone (start but (workers 9 ∷ []) ∷ [])) ∷
     ("n is 1 .." alone (ended 5 but (splitters 0 ∷ []) ∷ [])) ∷
     -- T(2) is 3
     ("The recorded node count is T(n) .." alone (ended 2 ∷ [])) ∷
     -- the words past the pool read as zeros: node 5 as a free one before node 0
-    ("and at most what the lent pool holds." alone (ended 5 but (nodes 6 ∷ freeNode 5 ∷ []) ∷ [])) ∷
+    ("and at most what the lent pool holds." alone (ended 5 but (nodes 6 ∷ free_node 5 ∷ []) ∷ [])) ∷
     ("a recorded length not 1 .." alone (small 0 ∷ [])) ∷
     ("or a table of another length, is unsound." alone (start but (places 7 ∷ []) ∷ start but (places 9 ∷ []) ∷ small 0 but (places 1 ∷ []) ∷ [])) ∷
     []
 
-totalRows : List Row
-totalRows =
+total_rows : List Row
+total_rows =
     ("zero while Main lives" alone (start but (total 0 1 ∷ []) ∷ start but (total 1 none ∷ []) ∷ leaving but (total 2 1 ∷ []) ∷ start but (total 3 1 ∷ []) ∷ [])) ∷
     []
 
-frameRows : List Row
-frameRows =
+frame_rows : List Row
+frame_rows =
     ("Either no frame lives and all deques are empty, or just one live frame has depth 0, with parent none." alone (
     -- two Mains
-    start but (live 1 1 ∷ parent 1 none ∷ next 1 none ∷ firstPlace 2 ∷ inDeque 1 1 ∷ at_place 1 0 1 ∷ nodeHolders 0 2 ∷ []) ∷
+    start but (live 1 1 ∷ parent 1 none ∷ next 1 none ∷ first_place 2 ∷ in_deque 1 1 ∷ at_place 1 0 1 ∷ node_holders 0 2 ∷ []) ∷
     -- Main has a parent
     start but (parent 0 5 ∷ []) ∷
     [])) ∷
@@ -237,7 +237,7 @@ frameRows =
     ("Outstanding counts are right." alone (stolen but (outstanding 0 0 ∷ []) ∷ stolen but (outstanding 0 2 ∷ []) ∷ stolen but (outstanding 1 1 ∷ []) ∷ [])) ∷
     ("Each live frame is either in just one place of one deque and not suspended, or in none and suspended with a live child." alone (
     -- in two places (place 0 of worker 1's deque is 0 already: Main)
-    start but (inDeque 1 1 ∷ []) ∷
+    start but (in_deque 1 1 ∷ []) ∷
     -- in a deque and suspended
     stolen but (suspended 0 1 ∷ []) ∷
     -- in none and not suspended
@@ -246,7 +246,7 @@ frameRows =
     waiting but (suspended 0 2 ∷ []) ∷
     stolen but (suspended 0 2 ∷ []) ∷
     -- suspended without a child
-    start but (inDeque 0 0 ∷ suspended 0 1 ∷ []) ∷
+    start but (in_deque 0 0 ∷ suspended 0 1 ∷ []) ∷
     [])) ∷
     ("1 on a frame waiting so, which is suspended, else 0; anything else there is unsound." alone (
     -- 1 on a frame in a deque: Main, and a child
@@ -275,20 +275,20 @@ frameRows =
     stolen but (next 0 1 ∷ []) ∷
     [])) ∷
     ("Deques hold live frames only;" alone (
-    start but (inDeque 1 1 ∷ at_place 1 0 5 ∷ []) ∷
+    start but (in_deque 1 1 ∷ at_place 1 0 5 ∷ []) ∷
     -- past the table, which reads as a dead frame: the range alone cannot be wrong
-    start but (inDeque 1 1 ∷ at_place 1 0 8 ∷ []) ∷
+    start but (in_deque 1 1 ∷ at_place 1 0 8 ∷ []) ∷
     [])) ∷
     ("a worker that does not exist has an empty one;" alone (stolen but (workers 1 ∷ []) ∷ [])) ∷
     ("deque places past a deque's frames are zero." alone (start but (at_place 0 1 7 ∷ []) ∷ start but (at_place 7 255 1 ∷ []) ∷ [])) ∷
-    -- not alone: a length over the table's, since nine places of live frames hold one of eight twice (placedOnce)
+    -- not alone: a length over the table's, since nine places of live frames hold one of eight twice (placed_once)
     ("Each frame in a deque is a child of the one above it." alone (
     -- 1 and 2 on one deque, both children of Main
     grown but (parent 2 0 ∷ depth 2 1 ∷ next 1 2 ∷ outstanding 1 0 ∷ outstanding 0 2 ∷ []) ∷
     [])) ∷
     ("A frame that is not a top has only the child below it, if any." alone (
     -- a middle frame has a second child, on another deque
-    stacked but (live 3 1 ∷ parent 3 1 ∷ depth 3 2 ∷ next 2 3 ∷ next 3 none ∷ outstanding 1 2 ∷ firstPlace 4 ∷ inDeque 1 1 ∷ at_place 1 0 3 ∷ nodeHolders 0 4 ∷ []) ∷
+    stacked but (live 3 1 ∷ parent 3 1 ∷ depth 3 2 ∷ next 2 3 ∷ next 3 none ∷ outstanding 1 2 ∷ first_place 4 ∷ in_deque 1 1 ∷ at_place 1 0 3 ∷ node_holders 0 4 ∷ []) ∷
     -- a bottom frame has one; it is in place 0, the word past the deque's frames
     grown but (parent 1 none ∷ depth 1 0 ∷ depth 2 1 ∷ outstanding 2 1 ∷ parent 0 2 ∷ depth 0 2 ∷ outstanding 0 0 ∷ []) ∷
     [])) ∷
@@ -300,53 +300,53 @@ frameRows =
     start but (suspended 5 1 ∷ []) ∷
     start but (root 5 1 ∷ []) ∷
     start but (returning 5 1 ∷ []) ∷
-    start but (viewWord 0 5 1 ∷ []) ∷
-    start but (viewWord 1 5 none ∷ []) ∷
-    start but (viewWord 2 5 1 ∷ []) ∷
-    start but (viewWord 3 5 1 ∷ []) ∷
+    start but (view_word 0 5 1 ∷ []) ∷
+    start but (view_word 1 5 none ∷ []) ∷
+    start but (view_word 2 5 1 ∷ []) ∷
+    start but (view_word 3 5 1 ∷ []) ∷
     start but (next 5 none ∷ []) ∷
     -- not on the chain
-    start but (firstPlace 2 ∷ []) ∷
+    start but (first_place 2 ∷ []) ∷
     -- twice
     start but (parent 7 1 ∷ []) ∷
     -- into a live place
     start but (parent 7 0 ∷ []) ∷
     -- out of the table and back, as the words past it read as zeros
-    ended 5 but (firstPlace 1 ∷ parent 7 8 ∷ parent 0 none ∷ []) ∷
+    ended 5 but (first_place 1 ∷ parent 7 8 ∷ parent 0 none ∷ []) ∷
     [])) ∷
     []
 
-poolRows : List Row
-poolRows =
+pool_rows : List Row
+pool_rows =
     ("Walking from each live frame gives a tree of the shape above, in which a node may stand in several places;" alone (
     -- a leaf, a root past the nodes; the lent pool has a sixth
-    start but (nodeLeft 0 5 ∷ node 5 (1 ∷ none ∷ none ∷ 10 ∷ []) ∷ node 1 (0 ∷ 3 ∷ 0 ∷ 0 ∷ []) ∷ freeNode 1 ∷ []) ∷
-    start but (root 0 5 ∷ node 5 (1 ∷ 1 ∷ 2 ∷ 0 ∷ []) ∷ node 0 (0 ∷ 3 ∷ 0 ∷ 0 ∷ []) ∷ freeNode 0 ∷ nodeHolders 1 0 ∷ nodeHolders 2 0 ∷ []) ∷
+    start but (node_left 0 5 ∷ node 5 (1 ∷ none ∷ none ∷ 10 ∷ []) ∷ node 1 (0 ∷ 3 ∷ 0 ∷ 0 ∷ []) ∷ free_node 1 ∷ []) ∷
+    start but (root 0 5 ∷ node 5 (1 ∷ 1 ∷ 2 ∷ 0 ∷ []) ∷ node 0 (0 ∷ 3 ∷ 0 ∷ 0 ∷ []) ∷ free_node 0 ∷ node_holders 1 0 ∷ node_holders 2 0 ∷ []) ∷
     -- "Inner nodes have value 0"
-    start but (nodeValue 0 5 ∷ []) ∷
+    start but (node_value 0 5 ∷ []) ∷
     -- "leaves have no links"
-    start but (nodeLeft 1 5 ∷ []) ∷
-    start but (nodeRight 1 5 ∷ []) ∷
+    start but (node_left 1 5 ∷ []) ∷
+    start but (node_right 1 5 ∷ []) ∷
     -- a right link where the group has no right half
-    three but (nodeRight 2 5 ∷ nodeHolders 5 2 ∷ []) ∷
+    three but (node_right 2 5 ∷ node_holders 5 2 ∷ []) ∷
     -- none where it has one
-    start but (nodeRight 0 none ∷ node 2 (0 ∷ 3 ∷ 0 ∷ 0 ∷ []) ∷ freeNode 2 ∷ []) ∷
+    start but (node_right 0 none ∷ node 2 (0 ∷ 3 ∷ 0 ∷ 0 ∷ []) ∷ free_node 2 ∷ []) ∷
     [])) ∷
-    ("(the free chain is one of nodes)" alone (start but (nodeLeft 4 5 ∷ nodeLeft 5 none ∷ []) ∷ [])) ∷
+    ("(the free chain is one of nodes)" alone (start but (node_left 4 5 ∷ node_left 5 none ∷ []) ∷ [])) ∷
     ("nodes reached have right holders; all others are free and lie once on the free chain." alone (
     -- holders, one more and one less
-    start but (nodeHolders 0 2 ∷ []) ∷
-    start but (nodeHolders 0 0 ∷ []) ∷
+    start but (node_holders 0 2 ∷ []) ∷
+    start but (node_holders 0 0 ∷ []) ∷
     -- "A free node holds 0, the next free node or none, 0, 0."
-    start but (nodeHolders 3 1 ∷ []) ∷
-    start but (nodeRight 3 1 ∷ []) ∷
-    start but (nodeValue 3 1 ∷ []) ∷
+    start but (node_holders 3 1 ∷ []) ∷
+    start but (node_right 3 1 ∷ []) ∷
+    start but (node_value 3 1 ∷ []) ∷
     -- not on the chain
-    start but (freeNode 4 ∷ []) ∷
+    start but (free_node 4 ∷ []) ∷
     -- twice
-    start but (nodeLeft 4 3 ∷ []) ∷
+    start but (node_left 4 3 ∷ []) ∷
     -- into a node in use
-    start but (nodeLeft 4 1 ∷ []) ∷
+    start but (node_left 4 1 ∷ []) ∷
     [])) ∷
     -- not alone: a node reached that holds 0 and lies on the chain (so does its left link then, down to a leaf, whose right is none)
     []
@@ -356,19 +356,19 @@ failing : List Sentence → List String
 failing [] = []
 failing (s ∷ ss) = cond (holds s) (failing ss) (words s ∷ failing ss)
 
-failingIn : State → List String
-failingIn s = failing (sentences fourWords (numbersIn s.numbers) (totalsIn s.numbers) s.deques s.frames s.pool)
+failing_in : State → List String
+failing_in s = failing (sentences four_words (numbers_in s.numbers) (totals_in s.numbers) s.deques s.frames s.pool)
 
 -- ---- the same in fewer steps (crate starred computes with it too)
 
 -- "deque places past a deque's frames are zero": c words, the first in place k, of a deque with n frames
-abbrev restFrom : ℕ → ℕ → ℕ → List ℕ → Bool
-restFrom zero k n xs = true
-restFrom (suc c) k n [] = true
-restFrom (suc c) k n (x ∷ xs) = (ltb k n || eqb x 0) && restFrom c (suc k) n xs
+abbrev rest_from : ℕ → ℕ → ℕ → List ℕ → Bool
+rest_from zero k n xs = true
+rest_from (suc c) k n [] = true
+rest_from (suc c) k n (x ∷ xs) = (ltb k n || eqb x 0) && rest_from c (suc k) n xs
 
-abbrev pub restQuick : List ℕ → List Frame → Bool
-restQuick ds fs = all maxWorkers (λ w. let d : List ℕ = drop (dequeStride * w) ds in leb (get_or d 0 0) (length fs) && restFrom dequePlaces 0 (get_or d 0 0) (drop 1 d))
+abbrev pub rest_quick : List ℕ → List Frame → Bool
+rest_quick ds fs = all max_workers (λ w. let d : List ℕ = drop (deque_stride * w) ds in leb (get_or d 0 0) (length fs) && rest_from deque_places 0 (get_or d 0 0) (drop 1 d))
 
 pub all_first : (n : ℕ) (f : ℕ → Bool) → all (suc n) f ≡ f 0 && all n (λ k. f (suc k))
 all_first zero f = elim (decided (f 0)) [ inl e ↦ rw e refl | inr e ↦ rw e refl ]
@@ -377,13 +377,13 @@ all_first (suc n) f = elim (decided (f 0)) [
   | inr e ↦ ap (λ b. b && f (suc n)) (all_first n f) ∙ rw e refl
 ]
 
-rest_from : (c k n : ℕ) (xs : List ℕ) → all c (λ j. ltb (k + j) n || eqb (get_or xs j 0) 0) ≡ restFrom c k n xs
-rest_from zero k n xs = refl
-rest_from (suc c) k n [] = all_of (suc c) (λ j. ltb (k + j) n || eqb 0 0) (λ j h. elim (decided (ltb (k + j) n)) [ inl e ↦ rw e refl | inr e ↦ rw e refl ])
-rest_from (suc c) k n (x ∷ xs) =
+rest_from_lem : (c k n : ℕ) (xs : List ℕ) → all c (λ j. ltb (k + j) n || eqb (get_or xs j 0) 0) ≡ rest_from c k n xs
+rest_from_lem zero k n xs = refl
+rest_from_lem (suc c) k n [] = all_of (suc c) (λ j. ltb (k + j) n || eqb 0 0) (λ j h. elim (decided (ltb (k + j) n)) [ inl e ↦ rw e refl | inr e ↦ rw e refl ])
+rest_from_lem (suc c) k n (x ∷ xs) =
     all_first c (λ j. ltb (k + j) n || eqb (get_or (x ∷ xs) j 0) 0)
     ∙ (λ i. (ltb (now i) n || eqb x 0) && all c (λ j. ltb (later j i) n || eqb (get_or xs j 0) 0))
-    ∙ ap (λ b. (ltb k n || eqb x 0) && b) (rest_from c (suc k) n xs)
+    ∙ ap (λ b. (ltb k n || eqb x 0) && b) (rest_from_lem c (suc k) n xs)
   where
     now : k + 0 ≡ k
     now = omega arith
@@ -391,35 +391,35 @@ rest_from (suc c) k n (x ∷ xs) =
     later : (j : ℕ) → k + suc j ≡ suc k + j
     later j = omega arith
 
-pub rest-quick : (ds : List ℕ) (fs : List Frame) → restZero ds fs ≡ restQuick ds fs
-unfolding restZero size place
-rest-quick ds fs = (λ i. all maxWorkers (λ w. leb (first w i) (length fs) && all dequePlaces (λ k. ltb k (first w i) || eqb (at w k i) 0)))
-    ∙ (λ i. all maxWorkers (λ w. let d : List ℕ = drop (dequeStride * w) ds in leb (get_or d 0 0) (length fs) && from d i))
+pub rest_quick_lem : (ds : List ℕ) (fs : List Frame) → rest_zero ds fs ≡ rest_quick ds fs
+unfolding rest_zero size place
+rest_quick_lem ds fs = (λ i. all max_workers (λ w. leb (first w i) (length fs) && all deque_places (λ k. ltb k (first w i) || eqb (at w k i) 0)))
+    ∙ (λ i. all max_workers (λ w. let d : List ℕ = drop (deque_stride * w) ds in leb (get_or d 0 0) (length fs) && from d i))
   where
-    first : (w : ℕ) → get_or ds (dequeStride * w) 0 ≡ get_or (drop (dequeStride * w) ds) 0 0
-    first w = ap (λ z. get_or ds z 0) (omega arith) ∙ sym (get_or-drop (dequeStride * w) ds 0 0)
+    first : (w : ℕ) → get_or ds (deque_stride * w) 0 ≡ get_or (drop (deque_stride * w) ds) 0 0
+    first w = ap (λ z. get_or ds z 0) (omega arith) ∙ sym (get_or-drop (deque_stride * w) ds 0 0)
 
-    at : (w k : ℕ) → get_or ds (dequeStride * w + (1 + k)) 0 ≡ get_or (drop 1 (drop (dequeStride * w) ds)) k 0
-    at w k = sym (get_or-drop (dequeStride * w) ds (1 + k) 0) ∙ sym (get_or-drop 1 (drop (dequeStride * w) ds) k 0)
+    at : (w k : ℕ) → get_or ds (deque_stride * w + (1 + k)) 0 ≡ get_or (drop 1 (drop (deque_stride * w) ds)) k 0
+    at w k = sym (get_or-drop (deque_stride * w) ds (1 + k) 0) ∙ sym (get_or-drop 1 (drop (deque_stride * w) ds) k 0)
 
-    zero-plus : (k : ℕ) → k ≡ 0 + k
-    zero-plus k = omega arith
+    zero_plus : (k : ℕ) → k ≡ 0 + k
+    zero_plus k = omega arith
 
-    from : (d : List ℕ) → all dequePlaces (λ k. ltb k (get_or d 0 0) || eqb (get_or (drop 1 d) k 0) 0) ≡ restFrom dequePlaces 0 (get_or d 0 0) (drop 1 d)
-    from d = (λ i. all dequePlaces (λ k. ltb (zero-plus k i) (get_or d 0 0) || eqb (get_or (drop 1 d) k 0) 0)) ∙ rest_from dequePlaces 0 (get_or d 0 0) (drop 1 d)
+    from : (d : List ℕ) → all deque_places (λ k. ltb k (get_or d 0 0) || eqb (get_or (drop 1 d) k 0) 0) ≡ rest_from deque_places 0 (get_or d 0 0) (drop 1 d)
+    from d = (λ i. all deque_places (λ k. ltb (zero_plus k i) (get_or d 0 0) || eqb (get_or (drop 1 d) k 0) 0)) ∙ rest_from_lem deque_places 0 (get_or d 0 0) (drop 1 d)
 
 -- "Free frame places lie once on theirs, all but the link to the next being zero": the chain followed once, each record read once
-abbrev pub freeQuick : List Frame → ℕ → Bool
-freeQuick fs first =
-    let c : List ℕ = freePlaces fs first in
+abbrev pub free_quick : List Frame → ℕ → Bool
+free_quick fs first =
+    let c : List ℕ = free_places fs first in
     below (length fs) c && all (length fs) (λ p.
-    let f : Frame = frameAt fs p in
+    let f : Frame = frame_at fs p in
     (eqb f.live 1 && eqb (count p c) 0) ||
-    ((eqb f.live 0 && (eqb f.depth 0 && (eqb f.outstanding 0 && (eqb f.suspended 0 && (eqb f.root 0 && (eqb f.returning 0 && (viewZero f.view && eqb f.younger 0))))))) && eqb (count p c) 1))
+    ((eqb f.live 0 && (eqb f.depth 0 && (eqb f.outstanding 0 && (eqb f.suspended 0 && (eqb f.root 0 && (eqb f.returning 0 && (view_zero f.view && eqb f.younger 0))))))) && eqb (count p c) 1))
 
-pub free-quick : (fs : List Frame) (first : ℕ) → placesFree fs first ≡ freeQuick fs first
-unfolding placesFree
-free-quick fs first = refl
+pub free_quick_lem : (fs : List Frame) (first : ℕ) → places_free fs first ≡ free_quick fs first
+unfolding places_free
+free_quick_lem fs first = refl
 
 -- with another test for the sentence k
 abbrev tested : ℕ → Bool → List Sentence → List Sentence
@@ -428,63 +428,63 @@ tested zero b (s ∷ ss) = says (words s) b ∷ ss
 tested (suc k) b (s ∷ ss) = s ∷ tested k b ss
 
 -- with others for the two
-abbrev pub sentencesBy : Layout → Bool → Bool → Numbers → List ℕ → List ℕ → List Frame → List ℕ → List Sentence
-sentencesBy L rest free s ts ds fs ws = tested 19 rest (tested 22 free (sentences L s ts ds fs ws))
+abbrev pub sentences_by : Layout → Bool → Bool → Numbers → List ℕ → List ℕ → List Frame → List ℕ → List Sentence
+sentences_by L rest free s ts ds fs ws = tested 19 rest (tested 22 free (sentences L s ts ds fs ws))
 
-abbrev testedBy : Bool → Bool → State → List Sentence
-testedBy rest free s = sentencesBy fourWords rest free (numbersIn s.numbers) (totalsIn s.numbers) s.deques s.frames s.pool
+abbrev tested_by : Bool → Bool → State → List Sentence
+tested_by rest free s = sentences_by four_words rest free (numbers_in s.numbers) (totals_in s.numbers) s.deques s.frames s.pool
 
-quickIn : State → List String
-quickIn s = failing (testedBy (restQuick s.deques s.frames) (freeQuick s.frames (numbersIn s.numbers).free_place) s)
+quick_in : State → List String
+quick_in s = failing (tested_by (rest_quick s.deques s.frames) (free_quick s.frames (numbers_in s.numbers).free_place) s)
 
-quick : (s : State) → failingIn s ≡ quickIn s
-unfolding failingIn quickIn
-quick s i = failing (testedBy (rest-quick s.deques s.frames i) (free-quick s.frames (numbersIn s.numbers).free_place i) s)
+quick : (s : State) → failing_in s ≡ quick_in s
+unfolding failing_in quick_in
+quick s i = failing (tested_by (rest_quick_lem s.deques s.frames i) (free_quick_lem s.frames (numbers_in s.numbers).free_place i) s)
 
 -- ---- the tables
 
 found : Row → List (List String)
-found r = map failingIn r.states
+found r = map failing_in r.states
 
 said : Row → List (List String)
 said r = map (λ s. r.sentence ∷ []) r.states
 
-foundQuick : Row → List (List String)
-foundQuick r = map quickIn r.states
+found_quick : Row → List (List String)
+found_quick r = map quick_in r.states
 
 -- all of them at once, for what the states have in common is computed once then
 at_once : ◌≡◌ {A = List (List String) × List (List (List String)) × List (List (List String)) × List (List (List String)) × List (List (List String))}
-    (map quickIn sounds, map foundQuick numberRows, map foundQuick totalRows, map foundQuick frameRows, map foundQuick poolRows)
-    (map (λ s. []) sounds, map said numberRows, map said totalRows, map said frameRows, map said poolRows)
-unfolding foundQuick quickIn first rising table start stolen waiting leaving stacked grown twins triplets ended three lone small with setNumber setDeques setField setPool changed ◌but◌ ◌alone◌ sounds numberRows totalRows frameRows poolRows failing said bottom top pop shiftUp dropTop addChild relinkFrom spawn steal sync initPool initFree initLeaves initInner initLevel setNode height width treeNodes push setSize setPlace size place setFrame frameAt rootsBelow oneMain parentsLive countsRight placedOnce returningRight linksRight chained totalsRight holdLive absentEmpty linked onlyBelow treeAt nodesAt refcount left right value δ count
+    (map quick_in sounds, map found_quick number_rows, map found_quick total_rows, map found_quick frame_rows, map found_quick pool_rows)
+    (map (λ s. []) sounds, map said number_rows, map said total_rows, map said frame_rows, map said pool_rows)
+unfolding found_quick quick_in first rising table start stolen waiting leaving stacked grown twins triplets ended three lone small with set_number set_deques set_field set_pool changed ◌but◌ ◌alone◌ sounds number_rows total_rows frame_rows pool_rows failing said bottom top pop shift_up drop_top add_child relink_from spawn steal sync init_pool init_free init_leaves init_inner init_level set_node height width tree_nodes push set_size set_place size place set_frame frame_at roots_below one_main parents_live counts_right placed_once returning_right links_right chained totals_right hold_live absent_empty linked only_below tree_at nodes_at refcount left right value δ count
 at_once = refl
 
-quickly : (ts : List Row) → map foundQuick ts ≡ map said ts → map found ts ≡ map said ts
-unfolding found foundQuick
+quickly : (ts : List Row) → map found_quick ts ≡ map said ts → map found ts ≡ map said ts
+unfolding found found_quick
 quickly ts e = (λ i. map (λ (r : Row). map (λ s. quick s i) r.states) ts) ∙ e
 
-computed : map failingIn sounds ≡ map (λ s. []) sounds
+computed : map failing_in sounds ≡ map (λ s. []) sounds
 computed = (λ i. map (λ s. quick s i) sounds) ∙ ap (λ t. t.0) at_once
 
-numbers-computed : map found numberRows ≡ map said numberRows
-numbers-computed = quickly numberRows (ap (λ t. t.1) at_once)
+numbers_computed : map found number_rows ≡ map said number_rows
+numbers_computed = quickly number_rows (ap (λ t. t.1) at_once)
 
-totals-computed : map found totalRows ≡ map said totalRows
-totals-computed = quickly totalRows (ap (λ t. t.2) at_once)
+totals_computed : map found total_rows ≡ map said total_rows
+totals_computed = quickly total_rows (ap (λ t. t.2) at_once)
 
-frames-computed : map found frameRows ≡ map said frameRows
-frames-computed = quickly frameRows (ap (λ t. t.3) at_once)
+frames_computed : map found frame_rows ≡ map said frame_rows
+frames_computed = quickly frame_rows (ap (λ t. t.3) at_once)
 
-pools-computed : map found poolRows ≡ map said poolRows
-pools-computed = quickly poolRows (ap (λ t. t.4) at_once)
+pools_computed : map found pool_rows ≡ map said pool_rows
+pools_computed = quickly pool_rows (ap (λ t. t.4) at_once)
 
 -- those that need many nodes, 521 (which is T(257)) and 16,385, or many places, 257: of the numbers' sentences this one alone is false; the sentences on
 -- trees and frames are not computed
 few : List ℕ → ℕ → List String
-few ks N = let s = numbersIn ks in failing (numberSentences fourWords s (rising s.places 1) (replicate (4 * N) 0))
+few ks N = let s = numbers_in ks in failing (number_sentences four_words s (rising s.places 1) (replicate (4 * N) 0))
 
-many-computed : (few (2 ∷ 257 ∷ 521 ∷ 0 ∷ 0 ∷ 0 ∷ 0 ∷ 0 ∷ 0 ∷ 8 ∷ []) 521 ≡ ".. to 256." ∷ [])
+many_computed : (few (2 ∷ 257 ∷ 521 ∷ 0 ∷ 0 ∷ 0 ∷ 0 ∷ 0 ∷ 0 ∷ 8 ∷ []) 521 ≡ ".. to 256." ∷ [])
     × (few (2 ∷ 2 ∷ 16385 ∷ 0 ∷ 0 ∷ 0 ∷ 0 ∷ 0 ∷ 0 ∷ 8 ∷ []) 16385 ≡ ".. to 16,384" ∷ [])
     × (few (2 ∷ 2 ∷ 5 ∷ 0 ∷ 0 ∷ 0 ∷ 0 ∷ 0 ∷ 0 ∷ 257 ∷ []) 5 ≡ ".. to 256," ∷ [])
-unfolding few failing rising height width treeNodes
-many-computed = (refl, refl, refl)
+unfolding few failing rising height width tree_nodes
+many_computed = (refl, refl, refl)

@@ -27,23 +27,23 @@ pub record Layout : Type 0 where
   -- the sentences on trees: n splitters, N nodes, the first free node and the roots of the live frames
   pub sentences : ℕ → ℕ → List ℕ → ℕ → List ℕ → List Sentence
   -- the free chain of N nodes
-  pub freeNodes : ℕ → List ℕ → ℕ → List ℕ
+  pub free_nodes : ℕ → List ℕ → ℕ → List ℕ
 
 -- document 01: "A node is four words: holders, left, right, value."
-abbrev pub fourWords : Layout
-fourWords =
+abbrev pub four_words : Layout
+four_words =
     record {
       words = 4;
       version = 3;
-      start = Four.initPool;
-      leaf = Four.leafOf;
-      read = Four.readAt;
+      start = Four.init_pool;
+      leaf = Four.leaf_of;
+      read = Four.read_at;
       retain = Four.retain;
       release = λ N. Four.release;
       rest = Four.rest;
       write = Four.write;
-      sentences = FourTrees.poolSentences;
-      freeNodes = FourTrees.freeNodes;
+      sentences = FourTrees.pool_sentences;
+      free_nodes = FourTrees.free_nodes;
     }
 
 -- R-8: "A node becomes two words"
@@ -52,16 +52,16 @@ two_words =
     record {
       words = 2;
       version = 4;
-      start = Two.initPool;
-      leaf = Two.leafOf;
-      read = Two.readAt;
+      start = Two.init_pool;
+      leaf = Two.leaf_of;
+      read = Two.read_at;
       retain = Two.retain;
       release = Two.release;
       rest = Two.rest;
       write = Two.write;
-      sentences = TwoTrees.poolSentences;
-      freeNodes = TwoTrees.freeNodes;
+      sentences = TwoTrees.pool_sentences;
+      free_nodes = TwoTrees.free_nodes;
     }
 
-unfoldable pub poolSound : Layout → ℕ → ℕ → List ℕ → ℕ → List ℕ → Bool
-poolSound L n N ws first rs = all_of (L.sentences n N ws first rs)
+unfoldable pub pool_sound : Layout → ℕ → ℕ → List ℕ → ℕ → List ℕ → Bool
+pool_sound L n N ws first rs = all_of (L.sentences n N ws first rs)

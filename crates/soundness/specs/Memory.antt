@@ -3,23 +3,23 @@
 use Rattle.std.specs.Prelude.{Bool, ◌||◌, ◌&&◌, List, ℕ, suc, eqb, leb, ltb}
 use Rattle.words.specs.Basics.{all}
 use Rattle.sizes.specs.Sizes.{height}
-use Rattle.frames.specs.Widths.{maxWorkers}
+use Rattle.frames.specs.Widths.{max_workers}
 use Rattle.frames.specs.declared.Frame.{Frame}
-use Rattle.frames.specs.Frames.{frameAt}
+use Rattle.frames.specs.Frames.{frame_at}
 use Rattle.frames.specs.Deques.{size, bottom}
-use Rattle.memory.specs.Memory.{maxSplitters, lastBase, base, remembered}
+use Rattle.memory.specs.Memory.{max_splitters, last_base, base, remembered}
 use Rattle.soundness.specs.Layout.{Layout}
 use Rattle.soundness.specs.declared.Numbers.{Numbers}
 
 -- worker w's bottom frame's leaf of splitter x
-abbrev pub bottomLeaf : Layout → Numbers → List ℕ → List Frame → List ℕ → ℕ → ℕ → ℕ
-bottomLeaf L s ds fs ws w x = L.leaf (height s.splitters) ws (frameAt fs (bottom ds w)).root x
+abbrev pub bottom_leaf : Layout → Numbers → List ℕ → List Frame → List ℕ → ℕ → ℕ → ℕ
+bottom_leaf L s ds fs ws w x = L.leaf (height s.splitters) ws (frame_at fs (bottom ds w)).root x
 
 -- worker w remembers nothing of splitter x, or it has a frame and the splitter is one, and it is the leaf that lies there. In a sound state a worker that does
 -- not exist has no frame
-abbrev pub remembersRight : Layout → Numbers → List ℕ → List Frame → List ℕ → List ℕ → ℕ → ℕ → Bool
-remembersRight L s ds fs ws ms w x =
-    eqb (remembered ms w x) 0 || (ltb 0 (size ds w) && (ltb x s.splitters && eqb (remembered ms w x) (suc (bottomLeaf L s ds fs ws w x))))
+abbrev pub remembers_right : Layout → Numbers → List ℕ → List Frame → List ℕ → List ℕ → ℕ → ℕ → Bool
+remembers_right L s ds fs ws ms w x =
+    eqb (remembered ms w x) 0 || (ltb 0 (size ds w) && (ltb x s.splitters && eqb (remembered ms w x) (suc (bottom_leaf L s ds fs ws w x))))
 
-unfoldable pub memorySound : Layout → Numbers → List ℕ → List Frame → List ℕ → List ℕ → Bool
-memorySound L s ds fs ws ms = all maxWorkers (λ w. leb (base ms w) lastBase && all maxSplitters (λ x. remembersRight L s ds fs ws ms w x))
+unfoldable pub memory_sound : Layout → Numbers → List ℕ → List Frame → List ℕ → List ℕ → Bool
+memory_sound L s ds fs ws ms = all max_workers (λ w. leb (base ms w) last_base && all max_splitters (λ x. remembers_right L s ds fs ws ms w x))

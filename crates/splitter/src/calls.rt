@@ -1,12 +1,12 @@
 // The entries, over the state's lent parts: its numbers, its deques, its frame table and its memory. Numbers, deques or a memory of another length than they
 // must have are refused first, by a number of their own, and nothing changes.
 ghost use Rattle.std.specs.Prelude.{◌≡◌, ◌%◌, ◌^◌, min};
-ghost use Rattle.sizes.specs.Sizes.{treeNodes};
-ghost use Rattle.model.specs.Record.{recordOf, decodeAt};
-ghost use Rattle.image.specs.Image.{imageBytes};
+ghost use Rattle.sizes.specs.Sizes.{tree_nodes};
+ghost use Rattle.model.specs.Record.{record_of, decode_at};
+ghost use Rattle.image.specs.Image.{image_bytes};
 ghost use Rattle.semantics.specs.Promises.{parts, lent, IsStartWith, IsOutsideWith, IsTapeWith, IsSave, IsLoadWith, IsReportWith, IsConvertWith};
-ghost use Rattle.semantics.specs.Remembering.{startRemembering, outsideRemembering, tapeRemembering, reportRemembering, saveRemembering, loadRemembering, convertRemembering};
-ghost use Rattle.splitter.specs.OneRecord.{bytes_of, resultWords};
+ghost use Rattle.semantics.specs.Remembering.{start_remembering, outside_remembering, tape_remembering, report_remembering, save_remembering, load_remembering, convert_remembering};
+ghost use Rattle.splitter.specs.OneRecord.{bytes_of, result_words};
 ghost use Rattle.soundness.specs.Layout.{two_words};
 
 use conversion::convert;
@@ -23,7 +23,7 @@ pub extern "C" fn splitter_start(
     values: &[u32],
     pool: &mut [u32],
 ) -> u32
-    ensures { IsStartWith (startRemembering two_words (parts numbers.old deques.old frames.old) memory.old workers values.now pool.old)
+    ensures { IsStartWith (start_remembering two_words (parts numbers.old deques.old frames.old) memory.old workers values.now pool.old)
         numbers.new deques.new frames.new memory.new pool.new result }
 {
     start(numbers, deques, frames, memory, workers, values, pool)
@@ -61,7 +61,7 @@ fn bytes_of(kind: u32, worker: u32, field: u32, value: u32) -> [u8; 8]
 
 // A record for these numbers. One that its field cannot hold becomes the field's largest: it is refused alike.
 pub fn record_of(kind: u32, worker: u32, field: u32, value: u32) -> [u8; 8]
-    ensures { decodeAt result 0 ≡ recordOf (min kind 255) (min worker 255) (min field 65535) value }
+    ensures { decode_at result 0 ≡ record_of (min kind 255) (min worker 255) (min field 65535) value }
 {
     bytes_of(
         least(kind, 255),
@@ -73,7 +73,7 @@ pub fn record_of(kind: u32, worker: u32, field: u32, value: u32) -> [u8; 8]
 
 // The number that the tape was refused by, or both answer words, the first in the low half.
 pub fn result_words(refused: u32, first: u32, second: u32) -> u64
-    ensures { result ≡ resultWords refused first second }
+    ensures { result ≡ result_words refused first second }
 {
     if refused != 0 {
         return refused as u64;
@@ -95,7 +95,7 @@ pub extern "C" fn splitter_step(
     field: u32,
     value: u32,
 ) -> u64
-    ensures { IsOutsideWith (outsideRemembering two_words (parts numbers.old deques.old frames.old) memory.old pool.old work.old (recordOf kind worker field value))
+    ensures { IsOutsideWith (outside_remembering two_words (parts numbers.old deques.old frames.old) memory.old pool.old work.old (record_of kind worker field value))
         numbers.new deques.new frames.new memory.new pool.new work.new result }
 {
     let bytes = record_of(kind, worker, field, value);
@@ -125,7 +125,7 @@ pub extern "C" fn splitter_tape(
     bytes: &[u8],
     answers: &mut [u32],
 ) -> Taped
-    ensures { IsTapeWith (tapeRemembering two_words (parts numbers.old deques.old frames.old) memory.old pool.old work.old bytes.now answers.old)
+    ensures { IsTapeWith (tape_remembering two_words (parts numbers.old deques.old frames.old) memory.old pool.old work.old bytes.now answers.old)
         numbers.new deques.new frames.new memory.new pool.new work.new answers.new result.result result.visits }
 {
     tape(numbers, deques, frames, memory, pool, work, bytes, answers)
@@ -147,7 +147,7 @@ pub extern "C" fn splitter_report(
     clocks: &mut [u64],
     report: &mut [u64],
 ) -> u32
-    ensures { IsReportWith (reportRemembering two_words (parts numbers.old deques.old frames.old) memory.old workers values.now pool.old bytes.now
+    ensures { IsReportWith (report_remembering two_words (parts numbers.old deques.old frames.old) memory.old workers values.now pool.old bytes.now
         (lent work.old answers.old clocks.old report.old))
         numbers.new deques.new frames.new memory.new pool.new work.new answers.new clocks.new report.new result }
 {
@@ -168,7 +168,7 @@ pub extern "C" fn splitter_save(
     work: &mut [u32],
     target: &mut [u8],
 ) -> u32
-    ensures { IsSave (saveRemembering two_words (parts numbers.now deques.now frames.now) memory.now pool.now work.old target.old)
+    ensures { IsSave (save_remembering two_words (parts numbers.now deques.now frames.now) memory.now pool.now work.old target.old)
         work.new target.new result }
 {
     save(numbers, deques, frames, memory, pool, work, target)
@@ -185,7 +185,7 @@ pub extern "C" fn splitter_load(
     work: &mut [u32],
     image: &[u8],
 ) -> u32
-    ensures { IsLoadWith (loadRemembering two_words (parts numbers.old deques.old frames.old) memory.old pool.old work.old image.now)
+    ensures { IsLoadWith (load_remembering two_words (parts numbers.old deques.old frames.old) memory.old pool.old work.old image.now)
         numbers.new deques.new frames.new memory.new pool.new work.new result }
 {
     load(numbers, deques, frames, memory, pool, work, image)
@@ -201,7 +201,7 @@ pub extern "C" fn splitter_convert(
     pool: &mut [u32],
     work: &mut [u32],
 ) -> u32
-    ensures { IsConvertWith (convertRemembering (parts numbers.now deques.now frames.now) memory.old pool.old work.old)
+    ensures { IsConvertWith (convert_remembering (parts numbers.now deques.now frames.now) memory.old pool.old work.old)
         memory.new pool.new work.new result }
 {
     convert(numbers, deques, frames, memory, pool, work)
@@ -210,7 +210,7 @@ pub extern "C" fn splitter_convert(
 // The bytes of an image of so many places and nodes.
 #[unsafe(no_mangle)]
 pub extern "C" fn splitter_image_bytes(places: u32, nodes: u32) -> u64
-    ensures { result ≡ imageBytes two_words places nodes }
+    ensures { result ≡ image_bytes two_words places nodes }
 {
     image::image_bytes(places, nodes)
 }
@@ -218,7 +218,7 @@ pub extern "C" fn splitter_image_bytes(places: u32, nodes: u32) -> u64
 // T(n).
 #[unsafe(no_mangle)]
 pub extern "C" fn splitter_tree_nodes(n: u32) -> u64
-    ensures { result ≡ treeNodes n }
+    ensures { result ≡ tree_nodes n }
 {
     sizes::tree_nodes(n)
 }

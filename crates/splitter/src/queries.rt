@@ -1,8 +1,8 @@
 // What a host may ask of a state and its pool, which are only read.
 ghost use Rattle.std.specs.Prelude.{◌≡◌, ◌^◌, ◌<◌, length};
 ghost use Rattle.words.specs.Basics.{follow};
-ghost use Rattle.packed.specs.Pool.{nextFree};
-ghost use Rattle.splitter.specs.Queries.{freeOn};
+ghost use Rattle.packed.specs.Pool.{next_free};
+ghost use Rattle.splitter.specs.Queries.{free_on};
 
 use image::NUMBER_COUNT;
 use packed::{NODE_WORDS, NONE, next_of};
@@ -10,7 +10,7 @@ use packed::{NODE_WORDS, NONE, next_of};
 // How many nodes the chain from `first` on has, of at most `most`.
 fn chain_length(pool: &[u32], first: u32, most: u64) -> u64
     requires { most < 2 ^ 33 }
-    ensures { result ≡ length (follow most (nextFree pool.now) first) }
+    ensures { result ≡ length (follow most (next_free pool.now) first) }
 {
     let mut a = first;
     let mut k: u64 = 0;
@@ -27,7 +27,7 @@ fn chain_length(pool: &[u32], first: u32, most: u64) -> u64
 // The free nodes of a sound state, without a write.
 #[unsafe(no_mangle)]
 pub extern "C" fn splitter_free_nodes(numbers: &[u32], pool: &[u32]) -> u64
-    ensures { result ≡ freeOn numbers.now pool.now }
+    ensures { result ≡ free_on numbers.now pool.now }
 {
     if numbers.len() != NUMBER_COUNT {
         return 0;

@@ -11,22 +11,22 @@ use Rattle.std.specs.Prelude.{◌≡◌, refl, Bool, true, cond, ◌&&◌, List,
 use Rattle.std.proofs.Common.{ap, ◌∙◌, inl, inr, eqb-true}
 use Rattle.words.specs.Basics.{joined, same}
 use Rattle.words.specs.Tests.{decided}
-use Rattle.sizes.specs.Sizes.{height, width, treeNodes, bit}
+use Rattle.sizes.specs.Sizes.{height, width, tree_nodes, bit}
 use Rattle.pool.specs.Pool.{side}
-use Rattle.packed.specs.Pool.{refcount, links, content, left, right, setNode, setRefcount, child, sibling, leafOf, readAt, retain, release, pathNode, copyPath, setValue, setLink, renew, firstShared, rest, writeFrom, write, initLevel, initInner, initLeaves, initFree, initPool, setContent}
-use Rattle.reducers.specs.Reducers.{foldView}
-use Rattle.frames.specs.Frames.{frameAt, setFrame, initPlaces, initFrames}
-use Rattle.frames.specs.Deques.{size, setSize, place, setPlace, bottom, top, push, pop, shiftUp, dropTop, initDeques}
-use Rattle.frames.specs.Siblings.{relinkFrom, eldestTo, firstFrom, nextAfter}
-use Rattle.frames.specs.Steps.{addChild, spawn, removeFrame, endFrame, goOn, wentOn, steal, sync, synced, fold}
+use Rattle.packed.specs.Pool.{refcount, links, content, left, right, set_node, set_refcount, child, sibling, leaf_of, read_at, retain, release, path_node, copy_path, set_value, set_link, renew, first_shared, rest, write_from, write, init_level, init_inner, init_leaves, init_free, init_pool, set_content}
+use Rattle.reducers.specs.Reducers.{fold_view}
+use Rattle.frames.specs.Frames.{frame_at, set_frame, init_places, init_frames}
+use Rattle.frames.specs.Deques.{size, set_size, place, set_place, bottom, top, push, pop, shift_up, drop_top, init_deques}
+use Rattle.frames.specs.Siblings.{relink_from, eldest_to, first_from, next_after}
+use Rattle.frames.specs.Steps.{add_child, spawn, remove_frame, end_frame, go_on, went_on, steal, sync, synced, fold}
 use Rattle.soundness.specs.Soundness.{cleared}
-use Rattle.model.specs.Record.{recordOf, decodeAt}
-use Rattle.semantics.specs.Core.{spawnOn, end_at, upward, endBottom, returnOn, stealOn, syncOn, read_on, writeOn, foldOn, stepOn}
+use Rattle.model.specs.Record.{record_of, decode_at}
+use Rattle.semantics.specs.Core.{spawn_on, end_at, upward, end_bottom, return_on, steal_on, sync_on, read_on, write_on, fold_on, step_on}
 use Rattle.semantics.specs.Answers.{words_in}
-use Rattle.semantics.specs.Entries.{wholeNodes, startOn, startWith, OutsideResult, runOn, TapeResult}
-use Rattle.semantics.specs.Calls.{Start, startResult, HostCall, tape, StateAndPool, afterStart, outsideResult, tapeResult}
-use Rattle.starred.specs.Tapes.{bytes, spawns, returns, steals, syncs, reads, writes, folds, partsWith, anyPool, words_of}
-use Rattle.starred.specs.Quick.{afterCalls, outsideBy, outside-by, after-sound, quickTape, tape-quick, quickCalls, after-quick}
+use Rattle.semantics.specs.Entries.{whole_nodes, start_on, start_with, OutsideResult, run_on, TapeResult}
+use Rattle.semantics.specs.Calls.{Start, start_result, HostCall, tape, StateAndPool, after_start, outside_result, tape_result}
+use Rattle.starred.specs.Tapes.{bytes, spawns, returns, steals, syncs, reads, writes, folds, parts_with, any_pool, words_of}
+use Rattle.starred.specs.Quick.{after_calls, outside_by, outside_by_lem, after-sound, quick_tape, tape_quick, quick_calls, after_quick}
 use Rattle.soundness.specs.Layout.{two_words}
 
 -- ---- tapes
@@ -56,13 +56,13 @@ abbrev said_of : List Row → List ℕ
 said_of rows = joined (map (λ (r : Row). r.1.0 ∷ r.1.1 ∷ []) rows)
 
 abbrev works : Start → List ℕ
-works b = replicate (wholeNodes two_words b.pool) 5
+works b = replicate (whole_nodes two_words b.pool) 5
 
 abbrev replies : List Row → List ℕ
 replies rows = replicate (2 * length rows) 9
 
 abbrev played : Start → List Row → TapeResult
-played b rows = tapeResult two_words (afterStart two_words b) (bytes_of rows) (works b) (replies rows)
+played b rows = tape_result two_words (after_start two_words b) (bytes_of rows) (works b) (replies rows)
 
 -- the answer words of all the records, q; and whether they leave the state and the pool that they leave without the refused ones, p
 abbrev compared : TapeResult → TapeResult → List ℕ × Bool
@@ -75,25 +75,25 @@ abbrev said : Case → List ℕ × Bool
 said k = (said_of (k.before ++ (k.refused ++ k.after)), true)
 
 -- without the check
-abbrev playedQuick : Start → List Row → TapeResult
-playedQuick b rows = quickTape b (bytes_of rows) (works b) (replies rows)
+abbrev played_quick : Start → List Row → TapeResult
+played_quick b rows = quick_tape b (bytes_of rows) (works b) (replies rows)
 
-played-quick : (b : Start) (rows : List Row) → played b rows ≡ playedQuick b rows
-played-quick b rows = tape-quick b (bytes_of rows) (works b) (replies rows)
+played_quick_lem : (b : Start) (rows : List Row) → played b rows ≡ played_quick b rows
+played_quick_lem b rows = tape_quick b (bytes_of rows) (works b) (replies rows)
 
-abbrev seenQuick : Case → List ℕ × Bool
-seenQuick k = let p : TapeResult = playedQuick k.start (k.before ++ k.after) in let q : TapeResult = playedQuick k.start (k.before ++ (k.refused ++ k.after)) in compared p q
+abbrev seen_quick : Case → List ℕ × Bool
+seen_quick k = let p : TapeResult = played_quick k.start (k.before ++ k.after) in let q : TapeResult = played_quick k.start (k.before ++ (k.refused ++ k.after)) in compared p q
 
-seen-quick : (k : Case) → seen k ≡ seenQuick k
-seen-quick k i = compared (played-quick k.start (k.before ++ k.after) i) (played-quick k.start (k.before ++ (k.refused ++ k.after)) i)
+seen_quick_lem : (k : Case) → seen k ≡ seen_quick k
+seen_quick_lem k i = compared (played_quick_lem k.start (k.before ++ k.after) i) (played_quick_lem k.start (k.before ++ (k.refused ++ k.after)) i)
 
 -- a frame table of so many places, and n splitters of value 1
-abbrev startsIn : ℕ → ℕ → ℕ → ℕ → Start
-startsIn places workers n nodes = record { parts = partsWith places; workers = workers; values = replicate n 1; pool = anyPool nodes }
+abbrev starts_in : ℕ → ℕ → ℕ → ℕ → Start
+starts_in places workers n nodes = record { parts = parts_with places; workers = workers; values = replicate n 1; pool = any_pool nodes }
 
 -- 64 places
 abbrev starts : ℕ → ℕ → ℕ → Start
-starts workers n nodes = startsIn 64 workers n nodes
+starts workers n nodes = starts_in 64 workers n nodes
 
 -- c nested spawns, the first to the depth d
 abbrev nested : ℕ → ℕ → List Row
@@ -101,8 +101,8 @@ nested zero d = []
 nested (suc c) d = gives (spawns 0) 101 d ∷ nested c (suc d)
 
 -- R-3: Main's child lives on worker 0, and Main, which was on worker 1, waits in its return
-abbrev mainReturns : List Row
-mainReturns = gives (spawns 0) 101 1 ∷ gives (steals 1 0) 103 0 ∷ gives (returns 1) 102 4 ∷ []
+abbrev main_returns : List Row
+main_returns = gives (spawns 0) 101 1 ∷ gives (steals 1 0) 103 0 ∷ gives (returns 1) 102 4 ∷ []
 
 -- Main alone on worker 0's deque, worker 1 idle, one node free
 abbrev at_start : Case
@@ -194,8 +194,8 @@ at_start = record {
 }
 
 -- "1 to 8 workers, numbered from 0": the last one is there, and idle
-abbrev eightWorkers : Case
-eightWorkers = record {
+abbrev eight_workers : Case
+eight_workers = record {
   start = starts 8 1 1;
   before = [];
   refused = by (reads 7 0) 10 ∷ by (reads 8 0) 8 ∷ by (steals 1 7) 12 ∷ by (steals 8 7) 8 ∷ [];
@@ -203,8 +203,8 @@ eightWorkers = record {
 }
 
 -- no frame lives, and all nodes are free
-abbrev mainReturned : Case
-mainReturned = record {
+abbrev main_returned : Case
+main_returned = record {
   start = starts 2 1 2;
   before = gives (returns 0) 102 3 ∷ [];
   refused =
@@ -234,8 +234,8 @@ mainReturned = record {
 }
 
 -- worker 0 has Main and a child of it
-abbrev twoFrames : Case
-twoFrames = record {
+abbrev two_frames : Case
+two_frames = record {
   start = starts 3 1 2;
   before = gives (spawns 0) 101 1 ∷ [];
   -- 11 where the victim has two frames
@@ -244,8 +244,8 @@ twoFrames = record {
 }
 
 -- Main on worker 1, its child on worker 0
-abbrev childElsewhere : Case
-childElsewhere = record {
+abbrev child_elsewhere : Case
+child_elsewhere = record {
   start = starts 3 1 2;
   before = gives (spawns 0) 101 1 ∷ gives (steals 1 0) 103 0 ∷ [];
   refused =
@@ -261,10 +261,10 @@ childElsewhere = record {
 }
 
 -- R-3: Main waits in its return
-abbrev mainWaits : Case
-mainWaits = record {
+abbrev main_waits : Case
+main_waits = record {
   start = starts 3 1 2;
-  before = mainReturns;
+  before = main_returns;
   refused =
       -- "Main has returned once it has ended, .. and not while it waits": no 9, but 10, of each kind, for "its worker goes idle" ..
       by (spawns 1) 10
@@ -306,8 +306,8 @@ mainWaits = record {
 -- path is new. Refusal 16 is now given when fewer nodes are free than that rest has."
 --
 -- Of one splitter: Main and its child have the same leaf, and no node is free
-abbrev leafShared : Case
-leafShared = record {
+abbrev leaf_shared : Case
+leaf_shared = record {
   start = starts 2 1 1;
   before = gives (spawns 0) 101 1 ∷ [];
   refused =
@@ -324,8 +324,8 @@ leafShared = record {
 }
 
 -- the same of both frames, Main being on worker 1
-abbrev leafSharedElsewhere : Case
-leafSharedElsewhere = record {
+abbrev leaf_shared_elsewhere : Case
+leaf_shared_elsewhere = record {
   start = starts 3 1 1;
   before = gives (spawns 0) 101 1 ∷ gives (steals 1 0) 103 0 ∷ [];
   refused = by (writes 0 0 5) 16 ∷ by (writes 1 0 5) 16 ∷ by (writes 2 0 5) 10 ∷ by (writes 1 1 5) 15 ∷ [];
@@ -333,8 +333,8 @@ leafSharedElsewhere = record {
 }
 
 -- one node is free: the child's write takes it, also if it writes an equal value, and its next takes none
-abbrev leafFree : Case
-leafFree = record {
+abbrev leaf_free : Case
+leaf_free = record {
   start = starts 2 1 2;
   before = gives (spawns 0) 101 1 ∷ [];
   refused = by (writes 1 0 5) 10 ∷ by (writes 0 1 5) 15 ∷ [];
@@ -342,8 +342,8 @@ leafFree = record {
 }
 
 -- Of two splitters: Main and its child have the same root, so the rest of either path has two nodes, and one is free
-abbrev rootShared : Case
-rootShared = record {
+abbrev root_shared : Case
+root_shared = record {
   start = starts 2 2 4;
   before = gives (spawns 0) 101 1 ∷ [];
   refused = by (writes 0 0 5) 16 ∷ by (writes 0 1 5) 16 ∷ by (writes 0 1 1) 16 ∷ by (writes 2 1 5) 8 ∷ by (writes 1 1 5) 10 ∷ by (writes 0 2 5) 15 ∷ [];
@@ -351,8 +351,8 @@ rootShared = record {
 }
 
 -- two are free
-abbrev rootFree : Case
-rootFree = record {
+abbrev root_free : Case
+root_free = record {
   start = starts 2 2 5;
   before = gives (spawns 0) 101 1 ∷ [];
   refused = by (writes 1 1 5) 10 ∷ by (writes 0 2 5) 15 ∷ [];
@@ -360,8 +360,8 @@ rootFree = record {
 }
 
 -- the child's root is its own, and the leaf of splitter 1 is Main's too: the rest has one node, and none is free
-abbrev onlyLeafShared : Case
-onlyLeafShared = record {
+abbrev only_leaf_shared : Case
+only_leaf_shared = record {
   start = starts 2 2 5;
   before = gives (spawns 0) 101 1 ∷ gives (writes 0 0 5) 106 0 ∷ [];
   refused = by (writes 0 1 5) 16 ∷ by (writes 0 1 1) 16 ∷ by (writes 1 1 5) 10 ∷ by (writes 0 2 5) 15 ∷ [];
@@ -370,8 +370,8 @@ onlyLeafShared = record {
 }
 
 -- one is free
-abbrev onlyLeafFree : Case
-onlyLeafFree = record {
+abbrev only_leaf_free : Case
+only_leaf_free = record {
   start = starts 2 2 6;
   before = gives (spawns 0) 101 1 ∷ gives (writes 0 0 5) 106 1 ∷ [];
   refused = by (writes 1 1 5) 10 ∷ by (writes 0 2 5) 15 ∷ [];
@@ -380,8 +380,8 @@ onlyLeafFree = record {
 
 -- Of four splitters: the child's root is its own, and the node above the leaves of 2 and 3 is Main's too: two nodes, and one is free. It is
 -- enough for 1, of whose path only the leaf is shared
-abbrev innerShared : Case
-innerShared = record {
+abbrev inner_shared : Case
+inner_shared = record {
   start = starts 1 4 11;
   before = gives (spawns 0) 101 1 ∷ gives (writes 0 0 5) 106 1 ∷ [];
   refused = by (writes 0 2 5) 16 ∷ by (writes 0 3 5) 16 ∷ by (writes 0 4 5) 15 ∷ [];
@@ -389,51 +389,51 @@ innerShared = record {
 }
 
 -- two are free
-abbrev innerFree : Case
-innerFree = record {
+abbrev inner_free : Case
+inner_free = record {
   start = starts 1 4 12;
   before = gives (spawns 0) 101 1 ∷ gives (writes 0 0 5) 106 2 ∷ [];
   refused = by (writes 0 4 5) 15 ∷ [];
   after = gives (writes 0 3 5) 106 0 ∷ gives (reads 0 3) 105 5 ∷ by (writes 0 2 6) 16 ∷ [];
 }
 
-pub workersTable : List Case
-workersTable = at_start ∷ eightWorkers ∷ mainReturned ∷ twoFrames ∷ []
+pub workers_table : List Case
+workers_table = at_start ∷ eight_workers ∷ main_returned ∷ two_frames ∷ []
 
-workers-quickly : map seenQuick workersTable ≡ map said workersTable
-unfolding workersTable startOn startWith runOn recordOf decodeAt spawnOn end_at upward endBottom returnOn stealOn syncOn read_on writeOn foldOn stepOn addChild spawn removeFrame endFrame goOn wentOn steal sync synced fold relinkFrom eldestTo firstFrom nextAfter foldView shiftUp dropTop pop top bottom side child sibling bit leafOf readAt retain release setRefcount pathNode copyPath setValue setLink renew firstShared rest writeFrom write initPool initFree initLeaves initInner initLevel setNode height width treeNodes initDeques initFrames initPlaces push setSize setPlace size place setFrame frameAt cleared refcount left right content links setContent
-workers-quickly = refl
+workers_quickly : map seen_quick workers_table ≡ map said workers_table
+unfolding workers_table start_on start_with run_on record_of decode_at spawn_on end_at upward end_bottom return_on steal_on sync_on read_on write_on fold_on step_on add_child spawn remove_frame end_frame go_on went_on steal sync synced fold relink_from eldest_to first_from next_after fold_view shift_up drop_top pop top bottom side child sibling bit leaf_of read_at retain release set_refcount path_node copy_path set_value set_link renew first_shared rest write_from write init_pool init_free init_leaves init_inner init_level set_node height width tree_nodes init_deques init_frames init_places push set_size set_place size place set_frame frame_at cleared refcount left right content links set_content
+workers_quickly = refl
 
-pub workers-refusals : map seen workersTable ≡ map said workersTable
-workers-refusals = (λ i. map (λ (k : Case). seen-quick k i) workersTable) ∙ workers-quickly
+pub workers_refusals : map seen workers_table ≡ map said workers_table
+workers_refusals = (λ i. map (λ (k : Case). seen_quick_lem k i) workers_table) ∙ workers_quickly
 
-pub nodesTable : List Case
-nodesTable =
-    childElsewhere
-    ∷ mainWaits
-    ∷ leafShared
-    ∷ leafSharedElsewhere
-    ∷ leafFree
-    ∷ rootShared
-    ∷ rootFree
-    ∷ onlyLeafShared
-    ∷ onlyLeafFree
-    ∷ innerShared
-    ∷ innerFree
+pub nodes_table : List Case
+nodes_table =
+    child_elsewhere
+    ∷ main_waits
+    ∷ leaf_shared
+    ∷ leaf_shared_elsewhere
+    ∷ leaf_free
+    ∷ root_shared
+    ∷ root_free
+    ∷ only_leaf_shared
+    ∷ only_leaf_free
+    ∷ inner_shared
+    ∷ inner_free
     ∷ []
 
-nodes-quickly : map seenQuick nodesTable ≡ map said nodesTable
-unfolding nodesTable startOn startWith runOn recordOf decodeAt spawnOn end_at upward endBottom returnOn stealOn syncOn read_on writeOn foldOn stepOn addChild spawn removeFrame endFrame goOn wentOn steal sync synced fold relinkFrom eldestTo firstFrom nextAfter foldView shiftUp dropTop pop top bottom side child sibling bit leafOf readAt retain release setRefcount pathNode copyPath setValue setLink renew firstShared rest writeFrom write initPool initFree initLeaves initInner initLevel setNode height width treeNodes initDeques initFrames initPlaces push setSize setPlace size place setFrame frameAt cleared refcount left right content links setContent
-nodes-quickly = refl
+nodes_quickly : map seen_quick nodes_table ≡ map said nodes_table
+unfolding nodes_table start_on start_with run_on record_of decode_at spawn_on end_at upward end_bottom return_on steal_on sync_on read_on write_on fold_on step_on add_child spawn remove_frame end_frame go_on went_on steal sync synced fold relink_from eldest_to first_from next_after fold_view shift_up drop_top pop top bottom side child sibling bit leaf_of read_at retain release set_refcount path_node copy_path set_value set_link renew first_shared rest write_from write init_pool init_free init_leaves init_inner init_level set_node height width tree_nodes init_deques init_frames init_places push set_size set_place size place set_frame frame_at cleared refcount left right content links set_content
+nodes_quickly = refl
 
-pub nodes-refusals : map seen nodesTable ≡ map said nodesTable
-nodes-refusals = (λ i. map (λ (k : Case). seen-quick k i) nodesTable) ∙ nodes-quickly
+pub nodes_refusals : map seen nodes_table ≡ map said nodes_table
+nodes_refusals = (λ i. map (λ (k : Case). seen_quick_lem k i) nodes_table) ∙ nodes_quickly
 
 -- ---- 13: "The step is a spawn and 64 frames live."; R-6: the table's length "is the limit in 13"
 
 -- 64 places: "The 63rd nested spawn gives 101 63, the 64th 13; after one return it is accepted."; the same of 256, the most: a table of so many places and one
-pub framesTable : ℕ → List Row
-framesTable k =
+pub frames_table : ℕ → List Row
+frames_table k =
     nested k 1
     ++ (by (spawns 0) 13
     -- 7, 8 and 10 before 13
@@ -450,76 +450,76 @@ framesTable k =
     ∷ by (spawns 0) 13
     ∷ [])
 
-frames-quickly : map (λ k. (playedQuick (startsIn (suc k) 2 1 1) (framesTable k)).answers) (63 ∷ 255 ∷ []) ≡ map (λ k. said_of (framesTable k)) (63 ∷ 255 ∷ [])
-unfolding framesTable startOn startWith runOn recordOf decodeAt spawnOn end_at upward endBottom returnOn stealOn syncOn read_on writeOn foldOn stepOn addChild spawn removeFrame endFrame goOn wentOn steal sync synced fold relinkFrom eldestTo firstFrom nextAfter foldView shiftUp dropTop pop top bottom side child sibling bit leafOf readAt retain release setRefcount pathNode copyPath setValue setLink renew firstShared rest writeFrom write initPool initFree initLeaves initInner initLevel setNode height width treeNodes initDeques initFrames initPlaces push setSize setPlace size place setFrame frameAt cleared refcount left right content links setContent
-frames-quickly = refl
+frames_quickly : map (λ k. (played_quick (starts_in (suc k) 2 1 1) (frames_table k)).answers) (63 ∷ 255 ∷ []) ≡ map (λ k. said_of (frames_table k)) (63 ∷ 255 ∷ [])
+unfolding frames_table start_on start_with run_on record_of decode_at spawn_on end_at upward end_bottom return_on steal_on sync_on read_on write_on fold_on step_on add_child spawn remove_frame end_frame go_on went_on steal sync synced fold relink_from eldest_to first_from next_after fold_view shift_up drop_top pop top bottom side child sibling bit leaf_of read_at retain release set_refcount path_node copy_path set_value set_link renew first_shared rest write_from write init_pool init_free init_leaves init_inner init_level set_node height width tree_nodes init_deques init_frames init_places push set_size set_place size place set_frame frame_at cleared refcount left right content links set_content
+frames_quickly = refl
 
-pub frames-refusals : map (λ k. (played (startsIn (suc k) 2 1 1) (framesTable k)).answers) (63 ∷ 255 ∷ []) ≡ map (λ k. said_of (framesTable k)) (63 ∷ 255 ∷ [])
-frames-refusals = (λ i. map (λ k. (played-quick (startsIn (suc k) 2 1 1) (framesTable k) i).answers) (63 ∷ 255 ∷ [])) ∙ frames-quickly
+pub frames_refusals : map (λ k. (played (starts_in (suc k) 2 1 1) (frames_table k)).answers) (63 ∷ 255 ∷ []) ≡ map (λ k. said_of (frames_table k)) (63 ∷ 255 ∷ [])
+frames_refusals = (λ i. map (λ k. (played_quick_lem (starts_in (suc k) 2 1 1) (frames_table k) i).answers) (63 ∷ 255 ∷ [])) ∙ frames_quickly
 
 -- few places: Main in the only one
-abbrev onePlace : Case
-onePlace = record {
-  start = startsIn 1 2 1 2;
+abbrev one_place : Case
+one_place = record {
+  start = starts_in 1 2 1 2;
   before = [];
   refused = by (spawns 0) 13 ∷ by (bytes 1 0 1 0) 7 ∷ by (spawns 2) 8 ∷ by (spawns 1) 10 ∷ by (steals 1 0) 12 ∷ [];
   after = [];
 }
 
 -- its place is free when it has returned, but then 9 is given
-abbrev onePlaceReturned : Case
-onePlaceReturned = record {
-  start = startsIn 1 2 1 2;
+abbrev one_place_returned : Case
+one_place_returned = record {
+  start = starts_in 1 2 1 2;
   before = gives (writes 0 0 5) 106 1 ∷ gives (folds 0 0 5) 107 0 ∷ gives (returns 0) 102 3 ∷ [];
   refused = by (spawns 0) 9 ∷ by (spawns 1) 9 ∷ [];
   after = [];
 }
 
 -- Main and its child in two; "after one return it is accepted"
-abbrev twoPlaces : Case
-twoPlaces = record {
-  start = startsIn 2 2 1 2;
+abbrev two_places : Case
+two_places = record {
+  start = starts_in 2 2 1 2;
   before = gives (spawns 0) 101 1 ∷ [];
   refused = by (spawns 0) 13 ∷ by (bytes 1 0 0 1) 7 ∷ by (spawns 2) 8 ∷ by (spawns 1) 10 ∷ [];
   after = gives (returns 0) 102 0 ∷ gives (spawns 0) 101 1 ∷ by (spawns 0) 13 ∷ [];
 }
 
 -- the same of both frames, Main being on worker 1
-abbrev twoPlacesElsewhere : Case
-twoPlacesElsewhere = record {
-  start = startsIn 2 2 1 2;
+abbrev two_places_elsewhere : Case
+two_places_elsewhere = record {
+  start = starts_in 2 2 1 2;
   before = gives (spawns 0) 101 1 ∷ gives (steals 1 0) 103 0 ∷ [];
   refused = by (spawns 0) 13 ∷ by (spawns 1) 13 ∷ [];
   after = gives (returns 0) 102 1 ∷ gives (spawns 1) 101 1 ∷ by (spawns 1) 13 ∷ [];
 }
 
 -- where Main waits in its return, its place is not free
-abbrev twoPlacesWaiting : Case
-twoPlacesWaiting = record {
-  start = startsIn 2 2 1 2;
-  before = mainReturns;
+abbrev two_places_waiting : Case
+two_places_waiting = record {
+  start = starts_in 2 2 1 2;
+  before = main_returns;
   refused = by (spawns 0) 13 ∷ by (spawns 1) 10 ∷ [];
   after = gives (returns 0) 102 3 ∷ by (spawns 0) 9 ∷ [];
 }
 
 -- two children, whose links a refused spawn leaves
-abbrev threePlaces : Case
-threePlaces = record {
-  start = startsIn 3 2 1 2;
+abbrev three_places : Case
+three_places = record {
+  start = starts_in 3 2 1 2;
   before = gives (spawns 0) 101 1 ∷ gives (steals 1 0) 103 0 ∷ gives (spawns 1) 101 1 ∷ [];
   refused = by (spawns 0) 13 ∷ by (spawns 1) 13 ∷ [];
   after = gives (returns 1) 102 0 ∷ gives (spawns 0) 101 2 ∷ by (spawns 1) 13 ∷ [];
 }
 
-pub placesTable : List Case
-placesTable = onePlace ∷ onePlaceReturned ∷ twoPlaces ∷ twoPlacesElsewhere ∷ twoPlacesWaiting ∷ threePlaces ∷ []
+pub places_table : List Case
+places_table = one_place ∷ one_place_returned ∷ two_places ∷ two_places_elsewhere ∷ two_places_waiting ∷ three_places ∷ []
 
-places-quickly : map seenQuick placesTable ≡ map said placesTable
-unfolding placesTable startOn startWith runOn recordOf decodeAt spawnOn end_at upward endBottom returnOn stealOn syncOn read_on writeOn foldOn stepOn addChild spawn removeFrame endFrame goOn wentOn steal sync synced fold relinkFrom eldestTo firstFrom nextAfter foldView shiftUp dropTop pop top bottom side child sibling bit leafOf readAt retain release setRefcount pathNode copyPath setValue setLink renew firstShared rest writeFrom write initPool initFree initLeaves initInner initLevel setNode height width treeNodes initDeques initFrames initPlaces push setSize setPlace size place setFrame frameAt cleared refcount left right content links setContent
-places-quickly = refl
+places_quickly : map seen_quick places_table ≡ map said places_table
+unfolding places_table start_on start_with run_on record_of decode_at spawn_on end_at upward end_bottom return_on steal_on sync_on read_on write_on fold_on step_on add_child spawn remove_frame end_frame go_on went_on steal sync synced fold relink_from eldest_to first_from next_after fold_view shift_up drop_top pop top bottom side child sibling bit leaf_of read_at retain release set_refcount path_node copy_path set_value set_link renew first_shared rest write_from write init_pool init_free init_leaves init_inner init_level set_node height width tree_nodes init_deques init_frames init_places push set_size set_place size place set_frame frame_at cleared refcount left right content links set_content
+places_quickly = refl
 
-pub places-refusals : map seen placesTable ≡ map said placesTable
-places-refusals = (λ i. map (λ (k : Case). seen-quick k i) placesTable) ∙ places-quickly
+pub places_refusals : map seen places_table ≡ map said places_table
+places_refusals = (λ i. map (λ (k : Case). seen_quick_lem k i) places_table) ∙ places_quickly
 
 -- ---- steps from outside
 
@@ -533,31 +533,31 @@ pub record StepRow : Type 0 where
   pub value : ℕ
   pub words : ℕ × ℕ
 
-abbrev tapeOf : List Row → List HostCall
-tapeOf [] = []
-tapeOf (r ∷ rows) = tape (bytes_of (r ∷ rows)) (replicate 2 5) (replicate (2 * length (r ∷ rows)) 9) ∷ []
+abbrev tape_of : List Row → List HostCall
+tape_of [] = []
+tape_of (r ∷ rows) = tape (bytes_of (r ∷ rows)) (replicate 2 5) (replicate (2 * length (r ∷ rows)) 9) ∷ []
 
 abbrev enters : Start → List Row → (kind worker field value : ℕ) → ℕ → ℕ → StepRow
 enters b rows k w f v x y = record { start = b; before = rows; kind = k; worker = w; field = f; value = v; words = (x, y) }
 
 -- the answer words; and whether the step, if it was refused, changed nothing
-abbrev answeredBy : StateAndPool → OutsideResult → (ℕ × ℕ) × Bool
-answeredBy h o =
+abbrev answered_by : StateAndPool → OutsideResult → (ℕ × ℕ) × Bool
+answered_by h o =
     let unchanged : Bool = same (words_of o.state) (words_of h.state) && same o.pool h.pool in
     (words_in o.result, cond (ltb (words_in o.result).0 100) unchanged true)
 
-abbrev beforeStep : StepRow → StateAndPool
-beforeStep r = afterCalls (afterStart two_words r.start) (tapeOf r.before)
+abbrev before_step : StepRow → StateAndPool
+before_step r = after_calls (after_start two_words r.start) (tape_of r.before)
 
 -- by a step that leaves this, of the state, the pool and the work slice
-abbrev seenBy : StepRow → (StateAndPool → List ℕ → OutsideResult) → StateAndPool → (ℕ × ℕ) × Bool
-seenBy r does h = let o : OutsideResult = does h (replicate (wholeNodes two_words h.pool) 5) in answeredBy h o
+abbrev seen_by : StepRow → (StateAndPool → List ℕ → OutsideResult) → StateAndPool → (ℕ × ℕ) × Bool
+seen_by r does h = let o : OutsideResult = does h (replicate (whole_nodes two_words h.pool) 5) in answered_by h o
 
-abbrev stepSeen : StepRow → (ℕ × ℕ) × Bool
-stepSeen r = seenBy r (λ h work. outsideResult two_words h r.kind r.worker r.field r.value work) (beforeStep r)
+abbrev step_seen : StepRow → (ℕ × ℕ) × Bool
+step_seen r = seen_by r (λ h work. outside_result two_words h r.kind r.worker r.field r.value work) (before_step r)
 
-pub stepTable : List StepRow
-stepTable =
+pub step_table : List StepRow
+step_table =
     enters (starts 2 1 2) [] 0 0 0 0 7 0
     ∷ enters (starts 2 1 2) [] 1 0 0 1 7 0
     ∷ enters (starts 2 1 2) [] 5 2 0 0 8 0
@@ -568,9 +568,9 @@ stepTable =
     ∷ enters (starts 2 1 2) (nested 63 1) 1 0 0 0 13 0
     -- R-3: what 14 refused, and what follows
     ∷ enters (starts 2 1 2) (gives (spawns 0) 101 1 ∷ gives (steals 1 0) 103 0 ∷ []) 2 1 0 0 102 4
-    ∷ enters (starts 2 1 2) mainReturns 2 1 0 0 10 0
-    ∷ enters (starts 2 1 2) mainReturns 3 1 0 0 12 0
-    ∷ enters (starts 2 1 2) mainReturns 2 0 0 0 102 3
+    ∷ enters (starts 2 1 2) main_returns 2 1 0 0 10 0
+    ∷ enters (starts 2 1 2) main_returns 3 1 0 0 12 0
+    ∷ enters (starts 2 1 2) main_returns 2 0 0 0 102 3
     ∷ enters (starts 2 1 2) [] 5 0 1 0 15 0
     ∷ enters (starts 2 1 1) (gives (spawns 0) 101 1 ∷ []) 6 0 0 5 16 0
     ∷ enters (starts 2 1 1) (gives (spawns 0) 101 1 ∷ []) 6 0 0 1 16 0
@@ -588,11 +588,11 @@ stepTable =
     ∷ enters (starts 2 1 2) [] 7 0 1 5 107 0
     ∷ enters (starts 2 1 2) [] 7 0 2 4294967295 107 0
     -- R-6: 13 by the table's length
-    ∷ enters (startsIn 1 2 1 2) [] 1 0 0 0 13 0
-    ∷ enters (startsIn 2 2 1 2) [] 1 0 0 0 101 1
-    ∷ enters (startsIn 2 2 1 2) (gives (spawns 0) 101 1 ∷ []) 1 0 0 0 13 0
-    ∷ enters (startsIn 2 2 1 2) (gives (spawns 0) 101 1 ∷ gives (returns 0) 102 0 ∷ []) 1 0 0 0 101 1
-    ∷ enters (startsIn 65 2 1 2) (nested 63 1) 1 0 0 0 101 64
+    ∷ enters (starts_in 1 2 1 2) [] 1 0 0 0 13 0
+    ∷ enters (starts_in 2 2 1 2) [] 1 0 0 0 101 1
+    ∷ enters (starts_in 2 2 1 2) (gives (spawns 0) 101 1 ∷ []) 1 0 0 0 13 0
+    ∷ enters (starts_in 2 2 1 2) (gives (spawns 0) 101 1 ∷ gives (returns 0) 102 0 ∷ []) 1 0 0 0 101 1
+    ∷ enters (starts_in 65 2 1 2) (nested 63 1) 1 0 0 0 101 64
     -- a number that its field in a record could not hold
     ∷ enters (starts 2 1 2) [] 257 0 0 0 7 0
     ∷ enters (starts 2 1 2) [] 263 0 0 0 7 0
@@ -603,26 +603,26 @@ stepTable =
     ∷ []
 
 -- without the check
-abbrev stepDirect : StepRow → StateAndPool → (ℕ × ℕ) × Bool
-stepDirect r h = seenBy r (λ g work. outsideBy true g r.kind r.worker r.field r.value work) h
+abbrev step_direct : StepRow → StateAndPool → (ℕ × ℕ) × Bool
+step_direct r h = seen_by r (λ g work. outside_by true g r.kind r.worker r.field r.value work) h
 
-abbrev stepQuick : StepRow → (ℕ × ℕ) × Bool
-stepQuick r = cond (eqb (startResult two_words r.start).result 0) (stepDirect r (quickCalls (afterStart two_words r.start) (tapeOf r.before))) (stepSeen r)
+abbrev step_quick : StepRow → (ℕ × ℕ) × Bool
+step_quick r = cond (eqb (start_result two_words r.start).result 0) (step_direct r (quick_calls (after_start two_words r.start) (tape_of r.before))) (step_seen r)
 
-step-quick : (r : StepRow) → stepSeen r ≡ stepQuick r
-step-quick r = elim (decided (eqb (startResult two_words r.start).result 0)) [
+step_quick_lem : (r : StepRow) → step_seen r ≡ step_quick r
+step_quick_lem r = elim (decided (eqb (start_result two_words r.start).result 0)) [
   | inl e ↦
-      let a = eqb-true (startResult two_words r.start).result 0 e in
-      let h = beforeStep r in
+      let a = eqb-true (start_result two_words r.start).result 0 e in
+      let h = before_step r in
       rw e
-      (ap (answeredBy h) (outside-by h r.kind r.worker r.field r.value (replicate (wholeNodes two_words h.pool) 5) (after-sound r.start (tapeOf r.before) a))
-      ∙ ap (stepDirect r) (after-quick r.start (tapeOf r.before) a))
+      (ap (answered_by h) (outside_by_lem h r.kind r.worker r.field r.value (replicate (whole_nodes two_words h.pool) 5) (after-sound r.start (tape_of r.before) a))
+      ∙ ap (step_direct r) (after_quick r.start (tape_of r.before) a))
   | inr e ↦ rw e refl
 ]
 
-step-quickly : map stepQuick stepTable ≡ map (λ (row : StepRow). (row.words, true)) stepTable
-unfolding stepTable startOn startWith runOn recordOf decodeAt spawnOn end_at upward endBottom returnOn stealOn syncOn read_on writeOn foldOn stepOn addChild spawn removeFrame endFrame goOn wentOn steal sync synced fold relinkFrom eldestTo firstFrom nextAfter foldView shiftUp dropTop pop top bottom side child sibling bit leafOf readAt retain release setRefcount pathNode copyPath setValue setLink renew firstShared rest writeFrom write initPool initFree initLeaves initInner initLevel setNode height width treeNodes initDeques initFrames initPlaces push setSize setPlace size place setFrame frameAt cleared refcount left right content links setContent
-step-quickly = refl
+step_quickly : map step_quick step_table ≡ map (λ (row : StepRow). (row.words, true)) step_table
+unfolding step_table start_on start_with run_on record_of decode_at spawn_on end_at upward end_bottom return_on steal_on sync_on read_on write_on fold_on step_on add_child spawn remove_frame end_frame go_on went_on steal sync synced fold relink_from eldest_to first_from next_after fold_view shift_up drop_top pop top bottom side child sibling bit leaf_of read_at retain release set_refcount path_node copy_path set_value set_link renew first_shared rest write_from write init_pool init_free init_leaves init_inner init_level set_node height width tree_nodes init_deques init_frames init_places push set_size set_place size place set_frame frame_at cleared refcount left right content links set_content
+step_quickly = refl
 
-pub step-refusals : map stepSeen stepTable ≡ map (λ (row : StepRow). (row.words, true)) stepTable
-step-refusals = (λ i. map (λ (row : StepRow). step-quick row i) stepTable) ∙ step-quickly
+pub step_refusals : map step_seen step_table ≡ map (λ (row : StepRow). (row.words, true)) step_table
+step_refusals = (λ i. map (λ (row : StepRow). step_quick_lem row i) step_table) ∙ step_quickly

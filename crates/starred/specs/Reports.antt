@@ -1,20 +1,20 @@
 -- R-7: reports, computed: work, span, quotient and remainder; 22; the refusals before anything changes, their order and what they leave.
 use Rattle.std.specs.Prelude.{◌≡◌, refl, Bool, true, cond, ◌&&◌, List, [], ◌∷◌, map, ℕ, ◌*◌, length, replicate, eqb}
 use Rattle.words.specs.Basics.{same, joined}
-use Rattle.sizes.specs.Sizes.{height, width, treeNodes, bit}
+use Rattle.sizes.specs.Sizes.{height, width, tree_nodes, bit}
 use Rattle.pool.specs.Pool.{side}
-use Rattle.packed.specs.Pool.{refcount, links, content, left, right, setNode, setRefcount, child, sibling, leafOf, readAt, retain, release, pathNode, copyPath, setValue, setLink, renew, firstShared, rest, writeFrom, write, initLevel, initInner, initLeaves, initFree, initPool, setContent}
-use Rattle.reducers.specs.Reducers.{foldView}
-use Rattle.frames.specs.Frames.{frameAt, setFrame, initPlaces, initFrames}
-use Rattle.frames.specs.Deques.{size, setSize, place, setPlace, bottom, top, push, pop, shiftUp, dropTop, initDeques}
-use Rattle.frames.specs.Siblings.{relinkFrom, eldestTo, firstFrom, nextAfter}
-use Rattle.frames.specs.Steps.{addChild, spawn, removeFrame, endFrame, goOn, wentOn, steal, sync, synced, fold}
-use Rattle.model.specs.Record.{recordOf, decodeAt}
-use Rattle.semantics.specs.Core.{spawnOn, end_at, upward, endBottom, returnOn, stealOn, syncOn, read_on, writeOn, foldOn, stepOn}
-use Rattle.semantics.specs.Entries.{State, startOn, startWith, recordsFrom}
-use Rattle.semantics.specs.Timing.{rise, timedWith, timedOver}
-use Rattle.semantics.specs.Report.{Lent, ReportResult, reportWith, reportOn}
-use Rattle.starred.specs.Tapes.{spawns, returns, steals, syncs, reads, writes, folds, recordsOf, partsWith, anyPool}
+use Rattle.packed.specs.Pool.{refcount, links, content, left, right, set_node, set_refcount, child, sibling, leaf_of, read_at, retain, release, path_node, copy_path, set_value, set_link, renew, first_shared, rest, write_from, write, init_level, init_inner, init_leaves, init_free, init_pool, set_content}
+use Rattle.reducers.specs.Reducers.{fold_view}
+use Rattle.frames.specs.Frames.{frame_at, set_frame, init_places, init_frames}
+use Rattle.frames.specs.Deques.{size, set_size, place, set_place, bottom, top, push, pop, shift_up, drop_top, init_deques}
+use Rattle.frames.specs.Siblings.{relink_from, eldest_to, first_from, next_after}
+use Rattle.frames.specs.Steps.{add_child, spawn, remove_frame, end_frame, go_on, went_on, steal, sync, synced, fold}
+use Rattle.model.specs.Record.{record_of, decode_at}
+use Rattle.semantics.specs.Core.{spawn_on, end_at, upward, end_bottom, return_on, steal_on, sync_on, read_on, write_on, fold_on, step_on}
+use Rattle.semantics.specs.Entries.{State, start_on, start_with, records_from}
+use Rattle.semantics.specs.Timing.{rise, timed_with, timed_over}
+use Rattle.semantics.specs.Report.{Lent, ReportResult, report_with, report_on}
+use Rattle.starred.specs.Tapes.{spawns, returns, steals, syncs, reads, writes, folds, records_of, parts_with, any_pool}
 use Rattle.soundness.specs.Layout.{two_words}
 
 -- ---- accepted starts: three workers, one splitter, four nodes, a table of eight places; slices that are long enough and hold anything
@@ -23,7 +23,7 @@ abbrev lends : List (List ℕ) → Lent
 lends records = record { work = replicate 4 5; answers = replicate (2 * length records) 9; clocks = replicate 16 6; report = replicate 4 8 }
 
 abbrev reported : List (List ℕ) → ReportResult
-reported records = reportOn two_words (partsWith 8) 3 (7 ∷ []) (anyPool 4) (joined records) (lends records)
+reported records = report_on two_words (parts_with 8) 3 (7 ∷ []) (any_pool 4) (joined records) (lends records)
 
 -- the result, and the report's words
 abbrev seen : List (List ℕ) → ℕ × List ℕ
@@ -57,9 +57,9 @@ table =
     ∷ (spawns 0 ∷ steals 1 0 ∷ reads 1 0 ∷ returns 1 ∷ reads 0 0 ∷ reads 0 0 ∷ reads 0 0 ∷ returns 0 ∷ [], (0, 5 ∷ 4 ∷ 1 ∷ 1 ∷ []))
     ∷ []
 
-tables-hold : map (λ (r : Row). seen r.0) table ≡ map (λ (r : Row). r.1) table
-unfolding table reportOn reportWith timedOver timedWith rise startOn startWith recordsFrom recordOf decodeAt spawnOn end_at upward endBottom returnOn stealOn syncOn read_on writeOn foldOn stepOn addChild spawn removeFrame endFrame goOn wentOn steal sync synced fold relinkFrom eldestTo firstFrom nextAfter foldView shiftUp dropTop pop top bottom side child sibling bit leafOf readAt retain release setRefcount pathNode copyPath setValue setLink renew firstShared rest writeFrom write initPool initFree initLeaves initInner initLevel setNode height width treeNodes initDeques initFrames initPlaces push setSize setPlace size place setFrame frameAt refcount left right content links setContent
-tables-hold = refl
+tables_hold : map (λ (r : Row). seen r.0) table ≡ map (λ (r : Row). r.1) table
+unfolding table report_on report_with timed_over timed_with rise start_on start_with records_from record_of decode_at spawn_on end_at upward end_bottom return_on steal_on sync_on read_on write_on fold_on step_on add_child spawn remove_frame end_frame go_on went_on steal sync synced fold relink_from eldest_to first_from next_after fold_view shift_up drop_top pop top bottom side child sibling bit leaf_of read_at retain release set_refcount path_node copy_path set_value set_link renew first_shared rest write_from write init_pool init_free init_leaves init_inner init_level set_node height width tree_nodes init_deques init_frames init_places push set_size set_place size place set_frame frame_at refcount left right content links set_content
+tables_hold = refl
 
 -- ---- refused before anything changes
 
@@ -74,25 +74,25 @@ pub record Refused : Type 0 where
   pub result : ℕ
 
 abbrev parts_of : Refused → State
-parts_of r = record { numbers = replicate r.parts.0 3; deques = replicate r.parts.1 3; frames = (partsWith r.parts.2).frames }
+parts_of r = record { numbers = replicate r.parts.0 3; deques = replicate r.parts.1 3; frames = (parts_with r.parts.2).frames }
 
 abbrev lent_of : Refused → Lent
 lent_of r = record { work = replicate r.lent.0 5; answers = replicate r.lent.1 9; clocks = replicate r.lent.2 6; report = replicate r.lent.3 8 }
 
 -- "refused so it hands out a state of zeros"; table, pool and lent slices are as they were, and by 99 the parts too
-abbrev leftBy : Refused → ReportResult → Bool
-leftBy r o =
+abbrev left_by : Refused → ReportResult → Bool
+left_by r o =
     same o.state.numbers (cond (eqb o.result 99) (parts_of r).numbers (replicate 10 0))
     && same o.state.deques (cond (eqb o.result 99) (parts_of r).deques (replicate 2056 0))
-    && same (recordsOf o.state.frames) (recordsOf (parts_of r).frames)
+    && same (records_of o.state.frames) (records_of (parts_of r).frames)
     && same o.pool (replicate r.words 7)
     && same o.lent.work (lent_of r).work
     && same o.lent.answers (lent_of r).answers
     && same o.lent.clocks (lent_of r).clocks
     && same o.lent.report (lent_of r).report
 
-abbrev refusedSeen : Refused → ℕ × Bool
-refusedSeen r = let o : ReportResult = reportOn two_words (parts_of r) r.workers (replicate r.values 1) (replicate r.words 7) (replicate r.bytes 0) (lent_of r) in (o.result, leftBy r o)
+abbrev refused_seen : Refused → ℕ × Bool
+refused_seen r = let o : ReportResult = report_on two_words (parts_of r) r.workers (replicate r.values 1) (replicate r.words 7) (replicate r.bytes 0) (lent_of r) in (o.result, left_by r o)
 
 abbrev row : ℕ × ℕ × ℕ → ℕ → ℕ → ℕ → ℕ → ℕ × ℕ × ℕ × ℕ → ℕ → Refused
 row parts workers values words bytes lent result = record { parts = parts; workers = workers; values = values; words = words; bytes = bytes; lent = lent; result = result }
@@ -114,6 +114,6 @@ refusals =
     ∷ row (10, 2056, 2) 1 1 2 8 (0, 2, 4, 4) 5
     ∷ []
 
-refusals-hold : map refusedSeen refusals ≡ map (λ (r : Refused). (r.result, true)) refusals
-unfolding refusals reportOn reportWith startWith treeNodes height width
-refusals-hold = refl
+refusals_hold : map refused_seen refusals ≡ map (λ (r : Refused). (r.result, true)) refusals
+unfolding refusals report_on report_with start_with tree_nodes height width
+refusals_hold = refl

@@ -2,21 +2,21 @@
 use Rattle.std.specs.Prelude.{◌≡◌, refl, cond, List, [], ◌∷◌, ◌++◌, map, ℕ, ◌+◌, ◌*◌, length, replicate, eqb}
 use Rattle.std.proofs.Common.{◌∙◌}
 use Rattle.words.specs.Basics.{joined}
-use Rattle.sizes.specs.Sizes.{height, width, treeNodes, bit}
+use Rattle.sizes.specs.Sizes.{height, width, tree_nodes, bit}
 use Rattle.pool.specs.Pool.{side}
-use Rattle.packed.specs.Pool.{refcount, links, content, left, right, setNode, setRefcount, child, sibling, leafOf, readAt, retain, release, pathNode, copyPath, setValue, setLink, renew, firstShared, rest, writeFrom, write, initLevel, initInner, initLeaves, initFree, initPool, setContent}
-use Rattle.reducers.specs.Reducers.{foldView}
-use Rattle.frames.specs.Frames.{frameAt, setFrame, initPlaces, initFrames}
-use Rattle.frames.specs.Deques.{size, setSize, place, setPlace, bottom, top, push, pop, shiftUp, dropTop, initDeques}
-use Rattle.frames.specs.Siblings.{relinkFrom, eldestTo, firstFrom, nextAfter}
-use Rattle.frames.specs.Steps.{addChild, spawn, removeFrame, endFrame, goOn, wentOn, steal, sync, synced, fold}
+use Rattle.packed.specs.Pool.{refcount, links, content, left, right, set_node, set_refcount, child, sibling, leaf_of, read_at, retain, release, path_node, copy_path, set_value, set_link, renew, first_shared, rest, write_from, write, init_level, init_inner, init_leaves, init_free, init_pool, set_content}
+use Rattle.reducers.specs.Reducers.{fold_view}
+use Rattle.frames.specs.Frames.{frame_at, set_frame, init_places, init_frames}
+use Rattle.frames.specs.Deques.{size, set_size, place, set_place, bottom, top, push, pop, shift_up, drop_top, init_deques}
+use Rattle.frames.specs.Siblings.{relink_from, eldest_to, first_from, next_after}
+use Rattle.frames.specs.Steps.{add_child, spawn, remove_frame, end_frame, go_on, went_on, steal, sync, synced, fold}
 use Rattle.soundness.specs.Soundness.{cleared}
-use Rattle.model.specs.Record.{recordOf, decodeAt}
-use Rattle.semantics.specs.Core.{spawnOn, end_at, upward, endBottom, returnOn, stealOn, syncOn, read_on, writeOn, foldOn, stepOn}
-use Rattle.semantics.specs.Entries.{totalsOf, startOn, startWith, runOn, TapeResult}
-use Rattle.semantics.specs.Calls.{Start, startResult, afterStart, tapeResult}
-use Rattle.starred.specs.Tapes.{bytes, spawns, returns, steals, syncs, reads, writes, folds, foldsMap, foldsLargest, partsWith, anyPool, five, identities}
-use Rattle.starred.specs.Quick.{quickTape, tape-quick}
+use Rattle.model.specs.Record.{record_of, decode_at}
+use Rattle.semantics.specs.Core.{spawn_on, end_at, upward, end_bottom, return_on, steal_on, sync_on, read_on, write_on, fold_on, step_on}
+use Rattle.semantics.specs.Entries.{totals_of, start_on, start_with, run_on, TapeResult}
+use Rattle.semantics.specs.Calls.{Start, start_result, after_start, tape_result}
+use Rattle.starred.specs.Tapes.{bytes, spawns, returns, steals, syncs, reads, writes, folds, folds_map, folds_largest, parts_with, any_pool, five, identities}
+use Rattle.starred.specs.Quick.{quick_tape, tape_quick}
 use Rattle.soundness.specs.Layout.{two_words}
 
 -- a start, with a frame table of so many places, then a tape
@@ -34,15 +34,15 @@ pub record Outcome : Type 0 where
   pub work : List ℕ
   pub totals : List ℕ
 
-abbrev pub outcomeOf : TapeResult → Outcome
-outcomeOf t = record { refused = t.result; answers = t.answers; work = t.work; totals = totalsOf t.state }
+abbrev pub outcome_of : TapeResult → Outcome
+outcome_of t = record { refused = t.result; answers = t.answers; work = t.work; totals = totals_of t.state }
 
 -- refused whole at the start
-abbrev pub refusedBy : ℕ → Outcome
-refusedBy k = record { refused = k; answers = []; work = []; totals = [] }
+abbrev pub refused_by : ℕ → Outcome
+refused_by k = record { refused = k; answers = []; work = []; totals = [] }
 
 abbrev start_of : Case → Start
-start_of k = record { parts = partsWith k.places; workers = k.workers; values = k.values; pool = anyPool k.nodes }
+start_of k = record { parts = parts_with k.places; workers = k.workers; values = k.values; pool = any_pool k.nodes }
 
 abbrev works : Case → List ℕ
 works k = replicate (k.nodes + 1) 5
@@ -52,20 +52,20 @@ replies k = replicate (2 * length k.records + 2) 9
 
 -- a start that is refused ends it
 abbrev told : Case → TapeResult → Outcome
-told k t = let o : Outcome = outcomeOf t in cond (eqb (startResult two_words (start_of k)).result 0) o (refusedBy (startResult two_words (start_of k)).result)
+told k t = let o : Outcome = outcome_of t in cond (eqb (start_result two_words (start_of k)).result 0) o (refused_by (start_result two_words (start_of k)).result)
 
 -- the tape is lent two answer words more than it needs, and one work word more
 abbrev pub outcome : Case → Outcome
-outcome k = told k (tapeResult two_words (afterStart two_words (start_of k)) (joined k.records) (works k) (replies k))
+outcome k = told k (tape_result two_words (after_start two_words (start_of k)) (joined k.records) (works k) (replies k))
 
 -- ---- the table
 
-abbrev startsIn : ℕ → ℕ → List ℕ → ℕ → List (List ℕ) → Case
-startsIn ps w vs n rs = record { places = ps; workers = w; values = vs; nodes = n; records = rs }
+abbrev starts_in : ℕ → ℕ → List ℕ → ℕ → List (List ℕ) → Case
+starts_in ps w vs n rs = record { places = ps; workers = w; values = vs; nodes = n; records = rs }
 
 -- 64 places
 abbrev starts : ℕ → List ℕ → ℕ → List (List ℕ) → Case
-starts w vs n rs = startsIn 64 w vs n rs
+starts w vs n rs = starts_in 64 w vs n rs
 
 -- the answer words, and after them the two that were lent besides; the work words zero, and after them the one besides; the totals
 abbrev ends : ℕ → List ℕ → List ℕ → Outcome
@@ -93,11 +93,11 @@ table =
     -- the others of these edges stay. n 1, "two nodes: accepted, 106 1."
     ∷ (starts 1 (7 ∷ []) 2 (writes 0 0 5 ∷ []), answered 2 (106 ∷ 1 ∷ []))
     -- "n 5, 10 nodes: refused 3"; "15: 106 4."
-    ∷ (starts 1 five 10 (writes 0 0 5 ∷ []), refusedBy 3)
+    ∷ (starts 1 five 10 (writes 0 0 5 ∷ []), refused_by 3)
     ∷ (starts 1 five 15 (writes 0 0 5 ∷ []), answered 15 (106 ∷ 4 ∷ []))
     -- "n 0 and n 257: refused 1."
-    ∷ (starts 1 [] 20 [], refusedBy 1)
-    ∷ (starts 1 (replicate 257 0) 20 [], refusedBy 1)
+    ∷ (starts 1 [] 20 [], refused_by 1)
+    ∷ (starts 1 (replicate 257 0) 20 [], refused_by 1)
     -- "Empty tape: no answers, only the work slice changed." (Theory.EmptyTape shows it for every state)
     ∷ (starts 2 five 20 [], answered 20 [])
     -- "Stealing from a deque of one: 12."
@@ -169,17 +169,17 @@ table =
       ends 1 (107 ∷ 0 ∷ 20 ∷ 0 ∷ 20 ∷ 0 ∷ 7 ∷ 0 ∷ 107 ∷ 0 ∷ 107 ∷ 0 ∷ 102 ∷ 3 ∷ 9 ∷ 0 ∷ 9 ∷ 0 ∷ []) (5 ∷ 6 ∷ 0 ∷ 0 ∷ []),
     )
     -- before Main's return they are zero
-    ∷ (starts 1 (7 ∷ []) 1 (folds 0 0 5 ∷ folds 0 1 6 ∷ foldsMap 0 2 3 ∷ []), answered 1 (107 ∷ 0 ∷ 107 ∷ 0 ∷ 107 ∷ 0 ∷ []))
+    ∷ (starts 1 (7 ∷ []) 1 (folds 0 0 5 ∷ folds 0 1 6 ∷ folds_map 0 2 3 ∷ []), answered 1 (107 ∷ 0 ∷ 107 ∷ 0 ∷ 107 ∷ 0 ∷ []))
     -- "modulo 4,294,967,296": 4,294,967,295 + 2; the map of 4,294,967,295 three times
     ∷ (
-      starts 1 (7 ∷ []) 1 (foldsLargest 0 0 ∷ folds 0 0 2 ∷ foldsLargest 0 1 ∷ foldsLargest 0 2 ∷ foldsLargest 0 2 ∷ foldsLargest 0 2 ∷ returns 0 ∷ []),
+      starts 1 (7 ∷ []) 1 (folds_largest 0 0 ∷ folds 0 0 2 ∷ folds_largest 0 1 ∷ folds_largest 0 2 ∷ folds_largest 0 2 ∷ folds_largest 0 2 ∷ returns 0 ∷ []),
       ends 1 (107 ∷ 0 ∷ 107 ∷ 0 ∷ 107 ∷ 0 ∷ 107 ∷ 0 ∷ 107 ∷ 0 ∷ 107 ∷ 0 ∷ 102 ∷ 3 ∷ []) (1 ∷ 4294967295 ∷ 196607 ∷ 131071 ∷ []),
     )
     -- "in the order of Main's child-first list": Main folds 2x + 1, spawns A, folds 3x, spawns B, folds x + 5; A folds 5x + 2, B 7x + 1. B ends first, and A
     -- folds last. In the order of the tape the addend would be 287
     ∷ (
       starts 3 (7 ∷ []) 1
-          (foldsMap 0 2 1 ∷ folds 0 0 10 ∷ spawns 0 ∷ steals 1 0 ∷ foldsMap 1 3 0 ∷ folds 1 1 9 ∷ spawns 1 ∷ steals 2 1 ∷ foldsMap 2 1 5 ∷ foldsMap 1 7 1 ∷ folds 1 0 20 ∷ returns 1 ∷ foldsMap 0 5 2 ∷ folds 0 1 4 ∷ returns 0 ∷ returns 2 ∷ []),
+          (folds_map 0 2 1 ∷ folds 0 0 10 ∷ spawns 0 ∷ steals 1 0 ∷ folds_map 1 3 0 ∷ folds 1 1 9 ∷ spawns 1 ∷ steals 2 1 ∷ folds_map 2 1 5 ∷ folds_map 1 7 1 ∷ folds 1 0 20 ∷ returns 1 ∷ folds_map 0 5 2 ∷ folds 0 1 4 ∷ returns 0 ∷ returns 2 ∷ []),
       ends 1
           (107 ∷ 0 ∷ 107 ∷ 0 ∷ 101 ∷ 1 ∷ 103 ∷ 0 ∷ 107 ∷ 0 ∷ 107 ∷ 0 ∷ 101 ∷ 1 ∷ 103 ∷ 0 ∷ 107 ∷ 0 ∷ 107 ∷ 0 ∷ 107 ∷ 0 ∷ 102 ∷ 1 ∷ 107 ∷ 0 ∷ 107 ∷ 0 ∷ 102 ∷ 1 ∷ 102 ∷ 3 ∷ [])
           (30 ∷ 4 ∷ 210 ∷ 153 ∷ []),
@@ -187,7 +187,7 @@ table =
     -- A ends first, while B has a live child C: "the view of a frame that ends joins on the left of the next one's in that order", C's. B waits in its return
     ∷ (
       starts 3 (7 ∷ []) 1
-          (foldsMap 0 2 1 ∷ folds 0 0 10 ∷ spawns 0 ∷ steals 1 0 ∷ foldsMap 1 3 0 ∷ folds 1 1 9 ∷ spawns 1 ∷ steals 2 1 ∷ foldsMap 2 1 5 ∷ foldsMap 1 7 1 ∷ spawns 1 ∷ foldsMap 1 11 3 ∷ foldsMap 0 5 2 ∷ folds 0 1 4 ∷ returns 0 ∷ steals 0 1 ∷ foldsMap 0 13 0 ∷ folds 0 0 20 ∷ returns 0 ∷ returns 1 ∷ returns 2 ∷ []),
+          (folds_map 0 2 1 ∷ folds 0 0 10 ∷ spawns 0 ∷ steals 1 0 ∷ folds_map 1 3 0 ∷ folds 1 1 9 ∷ spawns 1 ∷ steals 2 1 ∷ folds_map 2 1 5 ∷ folds_map 1 7 1 ∷ spawns 1 ∷ folds_map 1 11 3 ∷ folds_map 0 5 2 ∷ folds 0 1 4 ∷ returns 0 ∷ steals 0 1 ∷ folds_map 0 13 0 ∷ folds 0 0 20 ∷ returns 0 ∷ returns 1 ∷ returns 2 ∷ []),
       ends 1
           (107 ∷ 0 ∷ 107 ∷ 0 ∷ 101 ∷ 1 ∷ 103 ∷ 0 ∷ 107 ∷ 0 ∷ 107 ∷ 0 ∷ 101 ∷ 1 ∷ 103 ∷ 0 ∷ 107 ∷ 0 ∷ 107 ∷ 0 ∷ 101 ∷ 2 ∷ 107 ∷ 0 ∷ 107 ∷ 0 ∷ 107 ∷ 0 ∷ 102 ∷ 1 ∷ 103 ∷ 1 ∷ 107 ∷ 0 ∷ 107 ∷ 0 ∷ 102 ∷ 4 ∷ 102 ∷ 1 ∷ 102 ∷ 3 ∷ [])
           (30 ∷ 4 ∷ 30030 ∷ 21208 ∷ []),
@@ -195,7 +195,7 @@ table =
     -- "as in the one-worker run": the same frames' steps on one worker
     ∷ (
       starts 1 (7 ∷ []) 1
-          (foldsMap 0 2 1 ∷ folds 0 0 10 ∷ spawns 0 ∷ foldsMap 0 5 2 ∷ folds 0 1 4 ∷ returns 0 ∷ foldsMap 0 3 0 ∷ folds 0 1 9 ∷ spawns 0 ∷ foldsMap 0 7 1 ∷ spawns 0 ∷ foldsMap 0 11 3 ∷ returns 0 ∷ foldsMap 0 13 0 ∷ folds 0 0 20 ∷ returns 0 ∷ foldsMap 0 1 5 ∷ returns 0 ∷ []),
+          (folds_map 0 2 1 ∷ folds 0 0 10 ∷ spawns 0 ∷ folds_map 0 5 2 ∷ folds 0 1 4 ∷ returns 0 ∷ folds_map 0 3 0 ∷ folds 0 1 9 ∷ spawns 0 ∷ folds_map 0 7 1 ∷ spawns 0 ∷ folds_map 0 11 3 ∷ returns 0 ∷ folds_map 0 13 0 ∷ folds 0 0 20 ∷ returns 0 ∷ folds_map 0 1 5 ∷ returns 0 ∷ []),
       ends 1
           (107 ∷ 0 ∷ 107 ∷ 0 ∷ 101 ∷ 1 ∷ 107 ∷ 0 ∷ 107 ∷ 0 ∷ 102 ∷ 0 ∷ 107 ∷ 0 ∷ 107 ∷ 0 ∷ 101 ∷ 1 ∷ 107 ∷ 0 ∷ 101 ∷ 2 ∷ 107 ∷ 0 ∷ 102 ∷ 0 ∷ 107 ∷ 0 ∷ 107 ∷ 0 ∷ 102 ∷ 0 ∷ 107 ∷ 0 ∷ 102 ∷ 3 ∷ [])
           (30 ∷ 4 ∷ 30030 ∷ 21208 ∷ []),
@@ -203,33 +203,33 @@ table =
     -- Main and its child wait in their return, and all three end with the last
     ∷ (
       starts 2 (7 ∷ []) 1
-          (foldsMap 0 2 1 ∷ spawns 0 ∷ foldsMap 0 3 0 ∷ steals 1 0 ∷ foldsMap 1 1 7 ∷ returns 1 ∷ spawns 0 ∷ steals 1 0 ∷ foldsMap 1 5 0 ∷ returns 1 ∷ foldsMap 0 1 2 ∷ folds 0 1 8 ∷ returns 0 ∷ folds 0 0 1 ∷ []),
+          (folds_map 0 2 1 ∷ spawns 0 ∷ folds_map 0 3 0 ∷ steals 1 0 ∷ folds_map 1 1 7 ∷ returns 1 ∷ spawns 0 ∷ steals 1 0 ∷ folds_map 1 5 0 ∷ returns 1 ∷ folds_map 0 1 2 ∷ folds 0 1 8 ∷ returns 0 ∷ folds 0 0 1 ∷ []),
       ends 1
           (107 ∷ 0 ∷ 101 ∷ 1 ∷ 107 ∷ 0 ∷ 103 ∷ 0 ∷ 107 ∷ 0 ∷ 102 ∷ 4 ∷ 101 ∷ 2 ∷ 103 ∷ 1 ∷ 107 ∷ 0 ∷ 102 ∷ 4 ∷ 107 ∷ 0 ∷ 107 ∷ 0 ∷ 102 ∷ 3 ∷ 9 ∷ 0 ∷ [])
           (0 ∷ 8 ∷ 30 ∷ 32 ∷ []),
     )
     -- Main waits at its sync, and resumes with its child's view joined on the left of its own
     ∷ (
-      starts 2 (7 ∷ []) 1 (foldsMap 0 2 1 ∷ spawns 0 ∷ steals 1 0 ∷ foldsMap 1 3 0 ∷ syncs 1 ∷ foldsMap 0 5 1 ∷ returns 0 ∷ foldsMap 0 1 4 ∷ returns 0 ∷ []),
+      starts 2 (7 ∷ []) 1 (folds_map 0 2 1 ∷ spawns 0 ∷ steals 1 0 ∷ folds_map 1 3 0 ∷ syncs 1 ∷ folds_map 0 5 1 ∷ returns 0 ∷ folds_map 0 1 4 ∷ returns 0 ∷ []),
       ends 1 (107 ∷ 0 ∷ 101 ∷ 1 ∷ 103 ∷ 0 ∷ 107 ∷ 0 ∷ 104 ∷ 1 ∷ 107 ∷ 0 ∷ 102 ∷ 2 ∷ 107 ∷ 0 ∷ 102 ∷ 3 ∷ []) (0 ∷ 4294967295 ∷ 30 ∷ 22 ∷ []),
     )
     -- R-6: "21, at a start, the table has 0 or more than 256 places"
-    ∷ (startsIn 0 1 five 20 [], refusedBy 21)
-    ∷ (startsIn 257 1 five 20 [], refusedBy 21)
-    ∷ (startsIn 256 1 (7 ∷ []) 1 (spawns 0 ∷ []), answered 1 (101 ∷ 1 ∷ []))
+    ∷ (starts_in 0 1 five 20 [], refused_by 21)
+    ∷ (starts_in 257 1 five 20 [], refused_by 21)
+    ∷ (starts_in 256 1 (7 ∷ []) 1 (spawns 0 ∷ []), answered 1 (101 ∷ 1 ∷ []))
     -- "Its length, 1 to 256, is the limit in 13": 1, Main's place is the only one, and free again once Main has returned
-    ∷ (startsIn 1 1 (7 ∷ []) 2 (spawns 0 ∷ writes 0 0 5 ∷ reads 0 0 ∷ returns 0 ∷ spawns 0 ∷ []), returned 2 (13 ∷ 0 ∷ 106 ∷ 1 ∷ 105 ∷ 5 ∷ 102 ∷ 3 ∷ 9 ∷ 0 ∷ []))
+    ∷ (starts_in 1 1 (7 ∷ []) 2 (spawns 0 ∷ writes 0 0 5 ∷ reads 0 0 ∷ returns 0 ∷ spawns 0 ∷ []), returned 2 (13 ∷ 0 ∷ 106 ∷ 1 ∷ 105 ∷ 5 ∷ 102 ∷ 3 ∷ 9 ∷ 0 ∷ []))
     -- 2: one spawn is accepted and the next refused, by whichever frame, also while Main waits; after one return it is accepted
     ∷ (
-      startsIn 2 2 (7 ∷ []) 2 (spawns 0 ∷ spawns 0 ∷ steals 1 0 ∷ spawns 1 ∷ spawns 0 ∷ returns 0 ∷ spawns 1 ∷ spawns 1 ∷ steals 0 1 ∷ returns 0 ∷ spawns 1 ∷ returns 1 ∷ []),
+      starts_in 2 2 (7 ∷ []) 2 (spawns 0 ∷ spawns 0 ∷ steals 1 0 ∷ spawns 1 ∷ spawns 0 ∷ returns 0 ∷ spawns 1 ∷ spawns 1 ∷ steals 0 1 ∷ returns 0 ∷ spawns 1 ∷ returns 1 ∷ []),
       returned 2 (101 ∷ 1 ∷ 13 ∷ 0 ∷ 103 ∷ 0 ∷ 13 ∷ 0 ∷ 13 ∷ 0 ∷ 102 ∷ 1 ∷ 101 ∷ 1 ∷ 13 ∷ 0 ∷ 103 ∷ 0 ∷ 102 ∷ 4 ∷ 13 ∷ 0 ∷ 102 ∷ 3 ∷ []),
     )
     ∷ []
 
 -- without the check
-quickly : map (λ (row : Case × Outcome). told row.0 (quickTape (start_of row.0) (joined row.0.records) (works row.0) (replies row.0))) table ≡ map (λ (row : Case × Outcome). row.1) table
-unfolding table startOn startWith runOn recordOf decodeAt spawnOn end_at upward endBottom returnOn stealOn syncOn read_on writeOn foldOn stepOn addChild spawn removeFrame endFrame goOn wentOn steal sync synced fold relinkFrom eldestTo firstFrom nextAfter foldView shiftUp dropTop pop top bottom side child sibling bit leafOf readAt retain release setRefcount pathNode copyPath setValue setLink renew firstShared rest writeFrom write initPool initFree initLeaves initInner initLevel setNode height width treeNodes initDeques initFrames initPlaces push setSize setPlace size place setFrame frameAt cleared refcount left right content links setContent
+quickly : map (λ (row : Case × Outcome). told row.0 (quick_tape (start_of row.0) (joined row.0.records) (works row.0) (replies row.0))) table ≡ map (λ (row : Case × Outcome). row.1) table
+unfolding table start_on start_with run_on record_of decode_at spawn_on end_at upward end_bottom return_on steal_on sync_on read_on write_on fold_on step_on add_child spawn remove_frame end_frame go_on went_on steal sync synced fold relink_from eldest_to first_from next_after fold_view shift_up drop_top pop top bottom side child sibling bit leaf_of read_at retain release set_refcount path_node copy_path set_value set_link renew first_shared rest write_from write init_pool init_free init_leaves init_inner init_level set_node height width tree_nodes init_deques init_frames init_places push set_size set_place size place set_frame frame_at cleared refcount left right content links set_content
 quickly = refl
 
 pub starred : map (λ (row : Case × Outcome). outcome row.0) table ≡ map (λ (row : Case × Outcome). row.1) table
-starred = (λ i. map (λ (row : Case × Outcome). told row.0 (tape-quick (start_of row.0) (joined row.0.records) (works row.0) (replies row.0) i)) table) ∙ quickly
+starred = (λ i. map (λ (row : Case × Outcome). told row.0 (tape_quick (start_of row.0) (joined row.0.records) (works row.0) (replies row.0) i)) table) ∙ quickly

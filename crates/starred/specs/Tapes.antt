@@ -2,9 +2,9 @@
 use Rattle.std.specs.Prelude.{cond, List, [], ◌∷◌, ◌++◌, map, ℕ, zero, suc, ◌-◌, ◌*◌, length, replicate, eqb}
 use Rattle.words.specs.Basics.{none, joined}
 use Rattle.frames.specs.declared.Frame.{Frame}
-use Rattle.frames.specs.Widths.{recordWords, dequePlaces, dequeStride, dequeWords}
-use Rattle.frames.specs.Frames.{words_of as wordsOfRecord, recordIn, freePlace}
-use Rattle.soundness.specs.Numbers.{numberCount}
+use Rattle.frames.specs.Widths.{record_words, deque_places, deque_stride, deque_words}
+use Rattle.frames.specs.Frames.{words_of as wordsOfRecord, record_in, free_record}
+use Rattle.soundness.specs.Numbers.{number_count}
 use Rattle.semantics.specs.Entries.{State}
 
 -- ---- records
@@ -36,37 +36,37 @@ abbrev pub folds : ℕ → ℕ → ℕ → List ℕ
 folds w r v = bytes 7 w r v
 
 -- into reducer 2: "the value divided by 65,536 is the multiplier and its remainder the addend"; both are below 256 here
-abbrev pub foldsMap : ℕ → ℕ → ℕ → List ℕ
-foldsMap w multiplier addend = 7 ∷ w ∷ 2 ∷ 0 ∷ addend ∷ 0 ∷ multiplier ∷ 0 ∷ []
+abbrev pub folds_map : ℕ → ℕ → ℕ → List ℕ
+folds_map w multiplier addend = 7 ∷ w ∷ 2 ∷ 0 ∷ addend ∷ 0 ∷ multiplier ∷ 0 ∷ []
 
 -- the largest value, 4,294,967,295
-abbrev pub foldsLargest : ℕ → ℕ → List ℕ
-foldsLargest w r = 7 ∷ w ∷ r ∷ 0 ∷ 255 ∷ 255 ∷ 255 ∷ 255 ∷ []
+abbrev pub folds_largest : ℕ → ℕ → List ℕ
+folds_largest w r = 7 ∷ w ∷ r ∷ 0 ∷ 255 ∷ 255 ∷ 255 ∷ 255 ∷ []
 
 -- ---- lent words
 
 -- "1 to 256": a frame table of so many places, which hold anything before a start
-abbrev pub anyTable : ℕ → List Frame
-anyTable places = replicate places (recordIn (replicate recordWords 3))
+abbrev pub any_table : ℕ → List Frame
+any_table places = replicate places (record_in (replicate record_words 3))
 
 -- parts of the state, the words with their exact lengths, which hold anything before a start
-abbrev pub partsWith : ℕ → State
-partsWith places = record { numbers = replicate numberCount 3; deques = replicate dequeWords 3; frames = anyTable places }
+abbrev pub parts_with : ℕ → State
+parts_with places = record { numbers = replicate number_count 3; deques = replicate deque_words 3; frames = any_table places }
 
 -- "splitrun lends 64 places"
-abbrev pub anyParts : State
-anyParts = partsWith 64
+abbrev pub any_parts : State
+any_parts = parts_with 64
 
 -- a pool of so many nodes, R-8's of two words, which holds anything before a start
-abbrev pub anyPool : ℕ → List ℕ
-anyPool nodes = replicate (2 * nodes) 7
+abbrev pub any_pool : ℕ → List ℕ
+any_pool nodes = replicate (2 * nodes) 7
 
 -- the words of a frame table, and of a state, one after another
-abbrev pub recordsOf : List Frame → List ℕ
-recordsOf fs = joined (map wordsOfRecord fs)
+abbrev pub records_of : List Frame → List ℕ
+records_of fs = joined (map wordsOfRecord fs)
 
 abbrev pub words_of : State → List ℕ
-words_of s = s.numbers ++ (s.deques ++ recordsOf s.frames)
+words_of s = s.numbers ++ (s.deques ++ records_of s.frames)
 
 -- document 01's five values
 abbrev pub five : List ℕ
@@ -76,14 +76,14 @@ five = 10 ∷ 20 ∷ 30 ∷ 40 ∷ 50 ∷ []
 
 -- a deque's length and its frames from the top; "deque places past a deque's frames are zero"
 abbrev pub deque : List ℕ → List ℕ
-deque ps = length ps ∷ (ps ++ replicate (dequePlaces - length ps) 0)
+deque ps = length ps ∷ (ps ++ replicate (deque_places - length ps) 0)
 
 -- of the first workers; the others have none
-abbrev pub dequesOf : List (List ℕ) → List ℕ
-dequesOf pss = joined (map deque pss) ++ replicate (dequeWords - dequeStride * length pss) 0
+abbrev pub deques_of : List (List ℕ) → List ℕ
+deques_of pss = joined (map deque pss) ++ replicate (deque_words - deque_stride * length pss) 0
 
 abbrev pub deques : List ℕ → List ℕ → List ℕ
-deques ps qs = dequesOf (ps ∷ qs ∷ [])
+deques ps qs = deques_of (ps ∷ qs ∷ [])
 
 -- ---- frame records
 
@@ -93,7 +93,7 @@ identities = 0 ∷ none ∷ 1 ∷ 0 ∷ []
 
 -- live, parent, depth, outstanding, suspended, root, returning (R-3), "the four view words and the next younger live sibling or none" (R-5)
 abbrev pub frame : ℕ → ℕ → ℕ → ℕ → ℕ → ℕ → List ℕ → ℕ → Frame
-frame parent depth outstanding suspended root returning view younger = recordIn (1 ∷ parent ∷ depth ∷ outstanding ∷ suspended ∷ root ∷ returning ∷ (view ++ younger ∷ []))
+frame parent depth outstanding suspended root returning view younger = record_in (1 ∷ parent ∷ depth ∷ outstanding ∷ suspended ∷ root ∷ returning ∷ (view ++ younger ∷ []))
 
 -- where nothing was folded, and without a younger sibling
 abbrev pub live : ℕ → ℕ → ℕ → ℕ → ℕ → Frame
@@ -106,11 +106,11 @@ waiting parent depth outstanding root = frame parent depth outstanding 1 root 1 
 -- c free places in rising order, the second being p
 abbrev pub rising : ℕ → ℕ → List Frame
 rising zero p = []
-rising (suc c) p = freePlace (cond (eqb c 0) none p) ∷ rising c (suc p)
+rising (suc c) p = free_record (cond (eqb c 0) none p) ∷ rising c (suc p)
 
 -- a table of so many places: the first ones, then the rest, free in rising order
-abbrev pub framesIn : ℕ → List Frame → List Frame
-framesIn places fs = fs ++ rising (places - length fs) (suc (length fs))
+abbrev pub frames_in : ℕ → List Frame → List Frame
+frames_in places fs = fs ++ rising (places - length fs) (suc (length fs))
 
 abbrev pub frames : List Frame → List Frame
-frames fs = framesIn 64 fs
+frames fs = frames_in 64 fs

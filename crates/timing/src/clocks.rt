@@ -1,9 +1,9 @@
 // The clock words of single frames, and the report's words.
 ghost use Rattle.std.specs.Prelude.{◌≡◌, cond, suc, ◌+◌, ◌*◌, ◌<◌, max, eqb, length, get_or, set, replicate};
 ghost use Rattle.semantics.specs.declared.Refusal.TheVariants.{Span};
-ghost use Rattle.semantics.specs.Answers.{refusalNumber};
-ghost use Rattle.semantics.specs.Timing.{latest, ticked, passed, heard, begun, waitsForOne};
-ghost use Rattle.semantics.specs.Report.{reportWords};
+ghost use Rattle.semantics.specs.Answers.{refusal_number};
+ghost use Rattle.semantics.specs.Timing.{latest, ticked, passed, heard, begun, waits_for_one};
+ghost use Rattle.semantics.specs.Report.{report_words};
 ghost use Rattle.timing.specs.Turns.{RoomFor, timing};
 
 use crate::Tally;
@@ -83,7 +83,7 @@ pub fn begin_child(clocks: &mut [u64], p: u32, g: u32)
 
 // Does the frame wait for one child?
 pub fn waits_for_one(f: Frame) -> bool
-    ensures { result ≡ waitsForOne f }
+    ensures { result ≡ waits_for_one f }
 {
     (f.suspended == 1) & (f.outstanding == 1)
 }
@@ -102,8 +102,8 @@ pub fn clear_clocks(clocks: &mut [u64])
 // Work, span, quotient and remainder, or 22.
 pub fn put_report(report: &mut [u64], t: Tally) -> u32
     requires { length report.old ≡ 4 }
-    ensures { (report.new ≡ cond (eqb t.span 0) report.old (reportWords (timing report.old t.work t.span)))
-        × (result ≡ cond (eqb t.span 0) (refusalNumber Span) 0) }
+    ensures { (report.new ≡ cond (eqb t.span 0) report.old (report_words (timing report.old t.work t.span)))
+        × (result ≡ cond (eqb t.span 0) (refusal_number Span) 0) }
 {
     if t.span == 0 {
         return 22;

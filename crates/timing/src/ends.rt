@@ -1,8 +1,8 @@
 // The ends of a return, on the table before it.
 ghost use Rattle.std.specs.Prelude.{◌≡◌, ◌+◌, ◌*◌, ◌≤◌, length};
-ghost use Rattle.frames.specs.Frames.{frameAt};
+ghost use Rattle.frames.specs.Frames.{frame_at};
 ghost use Rattle.semantics.specs.Timing.{latest, rise};
-ghost use Rattle.timing.specs.Turns.{kindAt};
+ghost use Rattle.timing.specs.Turns.{kind_at};
 
 use crate::clocks::{later, latest_at, waits_for_one};
 use crate::turns::kind_at;
@@ -22,7 +22,7 @@ pub fn stops_at(q: u32, waits: bool, t: u64) -> Rise
 
 // The frame at `first` ends at the time t, and so do those upward of it that wait in their returns for it alone.
 pub fn rise(clocks: &[u64], frames: &[Frame], first: u32, t: u64) -> Rise
-    ensures { result ≡ rise (frameAt frames.now first).depth frames.now clocks.now first t }
+    ensures { result ≡ rise (frame_at frames.now first).depth frames.now clocks.now first t }
 {
     let mut p = first;
     let mut clock = t;
@@ -46,7 +46,7 @@ pub fn rise(clocks: &[u64], frames: &[Frame], first: u32, t: u64) -> Rise
 // The ends of the i-th record, if it is a return, by the frame at p.
 pub fn rise_of(clocks: &[u64], frames: &[Frame], tape: &[u8], i: usize, p: u32) -> Rise
     requires { 8 * i + 8 ≤ length tape.now }
-    ensures { kindAt tape.now i ≡ 2 → result ≡ rise (frameAt frames.now p).depth frames.now clocks.now p (latest clocks.now p) }
+    ensures { kind_at tape.now i ≡ 2 → result ≡ rise (frame_at frames.now p).depth frames.now clocks.now p (latest clocks.now p) }
 {
     if kind_at(tape, i) != 2 {
         return stops_at(0, false, 0);

@@ -1,9 +1,9 @@
 // A tape in turns: a record, whose step moves the clocks as its answer words say, and the reads, writes and folds after it.
 ghost use Rattle.std.specs.Prelude.{◌≡◌, ℕ, suc, ◌+◌, ◌-◌, ◌*◌, ◌^◌, ◌≤◌, ◌<◌, length};
-ghost use Rattle.frames.specs.Widths.{maxWorkers, dequePlaces, dequeWords};
+ghost use Rattle.frames.specs.Widths.{max_workers, deque_places, deque_words};
 ghost use Rattle.frames.specs.Deques.{size, bottom};
-ghost use Rattle.semantics.specs.Timing.{ended, timedWith};
-ghost use Rattle.timing.specs.Turns.{RoomFor, timing, kindAt, workerAt, ticksOver, AllClocked};
+ghost use Rattle.semantics.specs.Timing.{ended, timed_with};
+ghost use Rattle.timing.specs.Turns.{RoomFor, timing, kind_at, worker_at, ticks_over, AllClocked};
 
 use crate::Tally;
 use crate::clocks::{begin_child, hear, pass_sync, tick};
@@ -13,7 +13,7 @@ use semantics::Rise;
 // The kind of the i-th record.
 pub fn kind_at(tape: &[u8], i: usize) -> u8
     requires { 8 * i + 8 ≤ length tape.now }
-    ensures { result ≡ kindAt tape.now i }
+    ensures { result ≡ kind_at tape.now i }
 {
     tape[8 * i]
 }
@@ -21,7 +21,7 @@ pub fn kind_at(tape: &[u8], i: usize) -> u8
 // The place of the frame that the i-th record's worker executes, whatever worker that is.
 pub fn bottom_of(deques: &[u32], tape: &[u8], i: usize) -> u32
     requires { 8 * i + 8 ≤ length tape.now }
-    ensures { result ≡ bottom deques.now (workerAt tape.now i) }
+    ensures { result ≡ bottom deques.now (worker_at tape.now i) }
 {
     let at = DEQUE_STRIDE * (tape[8 * i + 1] as usize);
     let n = words::word(deques, at) as usize;
@@ -33,7 +33,7 @@ pub fn bottom_of(deques: &[u32], tape: &[u8], i: usize) -> u32
 
 // The same of a worker that has a frame.
 fn bottom_in(deques: &[u32], w: u8) -> u32
-    requires { (length deques.now ≡ dequeWords) × (w < maxWorkers) × (0 < size deques.now w) × (size deques.now w ≤ dequePlaces) }
+    requires { (length deques.now ≡ deque_words) × (w < max_workers) × (0 < size deques.now w) × (size deques.now w ≤ deque_places) }
     ensures { result ≡ bottom deques.now w }
 {
     let at = DEQUE_STRIDE * (w as usize);
@@ -44,7 +44,7 @@ fn bottom_in(deques: &[u32], w: u8) -> u32
 // The first record from `from` on that is no read, write or fold (nor of a kind that there is not).
 pub fn turn_end(tape: &[u8], from: usize, records: usize) -> usize
     requires { (from ≤ records) × (8 * records ≤ length tape.now) }
-    ensures { (from ≤ result) × (result ≤ records) × ((j : ℕ) → from ≤ j → j < result → 5 ≤ kindAt tape.now j) }
+    ensures { (from ≤ result) × (result ≤ records) × ((j : ℕ) → from ≤ j → j < result → 5 ≤ kind_at tape.now j) }
 {
     let mut to = from;
     while to < records {
@@ -96,7 +96,7 @@ pub fn time_first(
     t: Tally,
 ) -> Tally
     requires { RoomFor 1 clocks.old × (t.work + 1 < 2 ^ 64) × (105 ≤ first → suc (2 * p) < length clocks.old) × (first ≡ 102 → r.clock + 1 < 2 ^ 64) }
-    ensures { timing clocks.new result.work result.span ≡ timedWith (first, second) p g r (timing clocks.old t.work t.span) }
+    ensures { timing clocks.new result.work result.span ≡ timed_with (first, second) p g r (timing clocks.old t.work t.span) }
 {
     let more = costing(t);
     if first >= 105 {
@@ -134,7 +134,7 @@ pub fn time_data(
 ) -> u64
     requires { (from ≤ to) × (8 * to ≤ length tape.now) × (2 * to ≤ length answers.now) × RoomFor (to - from) clocks.old × (work + (to - from) < 2 ^ 64)
         × AllClocked deques.now clocks.old tape.now answers.now from to }
-    ensures { (span : ℕ) → timing clocks.new result span ≡ ticksOver deques.now tape.now answers.now from (to - from) (timing clocks.old work span) }
+    ensures { (span : ℕ) → timing clocks.new result span ≡ ticks_over deques.now tape.now answers.now from (to - from) (timing clocks.old work span) }
 {
     let mut total = work;
     let mut i = from;

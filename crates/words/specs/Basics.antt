@@ -57,8 +57,8 @@ some zero f = false
 some (suc n) f = some n f || f n
 
 -- of how many numbers below n it holds
-abbrev pub howMany : ℕ → (ℕ → Bool) → ℕ
-howMany n f = sum n (λ i. cond (f i) 1 0)
+abbrev pub how_many : ℕ → (ℕ → Bool) → ℕ
+how_many n f = sum n (λ i. cond (f i) 1 0)
 
 -- b, where a
 abbrev pub implies : Bool → Bool → Bool

@@ -50,13 +50,13 @@ pub words-zeros : (n : ℕ) → Words (replicate n 0)
 words-zeros n = below-replicate 4294967296 n (omega arith)
 
 -- every sum is a word
-pub plus-word : (a b : ℕ) → plus a b < 4294967296
-plus-word a b = omega arith
+pub plus_word : (a b : ℕ) → plus a b < 4294967296
+plus_word a b = omega arith
 
 -- one less, or zero
-pub minus-word : (a b : ℕ) → a < 4294967296 → a - b < 4294967296
-minus-word a b h = omega arith
+pub minus_word : (a b : ℕ) → a < 4294967296 → a - b < 4294967296
+minus_word a b h = omega arith
 
-pub cond-word : (b : Bool) (x y : ℕ) → x < 4294967296 → y < 4294967296 → cond b x y < 4294967296
-cond-word true x y h k = h
-cond-word false x y h k = k
+pub cond_word : (b : Bool) (x y : ℕ) → x < 4294967296 → y < 4294967296 → cond b x y < 4294967296
+cond_word true x y h k = h
+cond_word false x y h k = k

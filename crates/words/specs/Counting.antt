@@ -3,144 +3,144 @@ use Rattle.std.specs.Prelude.{◌≡◌, ℕ, zero, suc, ◌+◌, ◌*◌, ◌<�
 use Rattle.std.proofs.Common.{sym, ap, ◌∙◌, inl, inr, le_refl, arith, eq-eqb, ne_eqb}
 use Rattle.std.proofs.Math.Decide.{ℕ_discrete}
 use Rattle.words.specs.Tests.{decided, both}
-use Rattle.words.specs.Basics.{sum, howMany, all}
+use Rattle.words.specs.Basics.{sum, how_many, all}
 unfoldable pub use Rattle.words.specs.Basics.{δ, count, range}
 
-pub δ-same : (i : ℕ) → δ i i ≡ 1
+pub δ_same : (i : ℕ) → δ i i ≡ 1
 unfolding δ
-δ-same i = rw (eq-eqb i i refl)
+δ_same i = rw (eq-eqb i i refl)
 
-pub δ-other : (i j : ℕ) → i ≢ j → δ i j ≡ 0
+pub δ_other : (i j : ℕ) → i ≢ j → δ i j ≡ 0
 unfolding δ
-δ-other i j h = rw (ne_eqb i j h)
+δ_other i j h = rw (ne_eqb i j h)
 
-pub δ-le : (i j : ℕ) → δ i j ≤ 1
-δ-le i j = elim (ℕ_discrete i j) [ yes e ↦ omega (arith, ap (δ i) (sym e), δ-same i) | no e ↦ omega (arith, δ-other i j e) ]
+pub δ_le : (i j : ℕ) → δ i j ≤ 1
+δ_le i j = elim (ℕ_discrete i j) [ yes e ↦ omega (arith, ap (δ i) (sym e), δ_same i) | no e ↦ omega (arith, δ_other i j e) ]
 
-pub δ-eq : (i j : ℕ) → 0 < δ i j → i ≡ j
-δ-eq i j h = elim (ℕ_discrete i j) [ yes e ↦ e | no e ↦ absurd (omega (arith, δ-other i j e)) ]
+pub δ_eq : (i j : ℕ) → 0 < δ i j → i ≡ j
+δ_eq i j h = elim (ℕ_discrete i j) [ yes e ↦ e | no e ↦ absurd (omega (arith, δ_other i j e)) ]
 
 -- 1 at zero, else 0
 unfoldable pub δ₀ : ℕ → ℕ
 δ₀ zero = 1
 δ₀ (suc n) = 0
 
-pub δ₀-zero : (n : ℕ) → n ≡ 0 → δ₀ n ≡ 1
+pub δ₀_zero : (n : ℕ) → n ≡ 0 → δ₀ n ≡ 1
 unfolding δ₀
-δ₀-zero zero e = refl
-δ₀-zero (suc n) e = omega arith
+δ₀_zero zero e = refl
+δ₀_zero (suc n) e = omega arith
 
-pub δ₀-pos : (n : ℕ) → 0 < n → δ₀ n ≡ 0
+pub δ₀_pos : (n : ℕ) → 0 < n → δ₀ n ≡ 0
 unfolding δ₀
-δ₀-pos zero e = omega arith
-δ₀-pos (suc n) e = refl
+δ₀_pos zero e = omega arith
+δ₀_pos (suc n) e = refl
 
-pub δ₀-inv : (n : ℕ) → 0 < δ₀ n → n ≡ 0
+pub δ₀_inv : (n : ℕ) → 0 < δ₀ n → n ≡ 0
 unfolding δ₀
-δ₀-inv zero e = refl
-δ₀-inv (suc n) e = omega arith
+δ₀_inv zero e = refl
+δ₀_inv (suc n) e = omega arith
 
 -- x if n is not zero, else 0
 unfoldable pub when : ℕ → ℕ → ℕ
 when zero x = 0
 when (suc n) x = x
 
-pub when-zero : (n x : ℕ) → n ≡ 0 → when n x ≡ 0
+pub when_zero : (n x : ℕ) → n ≡ 0 → when n x ≡ 0
 unfolding when
-when-zero zero x e = refl
-when-zero (suc n) x e = omega arith
+when_zero zero x e = refl
+when_zero (suc n) x e = omega arith
 
-pub when-pos : (n x : ℕ) → 0 < n → when n x ≡ x
+pub when_pos : (n x : ℕ) → 0 < n → when n x ≡ x
 unfolding when
-when-pos zero x e = omega arith
-when-pos (suc n) x e = refl
+when_pos zero x e = omega arith
+when_pos (suc n) x e = refl
 
-pub when-le : (n x : ℕ) → when n x ≤ x
+pub when_le : (n x : ℕ) → when n x ≤ x
 unfolding when
-when-le zero x = omega arith
-when-le (suc n) x = omega arith
+when_le zero x = omega arith
+when_le (suc n) x = omega arith
 
-pub when-inv : (n x : ℕ) → 0 < when n x → 0 < n
+pub when_inv : (n x : ℕ) → 0 < when n x → 0 < n
 unfolding when
-when-inv zero x h = h
-when-inv (suc n) x h = omega arith
+when_inv zero x h = h
+when_inv (suc n) x h = omega arith
 
-pub count-nil : (i : ℕ) → count i [] ≡ 0
+pub count_nil : (i : ℕ) → count i [] ≡ 0
 unfolding count
-count-nil i = refl
+count_nil i = refl
 
-pub count-cons : (i x : ℕ) (xs : List ℕ) → count i (x ∷ xs) ≡ δ i x + count i xs
+pub count_cons : (i x : ℕ) (xs : List ℕ) → count i (x ∷ xs) ≡ δ i x + count i xs
 unfolding count
-count-cons i x xs = refl
+count_cons i x xs = refl
 
-pub count-le : (i : ℕ) (xs : List ℕ) → count i xs ≤ length xs
+pub count_le : (i : ℕ) (xs : List ℕ) → count i xs ≤ length xs
 unfolding count
-count-le i [] = omega arith
-count-le i (x ∷ xs) = omega (arith, δ-le i x, count-le i xs)
+count_le i [] = omega arith
+count_le i (x ∷ xs) = omega (arith, δ_le i x, count_le i xs)
 
-pub sum-cong : (n : ℕ) (f g : ℕ → ℕ) → ((j : ℕ) → j < n → f j ≡ g j) → sum n f ≡ sum n g
-sum-cong zero f g h = refl
-sum-cong (suc n) f g h = omega (arith, sum-cong n f g (λ j b. h j (omega arith)), h n (omega arith))
+pub sum_cong : (n : ℕ) (f g : ℕ → ℕ) → ((j : ℕ) → j < n → f j ≡ g j) → sum n f ≡ sum n g
+sum_cong zero f g h = refl
+sum_cong (suc n) f g h = omega (arith, sum_cong n f g (λ j b. h j (omega arith)), h n (omega arith))
 
 -- the two differ at k alone
-pub sum-upd : (n k : ℕ) (f g : ℕ → ℕ) → k < n → ((j : ℕ) → j < n → j ≢ k → f j ≡ g j) → sum n f + g k ≡ sum n g + f k
-sum-upd zero k f g b h = omega arith
-sum-upd (suc n) k f g b h = elim (ℕ_discrete k n) [
-  | yes e ↦ omega (arith, ap f e, ap g e, sum-cong n f g (λ j c. h j (omega arith) (omega arith)))
-  | no e ↦ omega (arith, sum-upd n k f g (omega arith) (λ j c d. h j (omega arith) d), h n (omega arith) (omega arith))
+pub sum_upd : (n k : ℕ) (f g : ℕ → ℕ) → k < n → ((j : ℕ) → j < n → j ≢ k → f j ≡ g j) → sum n f + g k ≡ sum n g + f k
+sum_upd zero k f g b h = omega arith
+sum_upd (suc n) k f g b h = elim (ℕ_discrete k n) [
+  | yes e ↦ omega (arith, ap f e, ap g e, sum_cong n f g (λ j c. h j (omega arith) (omega arith)))
+  | no e ↦ omega (arith, sum_upd n k f g (omega arith) (λ j c d. h j (omega arith) d), h n (omega arith) (omega arith))
 ]
 
-pub sum-ge : (n k : ℕ) (f : ℕ → ℕ) → k < n → f k ≤ sum n f
-sum-ge zero k f b = omega arith
-sum-ge (suc n) k f b = elim (ℕ_discrete k n) [
+pub sum_ge : (n k : ℕ) (f : ℕ → ℕ) → k < n → f k ≤ sum n f
+sum_ge zero k f b = omega arith
+sum_ge (suc n) k f b = elim (ℕ_discrete k n) [
   | yes e ↦ omega (arith, ap f e)
-  | no e ↦ omega (arith, sum-ge n k f (omega arith))
+  | no e ↦ omega (arith, sum_ge n k f (omega arith))
 ]
 
-pub sum-pos : (n : ℕ) (f : ℕ → ℕ) → 0 < sum n f → (j : ℕ) × (j < n) × (0 < f j)
-sum-pos zero f h = absurd (omega arith)
-sum-pos (suc n) f h = elim (ℕ_discrete (f n) 0) [
-  | yes e ↦ (let r = sum-pos n f (omega arith) in (r.0, omega (arith, r.1), r.2))
+pub sum_pos : (n : ℕ) (f : ℕ → ℕ) → 0 < sum n f → (j : ℕ) × (j < n) × (0 < f j)
+sum_pos zero f h = absurd (omega arith)
+sum_pos (suc n) f h = elim (ℕ_discrete (f n) 0) [
+  | yes e ↦ (let r = sum_pos n f (omega arith) in (r.0, omega (arith, r.1), r.2))
   | no e ↦ (n, omega arith, omega arith)
 ]
 
-pub sum-le : (n c : ℕ) (f : ℕ → ℕ) → ((j : ℕ) → f j ≤ c) → sum n f ≤ n * c
-sum-le zero c f h = omega arith
-sum-le (suc n) c f h = omega (arith, sum-le n c f h, h n)
+pub sum_le : (n c : ℕ) (f : ℕ → ℕ) → ((j : ℕ) → f j ≤ c) → sum n f ≤ n * c
+sum_le zero c f h = omega arith
+sum_le (suc n) c f h = omega (arith, sum_le n c f h, h n)
 
-pub sum-add : (n : ℕ) (f g : ℕ → ℕ) → sum n (λ j. f j + g j) ≡ sum n f + sum n g
-sum-add zero f g = refl
-sum-add (suc n) f g = omega (arith, sum-add n f g)
+pub sum_add : (n : ℕ) (f g : ℕ → ℕ) → sum n (λ j. f j + g j) ≡ sum n f + sum n g
+sum_add zero f g = refl
+sum_add (suc n) f g = omega (arith, sum_add n f g)
 
-pub sum-zero : (n : ℕ) (f : ℕ → ℕ) → ((j : ℕ) → j < n → f j ≡ 0) → sum n f ≡ 0
-sum-zero zero f h = refl
-sum-zero (suc n) f h = omega (arith, sum-zero n f (λ j b. h j (omega arith)), h n (omega arith))
+pub sum_zero : (n : ℕ) (f : ℕ → ℕ) → ((j : ℕ) → j < n → f j ≡ 0) → sum n f ≡ 0
+sum_zero zero f h = refl
+sum_zero (suc n) f h = omega (arith, sum_zero n f (λ j b. h j (omega arith)), h n (omega arith))
 
 pub sum_one : (n k : ℕ) (f : ℕ → ℕ) → k < n → ((j : ℕ) → j < n → j ≢ k → f j ≡ 0) → sum n f ≡ f k
-sum_one n k f b h = omega (arith, sum-upd n k f (λ j. 0) b h, sum-zero n (λ j. 0) (λ j b. refl))
+sum_one n k f b h = omega (arith, sum_upd n k f (λ j. 0) b h, sum_zero n (λ j. 0) (λ j b. refl))
 
 pub sum_mono : (k : ℕ) {f g : ℕ → ℕ} → ((i : ℕ) → f i ≤ g i) → sum k f ≤ sum k g
 sum_mono zero h = le_refl 0
 sum_mono (suc k) h = let r = sum_mono k h in let s = h k in omega arith
 
 -- f is nowhere below n more than g
-sum-upto : (n : ℕ) (f g : ℕ → ℕ) → ((j : ℕ) → j < n → f j ≤ g j) → sum n f ≤ sum n g
-sum-upto zero f g h = omega arith
-sum-upto (suc n) f g h = omega (arith, sum-upto n f g (λ j b. h j (omega arith)), h n (omega arith))
+sum_upto : (n : ℕ) (f g : ℕ → ℕ) → ((j : ℕ) → j < n → f j ≤ g j) → sum n f ≤ sum n g
+sum_upto zero f g h = omega arith
+sum_upto (suc n) f g h = omega (arith, sum_upto n f g (λ j b. h j (omega arith)), h n (omega arith))
 
 -- and its sum is no less: the two are the same
-pub sum-tight : (n : ℕ) (f g : ℕ → ℕ) → ((j : ℕ) → j < n → f j ≤ g j) → sum n g ≤ sum n f → (j : ℕ) → j < n → f j ≡ g j
-sum-tight zero f g h s j b = absurd (omega arith)
-sum-tight (suc n) f g h s j b =
+pub sum_tight : (n : ℕ) (f g : ℕ → ℕ) → ((j : ℕ) → j < n → f j ≤ g j) → sum n g ≤ sum n f → (j : ℕ) → j < n → f j ≡ g j
+sum_tight zero f g h s j b = absurd (omega arith)
+sum_tight (suc n) f g h s j b =
     let h' : (j : ℕ) → j < n → f j ≤ g j = λ j b. h j (omega arith) in
     elim (ℕ_discrete j n) [
-      | yes e ↦ omega (arith, ap f e, ap g e, h n (omega arith), sum-upto n f g h')
-      | no e ↦ sum-tight n f g h' (omega (arith, h n (omega arith))) j (omega arith)
+      | yes e ↦ omega (arith, ap f e, ap g e, h n (omega arith), sum_upto n f g h')
+      | no e ↦ sum_tight n f g h' (omega (arith, h n (omega arith))) j (omega arith)
     ]
 
-pub sum-const : (k c : ℕ) → sum k (λ i. c) ≡ k * c
-sum-const zero c = omega arith
-sum-const (suc k) c = omega (arith, sum-const k c)
+pub sum_const : (k c : ℕ) → sum k (λ i. c) ≡ k * c
+sum_const zero c = omega arith
+sum_const (suc k) c = omega (arith, sum_const k c)
 
 -- f 0 + .. + f n
 pub sum_first : (n : ℕ) (f : ℕ → ℕ) → sum (suc n) f ≡ f 0 + sum n (λ j. f (suc j))
@@ -148,8 +148,8 @@ sum_first zero f = omega arith
 sum_first (suc n) f = omega (arith, sum_first n f)
 
 pub count-append : (i : ℕ) (xs ys : List ℕ) → count i (xs ++ ys) ≡ count i xs + count i ys
-count-append i [] ys = omega (arith, count-nil i)
-count-append i (x ∷ xs) ys = omega (arith, count-cons i x (xs ++ ys), count-cons i x xs, count-append i xs ys)
+count-append i [] ys = omega (arith, count_nil i)
+count-append i (x ∷ xs) ys = omega (arith, count_cons i x (xs ++ ys), count_cons i x xs, count-append i xs ys)
 
 -- each element once
 unfoldable pub Once : List ℕ → Type 0
@@ -157,27 +157,27 @@ Once xs = (i : ℕ) → count i xs ≤ 1
 
 -- ---- the numbers a, a + 1, .., a + c - 1
 
-pub count-range-out : (c a i : ℕ) → (i < a) ⊎ (a + c ≤ i) → count i (range c a) ≡ 0
+pub count-range_out : (c a i : ℕ) → (i < a) ⊎ (a + c ≤ i) → count i (range c a) ≡ 0
 unfolding range
-count-range-out zero a i h = count-nil i
-count-range-out (suc c) a i (inl h) = omega (arith, count-cons i a (range c (suc a)), δ-other i a (omega arith), count-range-out c (suc a) i (inl (omega arith)))
-count-range-out (suc c) a i (inr h) = omega (arith, count-cons i a (range c (suc a)), δ-other i a (omega arith), count-range-out c (suc a) i (inr (omega arith)))
+count-range_out zero a i h = count_nil i
+count-range_out (suc c) a i (inl h) = omega (arith, count_cons i a (range c (suc a)), δ_other i a (omega arith), count-range_out c (suc a) i (inl (omega arith)))
+count-range_out (suc c) a i (inr h) = omega (arith, count_cons i a (range c (suc a)), δ_other i a (omega arith), count-range_out c (suc a) i (inr (omega arith)))
 
-pub count-range-in : (c a i : ℕ) → a ≤ i → i < a + c → count i (range c a) ≡ 1
+pub count-range_in : (c a i : ℕ) → a ≤ i → i < a + c → count i (range c a) ≡ 1
 unfolding range
-count-range-in zero a i h b = omega arith
-count-range-in (suc c) a i h b = elim (ℕ_discrete i a) [
-  | yes e ↦ omega (arith, count-cons i a (range c (suc a)), ap (δ i) (sym e), δ-same i, count-range-out c (suc a) i (inl (omega arith)))
-  | no e ↦ omega (arith, count-cons i a (range c (suc a)), δ-other i a e, count-range-in c (suc a) i (omega arith) (omega arith))
+count-range_in zero a i h b = omega arith
+count-range_in (suc c) a i h b = elim (ℕ_discrete i a) [
+  | yes e ↦ omega (arith, count_cons i a (range c (suc a)), ap (δ i) (sym e), δ_same i, count-range_out c (suc a) i (inl (omega arith)))
+  | no e ↦ omega (arith, count_cons i a (range c (suc a)), δ_other i a e, count-range_in c (suc a) i (omega arith) (omega arith))
 ]
 
 -- ---- bounded tests
 
-pub all-at : (n : ℕ) (f : ℕ → Bool) → all n f ≡ true → (i : ℕ) → i < n → f i ≡ true
-all-at zero f e i b = absurd (omega arith)
-all-at (suc n) f e i b =
+pub all_at : (n : ℕ) (f : ℕ → Bool) → all n f ≡ true → (i : ℕ) → i < n → f i ≡ true
+all_at zero f e i b = absurd (omega arith)
+all_at (suc n) f e i b =
     let p = both (all n f) (f n) e in
-    elim (ℕ_discrete i n) [ yes q ↦ ap f q ∙ p.1 | no q ↦ all-at n f p.0 i (omega arith) ]
+    elim (ℕ_discrete i n) [ yes q ↦ ap f q ∙ p.1 | no q ↦ all_at n f p.0 i (omega arith) ]
 
 pub all_of : (n : ℕ) (f : ℕ → Bool) → ((i : ℕ) → i < n → f i ≡ true) → all n f ≡ true
 all_of zero f h = refl
@@ -190,17 +190,17 @@ hit e = rw e
 pub miss : {b : Bool} → b ≡ false → ◌≡◌ {A = ℕ} (cond b 1 0) 0
 miss e = rw e
 
-pub hit-le : (b : Bool) → cond b 1 0 ≤ 1
-hit-le true = omega arith
-hit-le false = omega arith
+pub hit_le : (b : Bool) → cond b 1 0 ≤ 1
+hit_le true = omega arith
+hit_le false = omega arith
 
-pub howMany-zero : (n : ℕ) (f : ℕ → Bool) → howMany n f ≡ 0 → (i : ℕ) → i < n → f i ≡ false
-howMany-zero n f e i b = elim (decided (f i)) [ inl t ↦ absurd (omega (arith, sum-ge n i (λ j. cond (f j) 1 0) b, hit t)) | inr t ↦ t ]
+pub how_many_zero : (n : ℕ) (f : ℕ → Bool) → how_many n f ≡ 0 → (i : ℕ) → i < n → f i ≡ false
+how_many_zero n f e i b = elim (decided (f i)) [ inl t ↦ absurd (omega (arith, sum_ge n i (λ j. cond (f j) 1 0) b, hit t)) | inr t ↦ t ]
 
-pub howMany-none : (n : ℕ) (f : ℕ → Bool) → ((i : ℕ) → i < n → f i ≡ false) → howMany n f ≡ 0
-howMany-none n f h = sum-zero n (λ j. cond (f j) 1 0) (λ j b. miss (h j b))
+pub how_many-none : (n : ℕ) (f : ℕ → Bool) → ((i : ℕ) → i < n → f i ≡ false) → how_many n f ≡ 0
+how_many-none n f h = sum_zero n (λ j. cond (f j) 1 0) (λ j b. miss (h j b))
 
-pub howMany-some : (n : ℕ) (f : ℕ → Bool) → 0 < howMany n f → (i : ℕ) × (i < n) × (f i ≡ true)
-howMany-some n f h =
-    let r = sum-pos n (λ j. cond (f j) 1 0) h in
+pub how_many-some : (n : ℕ) (f : ℕ → Bool) → 0 < how_many n f → (i : ℕ) × (i < n) × (f i ≡ true)
+how_many-some n f h =
+    let r = sum_pos n (λ j. cond (f j) 1 0) h in
     (r.0, r.1, elim (decided (f r.0)) [ inl t ↦ t | inr t ↦ absurd (omega (arith, r.2, miss t)) ])

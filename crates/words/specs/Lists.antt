@@ -17,22 +17,22 @@ In-perm (Permᴰ.swap e e') (there (here d)) = here (d ∙ e')
 In-perm (Permᴰ.swap e e') (there (there h)) = there (there h)
 In-perm (Permᴰ.trans p q) h = In-perm q (In-perm p h)
 
-pub perm-length : {A : Type 0} {l m : List A} → Permᴰ l m → length l ≡ length m
-perm-length Permᴰ.nil = refl
-perm-length (Permᴰ.cons e p) = ap suc (perm-length p)
-perm-length (Permᴰ.swap e e') = refl
-perm-length (Permᴰ.trans p q) = perm-length p ∙ perm-length q
+pub perm_length : {A : Type 0} {l m : List A} → Permᴰ l m → length l ≡ length m
+perm_length Permᴰ.nil = refl
+perm_length (Permᴰ.cons e p) = ap suc (perm_length p)
+perm_length (Permᴰ.swap e e') = refl
+perm_length (Permᴰ.trans p q) = perm_length p ∙ perm_length q
 
-pub perm-swap : {A : Type 0} (a b c : List A) → Permᴰ (a ++ (b ++ c)) (b ++ (a ++ c))
-perm-swap [] b c = Permᴰ.refl (b ++ c)
-perm-swap (x ∷ a) b c = Permᴰ.trans (Permᴰ.cons refl (perm-swap a b c)) (Permᴰ.symm (Permᴰ.middle x b (a ++ c)))
+pub perm_swap : {A : Type 0} (a b c : List A) → Permᴰ (a ++ (b ++ c)) (b ++ (a ++ c))
+perm_swap [] b c = Permᴰ.refl (b ++ c)
+perm_swap (x ∷ a) b c = Permᴰ.trans (Permᴰ.cons refl (perm_swap a b c)) (Permᴰ.symm (Permᴰ.middle x b (a ++ c)))
 
 -- one of the lists put in another's place
 pub joined-set : {A : Type 0} (ds : List (List A)) (w : ℕ) (d : List A) → w < length ds → Permᴰ (joined (slice_set ds w d)) (d ++ joined (slice_set ds w []))
 joined-set [] w d h = absurd (omega arith)
 joined-set (c ∷ ds) zero d h = Permᴰ.refl (d ++ joined ds)
-joined-set (c ∷ ds) (suc w) d h = Permᴰ.trans (Permᴰ.append_left c (joined-set ds w d (omega arith))) (perm-swap c d (joined (slice_set ds w [])))
+joined-set (c ∷ ds) (suc w) d h = Permᴰ.trans (Permᴰ.append_left c (joined-set ds w d (omega arith))) (perm_swap c d (joined (slice_set ds w [])))
 
-pub joined-empty : {A : Type 0} (n : ℕ) → ◌≡◌ {A = List A} (joined (replicate n [])) []
-joined-empty zero = refl
-joined-empty (suc n) = joined-empty n
+pub joined_empty : {A : Type 0} (n : ℕ) → ◌≡◌ {A = List A} (joined (replicate n [])) []
+joined_empty zero = refl
+joined_empty (suc n) = joined_empty n

@@ -31,8 +31,8 @@ neither false b e = (refl, e)
 pub lt_of : {a b : ℕ} → nat_lt a b ≡ true → a < b
 lt_of {a} {b} e = ltb→lt a b (true→T e)
 
-pub ltb-of : {a b : ℕ} → a < b → nat_lt a b ≡ true
-ltb-of {a} {b} h = T→true (nat_lt a b) (lt→ltb a b h)
+pub ltb_of : {a b : ℕ} → a < b → nat_lt a b ≡ true
+ltb_of {a} {b} h = T→true (nat_lt a b) (lt→ltb a b h)
 
 pub not-false : (b : Bool) → not b ≡ false → b ≡ true
 not-false true e = refl
@@ -42,15 +42,15 @@ pub not-true : (b : Bool) → not b ≡ true → b ≡ false
 not-true false e = refl
 not-true true e = absurd (true≢false (sym e))
 
-pub nltb-of : {a b : ℕ} → b ≤ a → nat_lt a b ≡ false
-nltb-of {a} {b} h = not-true (nat_lt a b) (T→true (not (nat_lt a b)) (le→nltb a b h))
+pub nltb_of : {a b : ℕ} → b ≤ a → nat_lt a b ≡ false
+nltb_of {a} {b} h = not-true (nat_lt a b) (T→true (not (nat_lt a b)) (le→nltb a b h))
 
-pub ge-of : {a b : ℕ} → nat_lt a b ≡ false → b ≤ a
-ge-of {a} {b} e = nltb→le a b (false→T e)
+pub ge_of : {a b : ℕ} → nat_lt a b ≡ false → b ≤ a
+ge_of {a} {b} e = nltb→le a b (false→T e)
 
 -- two tests of numbers that say the same
-pub ltb-same : {a b c d : ℕ} → ((a < b) ↔ (c < d)) → nat_lt a b ≡ nat_lt c d
-ltb-same {a} {b} {c} {d} h = elim (decided (nat_lt a b)) [
-  | inl e ↦ e ∙ sym (ltb-of (h.0 (lt_of e)))
-  | inr e ↦ e ∙ elim (decided (nat_lt c d)) [ inl f ↦ absurd (true≢false (sym (ltb-of (h.1 (lt_of f))) ∙ e)) | inr f ↦ sym f ]
+pub ltb_same : {a b c d : ℕ} → ((a < b) ↔ (c < d)) → nat_lt a b ≡ nat_lt c d
+ltb_same {a} {b} {c} {d} h = elim (decided (nat_lt a b)) [
+  | inl e ↦ e ∙ sym (ltb_of (h.0 (lt_of e)))
+  | inr e ↦ e ∙ elim (decided (nat_lt c d)) [ inl f ↦ absurd (true≢false (sym (ltb_of (h.1 (lt_of f))) ∙ e)) | inr f ↦ sym f ]
 ]

@@ -32,8 +32,8 @@ use denote.Triple.Statement.{Contract, Triple}
 use denote.Triple.Call.{calls_at, calls_at_last}
 use denote.Triple.Clauses.{ensured, lasts}
 use denote.Triple.Walked.{says}
-use Rattle.frames.specs.Widths.{dequeWords}
-use Rattle.engine.specs.Promises.{tablesChecked}
+use Rattle.frames.specs.Widths.{deque_words}
+use Rattle.engine.specs.Promises.{tables_checked}
 use Rattle.soundness.specs.contracts.Numbers as M-Numbers
 use Rattle.soundness.proofs.Numbers.TheLaws as L-Numbers
 use Rattle.soundness.specs.declared.Numbers.{Numbers}
@@ -43,7 +43,7 @@ use Rattle.frames.specs.declared.Frame.{Frame}
 use Rattle.frame_check.specs.contracts.FramesChecked as M-FramesChecked
 use Rattle.frame_check.proofs.FramesChecked.TheLaws as L-FramesChecked
 use Rattle.frame_check.specs.declared.FramesChecked.{FramesChecked}
-use Rattle.frames.proofs.Lent.{at-list, Mine, Yours, Lent, Shown, lend, home, show, back, give}
+use Rattle.frames.proofs.Lent.{at_list, Mine, Yours, Lent, Shown, lend, home, show, back, give}
 use Rattle.engine.specs.contracts.check_tables as callee'
 
 abbrev R-Numbers : RattleType
@@ -69,26 +69,26 @@ module _ {M : Type 1} {𝓤 : Ura M} (𝓛 : Logic 𝓤) (mem : Memory → SProp
   Asked = triple_of 𝓛 callee'.signature (callee'.spec 𝓛 mem run)
 
   abbrev pub to-step-ggg : (κ-deques : Lft) (q-deques : Share) (γ-deques : GName) (κ-frames : Lft) (q-frames : Share) (γ-frames : GName) (κ-pool : Lft) (q-pool : Share) (γ-pool : GName) (b-deques o-deques n-deques : ℕ) (deques : List ℕ) (b-frames o-frames n-frames : ℕ) (frames : List Frame) (b-pool o-pool n-pool : ℕ) (pool : List ℕ) (numbers : Numbers) → Asked.Ghost
-  to-step-ggg κ-deques q-deques γ-deques κ-frames q-frames γ-frames κ-pool q-pool γ-pool b-deques o-deques n-deques deques b-frames o-frames n-frames frames b-pool o-pool n-pool pool numbers = (((κ-deques, (κ-frames, (κ-pool, tt))), (q-deques, (q-frames, (q-pool, tt))), tt, (numbers, (at-list b-deques o-deques γ-deques deques, (at-list b-frames o-frames γ-frames frames, (at-list b-pool o-pool γ-pool pool, tt)))), (val-Numbers numbers ∷ [], (slice_val (b-deques, o-deques) n-deques ∷ [], (slice_val (b-frames, o-frames) n-frames ∷ [], (slice_val (b-pool, o-pool) n-pool ∷ [], tt))))), tt)
+  to-step-ggg κ-deques q-deques γ-deques κ-frames q-frames γ-frames κ-pool q-pool γ-pool b-deques o-deques n-deques deques b-frames o-frames n-frames frames b-pool o-pool n-pool pool numbers = (((κ-deques, (κ-frames, (κ-pool, tt))), (q-deques, (q-frames, (q-pool, tt))), tt, (numbers, (at_list b-deques o-deques γ-deques deques, (at_list b-frames o-frames γ-frames frames, (at_list b-pool o-pool γ-pool pool, tt)))), (val-Numbers numbers ∷ [], (slice_val (b-deques, o-deques) n-deques ∷ [], (slice_val (b-frames, o-frames) n-frames ∷ [], (slice_val (b-pool, o-pool) n-pool ∷ [], tt))))), tt)
 
-  pub goes-step-ggg : (κ-deques : Lft) (q-deques : Share) (γ-deques : GName) (κ-frames : Lft) (q-frames : Share) (γ-frames : GName) (κ-pool : Lft) (q-pool : Share) (γ-pool : GName) (b-deques o-deques n-deques : ℕ) (deques : List ℕ) (b-frames o-frames n-frames : ℕ) (frames : List Frame) (b-pool o-pool n-pool : ℕ) (pool : List ℕ) (numbers : Numbers) → (numbers-good : Is R-Numbers numbers (val-Numbers numbers ∷ [])) (ok' : length deques ≡ dequeWords) → ent 𝓤 (⋆ 𝓛 (‵ (flft κ-deques q-deques) ∷ ‵ (flft κ-frames q-frames) ∷ ‵ (flft κ-pool q-pool) ∷ ‵ ((ShrSlice (named 0) κ-deques u32).own_val (at-list b-deques o-deques γ-deques deques) (slice_val (b-deques, o-deques) n-deques ∷ [])) ∷ ‵ ((ShrSlice (named 0) κ-frames R-Frame).own_val (at-list b-frames o-frames γ-frames frames) (slice_val (b-frames, o-frames) n-frames ∷ [])) ∷ ‵ ((ShrSlice (named 0) κ-pool u32).own_val (at-list b-pool o-pool γ-pool pool) (slice_val (b-pool, o-pool) n-pool ∷ [])) ∷ [])) (Asked.pre (to-step-ggg κ-deques q-deques γ-deques κ-frames q-frames γ-frames κ-pool q-pool γ-pool b-deques o-deques n-deques deques b-frames o-frames n-frames frames b-pool o-pool n-pool pool numbers))
-  goes-step-ggg κ-deques q-deques γ-deques κ-frames q-frames γ-frames κ-pool q-pool γ-pool b-deques o-deques n-deques deques b-frames o-frames n-frames frames b-pool o-pool n-pool pool numbers numbers-good ok' = qed 𝓛 (‵ (flft κ-deques q-deques) ∷ ‵ (flft κ-frames q-frames) ∷ ‵ (flft κ-pool q-pool) ∷ ‵ ((ShrSlice (named 0) κ-deques u32).own_val (at-list b-deques o-deques γ-deques deques) (slice_val (b-deques, o-deques) n-deques ∷ [])) ∷ ‵ ((ShrSlice (named 0) κ-frames R-Frame).own_val (at-list b-frames o-frames γ-frames frames) (slice_val (b-frames, o-frames) n-frames ∷ [])) ∷ ‵ ((ShrSlice (named 0) κ-pool u32).own_val (at-list b-pool o-pool γ-pool pool) (slice_val (b-pool, o-pool) n-pool ∷ [])) ∷ []) ∵ says ! ok' $ nothing ! $ move ! (1 ∷ 2 ∷ 3 ∷ 0 ∷ []) $ group ! 4 $ frame ! $
+  pub goes-step-ggg : (κ-deques : Lft) (q-deques : Share) (γ-deques : GName) (κ-frames : Lft) (q-frames : Share) (γ-frames : GName) (κ-pool : Lft) (q-pool : Share) (γ-pool : GName) (b-deques o-deques n-deques : ℕ) (deques : List ℕ) (b-frames o-frames n-frames : ℕ) (frames : List Frame) (b-pool o-pool n-pool : ℕ) (pool : List ℕ) (numbers : Numbers) → (numbers-good : Is R-Numbers numbers (val-Numbers numbers ∷ [])) (ok' : length deques ≡ deque_words) → ent 𝓤 (⋆ 𝓛 (‵ (flft κ-deques q-deques) ∷ ‵ (flft κ-frames q-frames) ∷ ‵ (flft κ-pool q-pool) ∷ ‵ ((ShrSlice (named 0) κ-deques u32).own_val (at_list b-deques o-deques γ-deques deques) (slice_val (b-deques, o-deques) n-deques ∷ [])) ∷ ‵ ((ShrSlice (named 0) κ-frames R-Frame).own_val (at_list b-frames o-frames γ-frames frames) (slice_val (b-frames, o-frames) n-frames ∷ [])) ∷ ‵ ((ShrSlice (named 0) κ-pool u32).own_val (at_list b-pool o-pool γ-pool pool) (slice_val (b-pool, o-pool) n-pool ∷ [])) ∷ [])) (Asked.pre (to-step-ggg κ-deques q-deques γ-deques κ-frames q-frames γ-frames κ-pool q-pool γ-pool b-deques o-deques n-deques deques b-frames o-frames n-frames frames b-pool o-pool n-pool pool numbers))
+  goes-step-ggg κ-deques q-deques γ-deques κ-frames q-frames γ-frames κ-pool q-pool γ-pool b-deques o-deques n-deques deques b-frames o-frames n-frames frames b-pool o-pool n-pool pool numbers numbers-good ok' = qed 𝓛 (‵ (flft κ-deques q-deques) ∷ ‵ (flft κ-frames q-frames) ∷ ‵ (flft κ-pool q-pool) ∷ ‵ ((ShrSlice (named 0) κ-deques u32).own_val (at_list b-deques o-deques γ-deques deques) (slice_val (b-deques, o-deques) n-deques ∷ [])) ∷ ‵ ((ShrSlice (named 0) κ-frames R-Frame).own_val (at_list b-frames o-frames γ-frames frames) (slice_val (b-frames, o-frames) n-frames ∷ [])) ∷ ‵ ((ShrSlice (named 0) κ-pool u32).own_val (at_list b-pool o-pool γ-pool pool) (slice_val (b-pool, o-pool) n-pool ∷ [])) ∷ []) ∵ says ! ok' $ nothing ! $ move ! (1 ∷ 2 ∷ 3 ∷ 0 ∷ []) $ group ! 4 $ frame ! $
       nothing ! $ move ! (3 ∷ 0 ∷ []) $ fjoin ! $ move ! (2 ∷ 0 ∷ []) $ fjoin ! $ move ! (1 ∷ 0 ∷ []) $ fjoin ! $ owned ! R-Numbers (Is R-Numbers) (LL.makes M-Numbers.the_type L-Numbers.the_plain 𝓛) numbers _ numbers-good $ fjoin ! $ done !
 
 module _ {M : Type 1} {𝓤 : Ura M} {𝓛 : Logic 𝓤} {K : Type 0} (mem : Memory → SProp 𝓤) (run : Routine → Fun 𝓤)
     {Γ : List (Item 𝓤)} {E : Env 𝓤 𝓛.H} {C : Calls 𝓤 𝓛.H} {Λ : Loops 𝓤 𝓛.H} {post' : Post 𝓤 𝓛.H} {dest' : Place} {name' : Name} {opds' : List Operand} {rest' : Body} where
   open 𝓛 use {H}
 
-  pub step-ggg : K → FmC 𝓤 H 𝓛.laws C → Triple 𝓤 (C name') (Asked 𝓛 mem run) → {κ-deques : Lft} {q-deques : Share} {γ-deques : GName} {κ-frames : Lft} {q-frames : Share} {γ-frames : GName} {κ-pool : Lft} {q-pool : Share} {γ-pool : GName} → (b-deques o-deques n-deques : ℕ) (deques : List ℕ) (b-frames o-frames n-frames : ℕ) (frames : List Frame) (b-pool o-pool n-pool : ℕ) (pool : List ℕ) (numbers : Numbers) → (numbers-good : Is R-Numbers numbers (val-Numbers numbers ∷ [])) → length deques ≡ dequeWords →
-      (Opds K 𝓛 (raw ((Asked 𝓛 mem run).pre (to-step-ggg 𝓛 mem run κ-deques q-deques γ-deques κ-frames q-frames γ-frames κ-pool q-pool γ-pool b-deques o-deques n-deques deques b-frames o-frames n-frames frames b-pool o-pool n-pool pool numbers)) ∷ ‵ ((ShrSlice (named 0) κ-pool u32).own_val (at-list b-pool o-pool γ-pool pool) (slice_val (b-pool, o-pool) n-pool ∷ [])) ∷ ‵ ((ShrSlice (named 0) κ-frames R-Frame).own_val (at-list b-frames o-frames γ-frames frames) (slice_val (b-frames, o-frames) n-frames ∷ [])) ∷ ‵ ((ShrSlice (named 0) κ-deques u32).own_val (at-list b-deques o-deques γ-deques deques) (slice_val (b-deques, o-deques) n-deques ∷ [])) ∷ Γ) E opds' (val-Numbers numbers ∷ slice_val (b-deques, o-deques) n-deques ∷ slice_val (b-frames, o-frames) n-frames ∷ slice_val (b-pool, o-pool) n-pool ∷ [])) →
-      ((res' : FramesChecked) → Is R-FramesChecked res' (val-FramesChecked res' ∷ []) → res' ≡ tablesChecked numbers deques frames pool → Seq K 𝓛 (‵ (Yours u32 κ-deques q-deques γ-deques b-deques o-deques n-deques deques) ∷ ‵ (Yours R-Frame κ-frames q-frames γ-frames b-frames o-frames n-frames frames) ∷ ‵ (Yours u32 κ-pool q-pool γ-pool b-pool o-pool n-pool pool) ∷ Γ) (lands C Λ E dest' (val-FramesChecked res') rest' post')) →
+  pub step-ggg : K → FmC 𝓤 H 𝓛.laws C → Triple 𝓤 (C name') (Asked 𝓛 mem run) → {κ-deques : Lft} {q-deques : Share} {γ-deques : GName} {κ-frames : Lft} {q-frames : Share} {γ-frames : GName} {κ-pool : Lft} {q-pool : Share} {γ-pool : GName} → (b-deques o-deques n-deques : ℕ) (deques : List ℕ) (b-frames o-frames n-frames : ℕ) (frames : List Frame) (b-pool o-pool n-pool : ℕ) (pool : List ℕ) (numbers : Numbers) → (numbers-good : Is R-Numbers numbers (val-Numbers numbers ∷ [])) → length deques ≡ deque_words →
+      (Opds K 𝓛 (raw ((Asked 𝓛 mem run).pre (to-step-ggg 𝓛 mem run κ-deques q-deques γ-deques κ-frames q-frames γ-frames κ-pool q-pool γ-pool b-deques o-deques n-deques deques b-frames o-frames n-frames frames b-pool o-pool n-pool pool numbers)) ∷ ‵ ((ShrSlice (named 0) κ-pool u32).own_val (at_list b-pool o-pool γ-pool pool) (slice_val (b-pool, o-pool) n-pool ∷ [])) ∷ ‵ ((ShrSlice (named 0) κ-frames R-Frame).own_val (at_list b-frames o-frames γ-frames frames) (slice_val (b-frames, o-frames) n-frames ∷ [])) ∷ ‵ ((ShrSlice (named 0) κ-deques u32).own_val (at_list b-deques o-deques γ-deques deques) (slice_val (b-deques, o-deques) n-deques ∷ [])) ∷ Γ) E opds' (val-Numbers numbers ∷ slice_val (b-deques, o-deques) n-deques ∷ slice_val (b-frames, o-frames) n-frames ∷ slice_val (b-pool, o-pool) n-pool ∷ [])) →
+      ((res' : FramesChecked) → Is R-FramesChecked res' (val-FramesChecked res' ∷ []) → res' ≡ tables_checked numbers deques frames pool → Seq K 𝓛 (‵ (Yours u32 κ-deques q-deques γ-deques b-deques o-deques n-deques deques) ∷ ‵ (Yours R-Frame κ-frames q-frames γ-frames b-frames o-frames n-frames frames) ∷ ‵ (Yours u32 κ-pool q-pool γ-pool b-pool o-pool n-pool pool) ∷ Γ) (lands C Λ E dest' (val-FramesChecked res') rest' post')) →
       Seq K 𝓛 (‵ (Yours u32 κ-deques q-deques γ-deques b-deques o-deques n-deques deques) ∷ ‵ (Yours R-Frame κ-frames q-frames γ-frames b-frames o-frames n-frames frames) ∷ ‵ (Yours u32 κ-pool q-pool γ-pool b-pool o-pool n-pool pool) ∷ Γ) (runs C Λ E (seq (call name' opds' dest') rest') post')
   step-ggg t' fm' known' {κ-deques} {q-deques} {γ-deques} {κ-frames} {q-frames} {γ-frames} {κ-pool} {q-pool} {γ-pool} b-deques o-deques n-deques deques b-frames o-frames n-frames frames b-pool o-pool n-pool pool numbers numbers-good ok' os' k' =
       give t' u32 b-deques o-deques n-deques deques $ move t' (3 ∷ []) $ give t' R-Frame b-frames o-frames n-frames frames $ move t' (6 ∷ []) $ give t' u32 b-pool o-pool n-pool pool $
       move t' (6 ∷ 3 ∷ 0 ∷ 7 ∷ 4 ∷ 1 ∷ []) $ group t' 6 $ use1 𝓛 (raw ((Asked 𝓛 mem run).pre (to-step-ggg 𝓛 mem run κ-deques q-deques γ-deques κ-frames q-frames γ-frames κ-pool q-pool γ-pool b-deques o-deques n-deques deques b-frames o-frames n-frames frames b-pool o-pool n-pool pool numbers))) (goes-step-ggg 𝓛 mem run κ-deques q-deques γ-deques κ-frames q-frames γ-frames κ-pool q-pool γ-pool b-deques o-deques n-deques deques b-frames o-frames n-frames frames b-pool o-pool n-pool pool numbers numbers-good ok') $
       calls_at t' fm' (Asked 𝓛 mem run) known' (to-step-ggg 𝓛 mem run κ-deques q-deques γ-deques κ-frames q-frames γ-frames κ-pool q-pool γ-pool b-deques o-deques n-deques deques b-frames o-frames n-frames frames b-pool o-pool n-pool pool numbers) (os') (λ w'.
-      use1 𝓛 (later (some (λ (res' : FramesChecked). ((‵ (flft κ-deques q-deques) ⊛ (‵ (flft κ-frames q-frames) ⊛ (‵ (flft κ-pool q-pool) ⊛ ‵ ftrue))) ⊛ ‵ (R-FramesChecked.own res' (w' ∷ []))) ⊛ raw (ensured 𝓛 callee'.ended (callee'.clauses 𝓛 mem run) (κ-deques, (κ-frames, (κ-pool, tt))) (numbers, (at-list b-deques o-deques γ-deques deques, (at-list b-frames o-frames γ-frames frames, (at-list b-pool o-pool γ-pool pool, tt)))) tt res')))) (id⊢ 𝓤 _) $ await t' tt $ pick t' (λ res'. split t' $ move t' (1 ∷ []) $
-      use1 𝓛 (some (λ (zs' : Unit {0} × (Unit {0} × (Unit {0} × (Unit {0} × Unit {0})))). ‵ (lasts callee'.ended (κ-deques, (κ-frames, (κ-pool, tt))) (numbers, (at-list b-deques o-deques γ-deques deques, (at-list b-frames o-frames γ-frames frames, (at-list b-pool o-pool γ-pool pool, tt)))) zs') ⊛ raw (fact 𝓤 (res' ≡ tablesChecked numbers deques frames pool)))) (id⊢ 𝓤 _) $ pick t' (λ zs'. split t' $ move t' (1 ∷ []) $ heard t' (res' ≡ tablesChecked numbers deques frames pool) (λ e'.
+      use1 𝓛 (later (some (λ (res' : FramesChecked). ((‵ (flft κ-deques q-deques) ⊛ (‵ (flft κ-frames q-frames) ⊛ (‵ (flft κ-pool q-pool) ⊛ ‵ ftrue))) ⊛ ‵ (R-FramesChecked.own res' (w' ∷ []))) ⊛ raw (ensured 𝓛 callee'.ended (callee'.clauses 𝓛 mem run) (κ-deques, (κ-frames, (κ-pool, tt))) (numbers, (at_list b-deques o-deques γ-deques deques, (at_list b-frames o-frames γ-frames frames, (at_list b-pool o-pool γ-pool pool, tt)))) tt res')))) (id⊢ 𝓤 _) $ await t' tt $ pick t' (λ res'. split t' $ move t' (1 ∷ []) $
+      use1 𝓛 (some (λ (zs' : Unit {0} × (Unit {0} × (Unit {0} × (Unit {0} × Unit {0})))). ‵ (lasts callee'.ended (κ-deques, (κ-frames, (κ-pool, tt))) (numbers, (at_list b-deques o-deques γ-deques deques, (at_list b-frames o-frames γ-frames frames, (at_list b-pool o-pool γ-pool pool, tt)))) zs') ⊛ raw (fact 𝓤 (res' ≡ tables_checked numbers deques frames pool)))) (id⊢ 𝓤 _) $ pick t' (λ zs'. split t' $ move t' (1 ∷ []) $ heard t' (res' ≡ tables_checked numbers deques frames pool) (λ e'.
       fsplit t' $ drop t' $ fsplit t' $ drop t' $ fsplit t' $ drop t' $ fsplit t' $ drop t' $ drop t' $
       move t' (0 ∷ []) $ split t' $ move t' (1 ∷ []) $ peeks t' R-FramesChecked (Is R-FramesChecked) (shows 𝓛 R-FramesChecked) res' (w' ∷ []) (λ is'. drop t' $ split t' $ move t' (1 ∷ []) $ split t' $ move t' (1 ∷ []) $ split t' $ move t' (1 ∷ []) $ drop t' $
       move t' (3 ∷ 0 ∷ []) $ fjoin t' $ move t' (3 ∷ 1 ∷ []) $ fjoin t' $ move t' (3 ∷ 2 ∷ []) $ fjoin t' $

@@ -33,7 +33,7 @@ use denote.Triple.Call.{calls_at, calls_at_last}
 use denote.Triple.Clauses.{ensured, lasts}
 use denote.Triple.Walked.{says}
 use lib.ListN.{replicate}
-use Rattle.frames.proofs.Lent.{at-list, Mine, Yours, Lent, Shown, lend, home, show, back, give}
+use Rattle.frames.proofs.Lent.{at_list, Mine, Yours, Lent, Shown, lend, home, show, back, give}
 use Rattle.words.specs.contracts.clear_all as callee'
 
 module _ {M : Type 1} {𝓤 : Ura M} (𝓛 : Logic 𝓤) (mem : Memory → SProp 𝓤) (run : Routine → Fun 𝓤) where
@@ -41,10 +41,10 @@ module _ {M : Type 1} {𝓤 : Ura M} (𝓛 : Logic 𝓤) (mem : Memory → SProp
   Asked = triple_of 𝓛 callee'.signature (callee'.spec 𝓛 mem run)
 
   abbrev pub to_step : (ν-ws : ℕ) (δ-ws : GName) (b-ws o-ws n-ws : ℕ) (ws : List ℕ) → Asked.Ghost
-  to_step ν-ws δ-ws b-ws o-ws n-ws ws = ((((ν-ws ∷ []), tt), (full_share, tt), tt, (at-list b-ws o-ws δ-ws ws, tt), (slice_val (b-ws, o-ws) n-ws ∷ [], tt)), tt)
+  to_step ν-ws δ-ws b-ws o-ws n-ws ws = ((((ν-ws ∷ []), tt), (full_share, tt), tt, (at_list b-ws o-ws δ-ws ws, tt), (slice_val (b-ws, o-ws) n-ws ∷ [], tt)), tt)
 
-  pub goes_step : (ν-ws : ℕ) (δ-ws : GName) (b-ws o-ws n-ws : ℕ) (ws : List ℕ) → ent 𝓤 (⋆ 𝓛 (‵ (flft (ν-ws ∷ []) full_share) ∷ ‵ ((MutSlice (named 0) (ν-ws ∷ []) u32).own_val (at-list b-ws o-ws δ-ws ws) (slice_val (b-ws, o-ws) n-ws ∷ [])) ∷ [])) (Asked.pre (to_step ν-ws δ-ws b-ws o-ws n-ws ws))
-  goes_step ν-ws δ-ws b-ws o-ws n-ws ws = qed 𝓛 (‵ (flft (ν-ws ∷ []) full_share) ∷ ‵ ((MutSlice (named 0) (ν-ws ∷ []) u32).own_val (at-list b-ws o-ws δ-ws ws) (slice_val (b-ws, o-ws) n-ws ∷ [])) ∷ []) ∵ nothing ! $ move ! (1 ∷ 0 ∷ []) $ group ! 2 $ move ! (1 ∷ 0 ∷ []) $
+  pub goes_step : (ν-ws : ℕ) (δ-ws : GName) (b-ws o-ws n-ws : ℕ) (ws : List ℕ) → ent 𝓤 (⋆ 𝓛 (‵ (flft (ν-ws ∷ []) full_share) ∷ ‵ ((MutSlice (named 0) (ν-ws ∷ []) u32).own_val (at_list b-ws o-ws δ-ws ws) (slice_val (b-ws, o-ws) n-ws ∷ [])) ∷ [])) (Asked.pre (to_step ν-ws δ-ws b-ws o-ws n-ws ws))
+  goes_step ν-ws δ-ws b-ws o-ws n-ws ws = qed 𝓛 (‵ (flft (ν-ws ∷ []) full_share) ∷ ‵ ((MutSlice (named 0) (ν-ws ∷ []) u32).own_val (at_list b-ws o-ws δ-ws ws) (slice_val (b-ws, o-ws) n-ws ∷ [])) ∷ []) ∵ nothing ! $ move ! (1 ∷ 0 ∷ []) $ group ! 2 $ move ! (1 ∷ 0 ∷ []) $
       nothing ! $ move ! (1 ∷ 0 ∷ []) $ fjoin ! $ move ! (1 ∷ 0 ∷ []) $ join ! $ frame ! $ done !
 
 module _ {M : Type 1} {𝓤 : Ura M} {𝓛 : Logic 𝓤} {K : Type 0} (mem : Memory → SProp 𝓤) (run : Routine → Fun 𝓤)
@@ -59,8 +59,8 @@ module _ {M : Type 1} {𝓤 : Ura M} {𝓛 : Logic 𝓤} {K : Type 0} (mem : Mem
       lend t' tt u32 b-ws o-ws n-ws ws len-ws (λ ν-ws δ-ws.
       move t' (0 ∷ 1 ∷ []) $ group t' 2 $ use1 𝓛 (raw ((Asked 𝓛 mem run).pre (to_step 𝓛 mem run ν-ws δ-ws b-ws o-ws n-ws ws))) (goes_step 𝓛 mem run ν-ws δ-ws b-ws o-ws n-ws ws) $
       calls_at t' fm' (Asked 𝓛 mem run) known' (to_step 𝓛 mem run ν-ws δ-ws b-ws o-ws n-ws ws) (os' ν-ws δ-ws) (λ w'.
-      use1 𝓛 (later (some (λ (res' : Unit {0}). ((‵ (flft (ν-ws ∷ []) full_share) ⊛ ‵ ftrue) ⊛ ‵ (unit.own_val res' (w' ∷ []))) ⊛ raw (ensured 𝓛 callee'.ended (callee'.clauses 𝓛 mem run) ((ν-ws ∷ []), tt) (at-list b-ws o-ws δ-ws ws, tt) tt res')))) (id⊢ 𝓤 _) $ await t' tt $ pick t' (λ res'. split t' $ move t' (1 ∷ []) $
-      use1 𝓛 (some (λ (zs' : List ℕ × Unit {0}). ‵ (lasts callee'.ended ((ν-ws ∷ []), tt) (at-list b-ws o-ws δ-ws ws, tt) zs') ⊛ raw (fact 𝓤 (zs'.0 ≡ replicate (length ws) 0)))) (id⊢ 𝓤 _) $ pick t' (λ zs'. split t' $ move t' (1 ∷ []) $ heard t' (zs'.0 ≡ replicate (length ws) 0) (λ e'.
+      use1 𝓛 (later (some (λ (res' : Unit {0}). ((‵ (flft (ν-ws ∷ []) full_share) ⊛ ‵ ftrue) ⊛ ‵ (unit.own_val res' (w' ∷ []))) ⊛ raw (ensured 𝓛 callee'.ended (callee'.clauses 𝓛 mem run) ((ν-ws ∷ []), tt) (at_list b-ws o-ws δ-ws ws, tt) tt res')))) (id⊢ 𝓤 _) $ await t' tt $ pick t' (λ res'. split t' $ move t' (1 ∷ []) $
+      use1 𝓛 (some (λ (zs' : List ℕ × Unit {0}). ‵ (lasts callee'.ended ((ν-ws ∷ []), tt) (at_list b-ws o-ws δ-ws ws, tt) zs') ⊛ raw (fact 𝓤 (zs'.0 ≡ replicate (length ws) 0)))) (id⊢ 𝓤 _) $ pick t' (λ zs'. split t' $ move t' (1 ∷ []) $ heard t' (zs'.0 ≡ replicate (length ws) 0) (λ e'.
       fsplit t' $ fsplit t' $ move t' (1 ∷ []) $ feq_l t' (λ same-ws. move t' (1 ∷ []) $ drop t' $
       move t' (1 ∷ []) $ split t' $ move t' (1 ∷ []) $ peeks t' unit (Is unit) (shows 𝓛 unit) res' (w' ∷ []) (λ is'. drop t' $ split t' $ move t' (1 ∷ []) $ drop t' $
       move t' (0 ∷ 2 ∷ 1 ∷ []) $ home t' tt u32 b-ws o-ws n-ws ws zs'.0 len-ws room-ws same-ws $

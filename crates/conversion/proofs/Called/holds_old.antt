@@ -34,7 +34,7 @@ use denote.Triple.Clauses.{ensured, lasts}
 use denote.Triple.Walked.{says}
 use Prim.Native.Nat.{◌*◌}
 use lib.Dec.{leb}
-use Rattle.frames.proofs.Lent.{at-list, Mine, Yours, Lent, Shown, lend, home, show, back, give}
+use Rattle.frames.proofs.Lent.{at_list, Mine, Yours, Lent, Shown, lend, home, show, back, give}
 use Rattle.conversion.specs.contracts.checking.holds_old as callee'
 
 module _ {M : Type 1} {𝓤 : Ura M} (𝓛 : Logic 𝓤) (mem : Memory → SProp 𝓤) (run : Routine → Fun 𝓤) where
@@ -42,10 +42,10 @@ module _ {M : Type 1} {𝓤 : Ura M} (𝓛 : Logic 𝓤) (mem : Memory → SProp
   Asked = triple_of 𝓛 callee'.signature (callee'.spec 𝓛 mem run)
 
   abbrev pub to-step-g : (κ-pool : Lft) (q-pool : Share) (γ-pool : GName) (b-pool o-pool n-pool : ℕ) (pool : List ℕ) (nodes : ℕ) → Asked.Ghost
-  to-step-g κ-pool q-pool γ-pool b-pool o-pool n-pool pool nodes = (((κ-pool, tt), (q-pool, tt), tt, (nodes, (at-list b-pool o-pool γ-pool pool, tt)), (vint w32 nodes ∷ [], (slice_val (b-pool, o-pool) n-pool ∷ [], tt))), tt)
+  to-step-g κ-pool q-pool γ-pool b-pool o-pool n-pool pool nodes = (((κ-pool, tt), (q-pool, tt), tt, (nodes, (at_list b-pool o-pool γ-pool pool, tt)), (vint w32 nodes ∷ [], (slice_val (b-pool, o-pool) n-pool ∷ [], tt))), tt)
 
-  pub goes-step-g : (κ-pool : Lft) (q-pool : Share) (γ-pool : GName) (b-pool o-pool n-pool : ℕ) (pool : List ℕ) (nodes : ℕ) → (nodes-good : nodes < 2 ^ 32) → ent 𝓤 (⋆ 𝓛 (‵ (flft κ-pool q-pool) ∷ ‵ ((ShrSlice (named 0) κ-pool u32).own_val (at-list b-pool o-pool γ-pool pool) (slice_val (b-pool, o-pool) n-pool ∷ [])) ∷ [])) (Asked.pre (to-step-g κ-pool q-pool γ-pool b-pool o-pool n-pool pool nodes))
-  goes-step-g κ-pool q-pool γ-pool b-pool o-pool n-pool pool nodes nodes-good = qed 𝓛 (‵ (flft κ-pool q-pool) ∷ ‵ ((ShrSlice (named 0) κ-pool u32).own_val (at-list b-pool o-pool γ-pool pool) (slice_val (b-pool, o-pool) n-pool ∷ [])) ∷ []) ∵ nothing ! $ move ! (1 ∷ 0 ∷ []) $ group ! 2 $ move ! (1 ∷ 0 ∷ []) $
+  pub goes-step-g : (κ-pool : Lft) (q-pool : Share) (γ-pool : GName) (b-pool o-pool n-pool : ℕ) (pool : List ℕ) (nodes : ℕ) → (nodes-good : nodes < 2 ^ 32) → ent 𝓤 (⋆ 𝓛 (‵ (flft κ-pool q-pool) ∷ ‵ ((ShrSlice (named 0) κ-pool u32).own_val (at_list b-pool o-pool γ-pool pool) (slice_val (b-pool, o-pool) n-pool ∷ [])) ∷ [])) (Asked.pre (to-step-g κ-pool q-pool γ-pool b-pool o-pool n-pool pool nodes))
+  goes-step-g κ-pool q-pool γ-pool b-pool o-pool n-pool pool nodes nodes-good = qed 𝓛 (‵ (flft κ-pool q-pool) ∷ ‵ ((ShrSlice (named 0) κ-pool u32).own_val (at_list b-pool o-pool γ-pool pool) (slice_val (b-pool, o-pool) n-pool ∷ [])) ∷ []) ∵ nothing ! $ move ! (1 ∷ 0 ∷ []) $ group ! 2 $ move ! (1 ∷ 0 ∷ []) $
       nothing ! $ move ! (1 ∷ 0 ∷ []) $ fjoin ! $ owned ! u32 (Is u32) (uint_Makes 𝓛 w32) nodes _ (refl, nodes-good) $ fjoin ! $ move ! (1 ∷ 0 ∷ []) $ join ! $ frame ! $ done !
 
 module _ {M : Type 1} {𝓤 : Ura M} {𝓛 : Logic 𝓤} {K : Type 0} (mem : Memory → SProp 𝓤) (run : Routine → Fun 𝓤)
@@ -53,15 +53,15 @@ module _ {M : Type 1} {𝓤 : Ura M} {𝓛 : Logic 𝓤} {K : Type 0} (mem : Mem
   open 𝓛 use {H}
 
   pub step-g : K → FmC 𝓤 H 𝓛.laws C → Triple 𝓤 (C name') (Asked 𝓛 mem run) → {κ-pool : Lft} {q-pool : Share} {γ-pool : GName} → (b-pool o-pool n-pool : ℕ) (pool : List ℕ) (nodes : ℕ) → (nodes-good : nodes < 2 ^ 32) →
-      (Opds K 𝓛 (raw ((Asked 𝓛 mem run).pre (to-step-g 𝓛 mem run κ-pool q-pool γ-pool b-pool o-pool n-pool pool nodes)) ∷ ‵ ((ShrSlice (named 0) κ-pool u32).own_val (at-list b-pool o-pool γ-pool pool) (slice_val (b-pool, o-pool) n-pool ∷ [])) ∷ Γ) E opds' (vint w32 nodes ∷ slice_val (b-pool, o-pool) n-pool ∷ [])) →
+      (Opds K 𝓛 (raw ((Asked 𝓛 mem run).pre (to-step-g 𝓛 mem run κ-pool q-pool γ-pool b-pool o-pool n-pool pool nodes)) ∷ ‵ ((ShrSlice (named 0) κ-pool u32).own_val (at_list b-pool o-pool γ-pool pool) (slice_val (b-pool, o-pool) n-pool ∷ [])) ∷ Γ) E opds' (vint w32 nodes ∷ slice_val (b-pool, o-pool) n-pool ∷ [])) →
       ((res' : Bool) → res' ≡ leb (4 * nodes) (length pool) → Seq K 𝓛 (‵ (Yours u32 κ-pool q-pool γ-pool b-pool o-pool n-pool pool) ∷ Γ) (lands C Λ E dest' (vbool res') rest' post')) →
       Seq K 𝓛 (‵ (Yours u32 κ-pool q-pool γ-pool b-pool o-pool n-pool pool) ∷ Γ) (runs C Λ E (seq (call name' opds' dest') rest') post')
   step-g t' fm' known' {κ-pool} {q-pool} {γ-pool} b-pool o-pool n-pool pool nodes nodes-good os' k' =
       give t' u32 b-pool o-pool n-pool pool $
       move t' (0 ∷ 1 ∷ []) $ group t' 2 $ use1 𝓛 (raw ((Asked 𝓛 mem run).pre (to-step-g 𝓛 mem run κ-pool q-pool γ-pool b-pool o-pool n-pool pool nodes))) (goes-step-g 𝓛 mem run κ-pool q-pool γ-pool b-pool o-pool n-pool pool nodes nodes-good) $
       calls_at t' fm' (Asked 𝓛 mem run) known' (to-step-g 𝓛 mem run κ-pool q-pool γ-pool b-pool o-pool n-pool pool nodes) (os') (λ w'.
-      use1 𝓛 (later (some (λ (res' : Bool). ((‵ (flft κ-pool q-pool) ⊛ ‵ ftrue) ⊛ ‵ (bool.own_val res' (w' ∷ []))) ⊛ raw (ensured 𝓛 callee'.ended (callee'.clauses 𝓛 mem run) (κ-pool, tt) (nodes, (at-list b-pool o-pool γ-pool pool, tt)) tt res')))) (id⊢ 𝓤 _) $ await t' tt $ pick t' (λ res'. split t' $ move t' (1 ∷ []) $
-      use1 𝓛 (some (λ (zs' : Unit {0} × (Unit {0} × Unit {0})). ‵ (lasts callee'.ended (κ-pool, tt) (nodes, (at-list b-pool o-pool γ-pool pool, tt)) zs') ⊛ raw (fact 𝓤 (res' ≡ leb (4 * nodes) (length pool))))) (id⊢ 𝓤 _) $ pick t' (λ zs'. split t' $ move t' (1 ∷ []) $ heard t' (res' ≡ leb (4 * nodes) (length pool)) (λ e'.
+      use1 𝓛 (later (some (λ (res' : Bool). ((‵ (flft κ-pool q-pool) ⊛ ‵ ftrue) ⊛ ‵ (bool.own_val res' (w' ∷ []))) ⊛ raw (ensured 𝓛 callee'.ended (callee'.clauses 𝓛 mem run) (κ-pool, tt) (nodes, (at_list b-pool o-pool γ-pool pool, tt)) tt res')))) (id⊢ 𝓤 _) $ await t' tt $ pick t' (λ res'. split t' $ move t' (1 ∷ []) $
+      use1 𝓛 (some (λ (zs' : Unit {0} × (Unit {0} × Unit {0})). ‵ (lasts callee'.ended (κ-pool, tt) (nodes, (at_list b-pool o-pool γ-pool pool, tt)) zs') ⊛ raw (fact 𝓤 (res' ≡ leb (4 * nodes) (length pool))))) (id⊢ 𝓤 _) $ pick t' (λ zs'. split t' $ move t' (1 ∷ []) $ heard t' (res' ≡ leb (4 * nodes) (length pool)) (λ e'.
       fsplit t' $ drop t' $ fsplit t' $ drop t' $ drop t' $
       move t' (0 ∷ []) $ split t' $ move t' (1 ∷ []) $ peeks t' bool (Is bool) (shows 𝓛 bool) res' (w' ∷ []) (λ is'. drop t' $ split t' $ move t' (1 ∷ []) $ drop t' $
       move t' (1 ∷ 0 ∷ []) $ fjoin t' $

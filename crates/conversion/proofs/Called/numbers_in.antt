@@ -32,11 +32,11 @@ use denote.Triple.Statement.{Contract, Triple}
 use denote.Triple.Call.{calls_at, calls_at_last}
 use denote.Triple.Clauses.{ensured, lasts}
 use denote.Triple.Walked.{says}
-use Rattle.soundness.specs.Numbers.{numbersIn, numberCount}
+use Rattle.soundness.specs.Numbers.{numbers_in, number_count}
 use Rattle.soundness.specs.contracts.Numbers as M-Numbers
 use Rattle.soundness.proofs.Numbers.TheLaws as L-Numbers
 use Rattle.soundness.specs.declared.Numbers.{Numbers}
-use Rattle.frames.proofs.Lent.{at-list, Mine, Yours, Lent, Shown, lend, home, show, back, give}
+use Rattle.frames.proofs.Lent.{at_list, Mine, Yours, Lent, Shown, lend, home, show, back, give}
 use Rattle.engine.specs.contracts.numbers_in as callee'
 
 abbrev R-Numbers : RattleType
@@ -50,26 +50,26 @@ module _ {M : Type 1} {𝓤 : Ura M} (𝓛 : Logic 𝓤) (mem : Memory → SProp
   Asked = triple_of 𝓛 callee'.signature (callee'.spec 𝓛 mem run)
 
   abbrev pub to-step-g : (κ-numbers : Lft) (q-numbers : Share) (γ-numbers : GName) (b-numbers o-numbers n-numbers : ℕ) (numbers : List ℕ) → Asked.Ghost
-  to-step-g κ-numbers q-numbers γ-numbers b-numbers o-numbers n-numbers numbers = (((κ-numbers, tt), (q-numbers, tt), tt, (at-list b-numbers o-numbers γ-numbers numbers, tt), (slice_val (b-numbers, o-numbers) n-numbers ∷ [], tt)), tt)
+  to-step-g κ-numbers q-numbers γ-numbers b-numbers o-numbers n-numbers numbers = (((κ-numbers, tt), (q-numbers, tt), tt, (at_list b-numbers o-numbers γ-numbers numbers, tt), (slice_val (b-numbers, o-numbers) n-numbers ∷ [], tt)), tt)
 
-  pub goes-step-g : (κ-numbers : Lft) (q-numbers : Share) (γ-numbers : GName) (b-numbers o-numbers n-numbers : ℕ) (numbers : List ℕ) → (ok' : length numbers ≡ numberCount) → ent 𝓤 (⋆ 𝓛 (‵ (flft κ-numbers q-numbers) ∷ ‵ ((ShrSlice (named 0) κ-numbers u32).own_val (at-list b-numbers o-numbers γ-numbers numbers) (slice_val (b-numbers, o-numbers) n-numbers ∷ [])) ∷ [])) (Asked.pre (to-step-g κ-numbers q-numbers γ-numbers b-numbers o-numbers n-numbers numbers))
-  goes-step-g κ-numbers q-numbers γ-numbers b-numbers o-numbers n-numbers numbers ok' = qed 𝓛 (‵ (flft κ-numbers q-numbers) ∷ ‵ ((ShrSlice (named 0) κ-numbers u32).own_val (at-list b-numbers o-numbers γ-numbers numbers) (slice_val (b-numbers, o-numbers) n-numbers ∷ [])) ∷ []) ∵ says ! ok' $ nothing ! $ move ! (1 ∷ 0 ∷ []) $ group ! 2 $ frame ! $
+  pub goes-step-g : (κ-numbers : Lft) (q-numbers : Share) (γ-numbers : GName) (b-numbers o-numbers n-numbers : ℕ) (numbers : List ℕ) → (ok' : length numbers ≡ number_count) → ent 𝓤 (⋆ 𝓛 (‵ (flft κ-numbers q-numbers) ∷ ‵ ((ShrSlice (named 0) κ-numbers u32).own_val (at_list b-numbers o-numbers γ-numbers numbers) (slice_val (b-numbers, o-numbers) n-numbers ∷ [])) ∷ [])) (Asked.pre (to-step-g κ-numbers q-numbers γ-numbers b-numbers o-numbers n-numbers numbers))
+  goes-step-g κ-numbers q-numbers γ-numbers b-numbers o-numbers n-numbers numbers ok' = qed 𝓛 (‵ (flft κ-numbers q-numbers) ∷ ‵ ((ShrSlice (named 0) κ-numbers u32).own_val (at_list b-numbers o-numbers γ-numbers numbers) (slice_val (b-numbers, o-numbers) n-numbers ∷ [])) ∷ []) ∵ says ! ok' $ nothing ! $ move ! (1 ∷ 0 ∷ []) $ group ! 2 $ frame ! $
       nothing ! $ move ! (1 ∷ 0 ∷ []) $ fjoin ! $ done !
 
 module _ {M : Type 1} {𝓤 : Ura M} {𝓛 : Logic 𝓤} {K : Type 0} (mem : Memory → SProp 𝓤) (run : Routine → Fun 𝓤)
     {Γ : List (Item 𝓤)} {E : Env 𝓤 𝓛.H} {C : Calls 𝓤 𝓛.H} {Λ : Loops 𝓤 𝓛.H} {post' : Post 𝓤 𝓛.H} {dest' : Place} {name' : Name} {opds' : List Operand} {rest' : Body} where
   open 𝓛 use {H}
 
-  pub step-g : K → FmC 𝓤 H 𝓛.laws C → Triple 𝓤 (C name') (Asked 𝓛 mem run) → {κ-numbers : Lft} {q-numbers : Share} {γ-numbers : GName} → (b-numbers o-numbers n-numbers : ℕ) (numbers : List ℕ) → length numbers ≡ numberCount →
-      (Opds K 𝓛 (raw ((Asked 𝓛 mem run).pre (to-step-g 𝓛 mem run κ-numbers q-numbers γ-numbers b-numbers o-numbers n-numbers numbers)) ∷ ‵ ((ShrSlice (named 0) κ-numbers u32).own_val (at-list b-numbers o-numbers γ-numbers numbers) (slice_val (b-numbers, o-numbers) n-numbers ∷ [])) ∷ Γ) E opds' (slice_val (b-numbers, o-numbers) n-numbers ∷ [])) →
-      ((res' : Numbers) → Is R-Numbers res' (val-Numbers res' ∷ []) → res' ≡ numbersIn numbers → Seq K 𝓛 (‵ (Yours u32 κ-numbers q-numbers γ-numbers b-numbers o-numbers n-numbers numbers) ∷ Γ) (lands C Λ E dest' (val-Numbers res') rest' post')) →
+  pub step-g : K → FmC 𝓤 H 𝓛.laws C → Triple 𝓤 (C name') (Asked 𝓛 mem run) → {κ-numbers : Lft} {q-numbers : Share} {γ-numbers : GName} → (b-numbers o-numbers n-numbers : ℕ) (numbers : List ℕ) → length numbers ≡ number_count →
+      (Opds K 𝓛 (raw ((Asked 𝓛 mem run).pre (to-step-g 𝓛 mem run κ-numbers q-numbers γ-numbers b-numbers o-numbers n-numbers numbers)) ∷ ‵ ((ShrSlice (named 0) κ-numbers u32).own_val (at_list b-numbers o-numbers γ-numbers numbers) (slice_val (b-numbers, o-numbers) n-numbers ∷ [])) ∷ Γ) E opds' (slice_val (b-numbers, o-numbers) n-numbers ∷ [])) →
+      ((res' : Numbers) → Is R-Numbers res' (val-Numbers res' ∷ []) → res' ≡ numbers_in numbers → Seq K 𝓛 (‵ (Yours u32 κ-numbers q-numbers γ-numbers b-numbers o-numbers n-numbers numbers) ∷ Γ) (lands C Λ E dest' (val-Numbers res') rest' post')) →
       Seq K 𝓛 (‵ (Yours u32 κ-numbers q-numbers γ-numbers b-numbers o-numbers n-numbers numbers) ∷ Γ) (runs C Λ E (seq (call name' opds' dest') rest') post')
   step-g t' fm' known' {κ-numbers} {q-numbers} {γ-numbers} b-numbers o-numbers n-numbers numbers ok' os' k' =
       give t' u32 b-numbers o-numbers n-numbers numbers $
       move t' (0 ∷ 1 ∷ []) $ group t' 2 $ use1 𝓛 (raw ((Asked 𝓛 mem run).pre (to-step-g 𝓛 mem run κ-numbers q-numbers γ-numbers b-numbers o-numbers n-numbers numbers))) (goes-step-g 𝓛 mem run κ-numbers q-numbers γ-numbers b-numbers o-numbers n-numbers numbers ok') $
       calls_at t' fm' (Asked 𝓛 mem run) known' (to-step-g 𝓛 mem run κ-numbers q-numbers γ-numbers b-numbers o-numbers n-numbers numbers) (os') (λ w'.
-      use1 𝓛 (later (some (λ (res' : Numbers). ((‵ (flft κ-numbers q-numbers) ⊛ ‵ ftrue) ⊛ ‵ (R-Numbers.own res' (w' ∷ []))) ⊛ raw (ensured 𝓛 callee'.ended (callee'.clauses 𝓛 mem run) (κ-numbers, tt) (at-list b-numbers o-numbers γ-numbers numbers, tt) tt res')))) (id⊢ 𝓤 _) $ await t' tt $ pick t' (λ res'. split t' $ move t' (1 ∷ []) $
-      use1 𝓛 (some (λ (zs' : Unit {0} × Unit {0}). ‵ (lasts callee'.ended (κ-numbers, tt) (at-list b-numbers o-numbers γ-numbers numbers, tt) zs') ⊛ raw (fact 𝓤 (res' ≡ numbersIn numbers)))) (id⊢ 𝓤 _) $ pick t' (λ zs'. split t' $ move t' (1 ∷ []) $ heard t' (res' ≡ numbersIn numbers) (λ e'.
+      use1 𝓛 (later (some (λ (res' : Numbers). ((‵ (flft κ-numbers q-numbers) ⊛ ‵ ftrue) ⊛ ‵ (R-Numbers.own res' (w' ∷ []))) ⊛ raw (ensured 𝓛 callee'.ended (callee'.clauses 𝓛 mem run) (κ-numbers, tt) (at_list b-numbers o-numbers γ-numbers numbers, tt) tt res')))) (id⊢ 𝓤 _) $ await t' tt $ pick t' (λ res'. split t' $ move t' (1 ∷ []) $
+      use1 𝓛 (some (λ (zs' : Unit {0} × Unit {0}). ‵ (lasts callee'.ended (κ-numbers, tt) (at_list b-numbers o-numbers γ-numbers numbers, tt) zs') ⊛ raw (fact 𝓤 (res' ≡ numbers_in numbers)))) (id⊢ 𝓤 _) $ pick t' (λ zs'. split t' $ move t' (1 ∷ []) $ heard t' (res' ≡ numbers_in numbers) (λ e'.
       fsplit t' $ drop t' $ drop t' $
       move t' (0 ∷ []) $ split t' $ move t' (1 ∷ []) $ peeks t' R-Numbers (Is R-Numbers) (shows 𝓛 R-Numbers) res' (w' ∷ []) (λ is'. drop t' $ split t' $ move t' (1 ∷ []) $ drop t' $
       move t' (1 ∷ 0 ∷ []) $ fjoin t' $

@@ -34,7 +34,7 @@ use denote.Triple.Clauses.{ensured, lasts}
 use denote.Triple.Walked.{says}
 use Prim.Native.Nat.{◌*◌, ◌≤◌}
 use Rattle.packed.specs.Pack.{converted}
-use Rattle.frames.proofs.Lent.{at-list, Mine, Yours, Lent, Shown, lend, home, show, back, give}
+use Rattle.frames.proofs.Lent.{at_list, Mine, Yours, Lent, Shown, lend, home, show, back, give}
 use Rattle.conversion.specs.contracts.pack.pack_nodes as callee'
 
 module _ {M : Type 1} {𝓤 : Ura M} (𝓛 : Logic 𝓤) (mem : Memory → SProp 𝓤) (run : Routine → Fun 𝓤) where
@@ -42,10 +42,10 @@ module _ {M : Type 1} {𝓤 : Ura M} (𝓛 : Logic 𝓤) (mem : Memory → SProp
   Asked = triple_of 𝓛 callee'.signature (callee'.spec 𝓛 mem run)
 
   abbrev pub to_step : (ν-pool : ℕ) (δ-pool : GName) (b-pool o-pool n-pool : ℕ) (pool : List ℕ) (nodes : ℕ) → Asked.Ghost
-  to_step ν-pool δ-pool b-pool o-pool n-pool pool nodes = ((((ν-pool ∷ []), tt), (full_share, tt), tt, (at-list b-pool o-pool δ-pool pool, (nodes, tt)), (slice_val (b-pool, o-pool) n-pool ∷ [], (vint w32 nodes ∷ [], tt))), tt)
+  to_step ν-pool δ-pool b-pool o-pool n-pool pool nodes = ((((ν-pool ∷ []), tt), (full_share, tt), tt, (at_list b-pool o-pool δ-pool pool, (nodes, tt)), (slice_val (b-pool, o-pool) n-pool ∷ [], (vint w32 nodes ∷ [], tt))), tt)
 
-  pub goes_step : (ν-pool : ℕ) (δ-pool : GName) (b-pool o-pool n-pool : ℕ) (pool : List ℕ) (nodes : ℕ) → (nodes-good : nodes < 2 ^ 32) (ok' : 4 * nodes ≤ length pool) → ent 𝓤 (⋆ 𝓛 (‵ (flft (ν-pool ∷ []) full_share) ∷ ‵ ((MutSlice (named 0) (ν-pool ∷ []) u32).own_val (at-list b-pool o-pool δ-pool pool) (slice_val (b-pool, o-pool) n-pool ∷ [])) ∷ [])) (Asked.pre (to_step ν-pool δ-pool b-pool o-pool n-pool pool nodes))
-  goes_step ν-pool δ-pool b-pool o-pool n-pool pool nodes nodes-good ok' = qed 𝓛 (‵ (flft (ν-pool ∷ []) full_share) ∷ ‵ ((MutSlice (named 0) (ν-pool ∷ []) u32).own_val (at-list b-pool o-pool δ-pool pool) (slice_val (b-pool, o-pool) n-pool ∷ [])) ∷ []) ∵ says ! ok' $ nothing ! $ move ! (1 ∷ 0 ∷ []) $ group ! 2 $ frame ! $
+  pub goes_step : (ν-pool : ℕ) (δ-pool : GName) (b-pool o-pool n-pool : ℕ) (pool : List ℕ) (nodes : ℕ) → (nodes-good : nodes < 2 ^ 32) (ok' : 4 * nodes ≤ length pool) → ent 𝓤 (⋆ 𝓛 (‵ (flft (ν-pool ∷ []) full_share) ∷ ‵ ((MutSlice (named 0) (ν-pool ∷ []) u32).own_val (at_list b-pool o-pool δ-pool pool) (slice_val (b-pool, o-pool) n-pool ∷ [])) ∷ [])) (Asked.pre (to_step ν-pool δ-pool b-pool o-pool n-pool pool nodes))
+  goes_step ν-pool δ-pool b-pool o-pool n-pool pool nodes nodes-good ok' = qed 𝓛 (‵ (flft (ν-pool ∷ []) full_share) ∷ ‵ ((MutSlice (named 0) (ν-pool ∷ []) u32).own_val (at_list b-pool o-pool δ-pool pool) (slice_val (b-pool, o-pool) n-pool ∷ [])) ∷ []) ∵ says ! ok' $ nothing ! $ move ! (1 ∷ 0 ∷ []) $ group ! 2 $ frame ! $
       nothing ! $ owned ! u32 (Is u32) (uint_Makes 𝓛 w32) nodes _ (refl, nodes-good) $ fjoin ! $ move ! (1 ∷ 0 ∷ []) $ fjoin ! $ done !
 
 module _ {M : Type 1} {𝓤 : Ura M} {𝓛 : Logic 𝓤} {K : Type 0} (mem : Memory → SProp 𝓤) (run : Routine → Fun 𝓤)
@@ -60,8 +60,8 @@ module _ {M : Type 1} {𝓤 : Ura M} {𝓛 : Logic 𝓤} {K : Type 0} (mem : Mem
       lend t' tt u32 b-pool o-pool n-pool pool len-pool (λ ν-pool δ-pool.
       move t' (0 ∷ 1 ∷ []) $ group t' 2 $ use1 𝓛 (raw ((Asked 𝓛 mem run).pre (to_step 𝓛 mem run ν-pool δ-pool b-pool o-pool n-pool pool nodes))) (goes_step 𝓛 mem run ν-pool δ-pool b-pool o-pool n-pool pool nodes nodes-good ok') $
       calls_at t' fm' (Asked 𝓛 mem run) known' (to_step 𝓛 mem run ν-pool δ-pool b-pool o-pool n-pool pool nodes) (os' ν-pool δ-pool) (λ w'.
-      use1 𝓛 (later (some (λ (res' : Unit {0}). ((‵ (flft (ν-pool ∷ []) full_share) ⊛ ‵ ftrue) ⊛ ‵ (unit.own_val res' (w' ∷ []))) ⊛ raw (ensured 𝓛 callee'.ended (callee'.clauses 𝓛 mem run) ((ν-pool ∷ []), tt) (at-list b-pool o-pool δ-pool pool, (nodes, tt)) tt res')))) (id⊢ 𝓤 _) $ await t' tt $ pick t' (λ res'. split t' $ move t' (1 ∷ []) $
-      use1 𝓛 (some (λ (zs' : List ℕ × (Unit {0} × Unit {0})). ‵ (lasts callee'.ended ((ν-pool ∷ []), tt) (at-list b-pool o-pool δ-pool pool, (nodes, tt)) zs') ⊛ raw (fact 𝓤 (zs'.0 ≡ converted nodes pool)))) (id⊢ 𝓤 _) $ pick t' (λ zs'. split t' $ move t' (1 ∷ []) $ heard t' (zs'.0 ≡ converted nodes pool) (λ e'.
+      use1 𝓛 (later (some (λ (res' : Unit {0}). ((‵ (flft (ν-pool ∷ []) full_share) ⊛ ‵ ftrue) ⊛ ‵ (unit.own_val res' (w' ∷ []))) ⊛ raw (ensured 𝓛 callee'.ended (callee'.clauses 𝓛 mem run) ((ν-pool ∷ []), tt) (at_list b-pool o-pool δ-pool pool, (nodes, tt)) tt res')))) (id⊢ 𝓤 _) $ await t' tt $ pick t' (λ res'. split t' $ move t' (1 ∷ []) $
+      use1 𝓛 (some (λ (zs' : List ℕ × (Unit {0} × Unit {0})). ‵ (lasts callee'.ended ((ν-pool ∷ []), tt) (at_list b-pool o-pool δ-pool pool, (nodes, tt)) zs') ⊛ raw (fact 𝓤 (zs'.0 ≡ converted nodes pool)))) (id⊢ 𝓤 _) $ pick t' (λ zs'. split t' $ move t' (1 ∷ []) $ heard t' (zs'.0 ≡ converted nodes pool) (λ e'.
       fsplit t' $ fsplit t' $ move t' (1 ∷ []) $ feq_l t' (λ same-pool. move t' (1 ∷ []) $ fsplit t' $ drop t' $ drop t' $
       move t' (1 ∷ []) $ split t' $ move t' (1 ∷ []) $ peeks t' unit (Is unit) (shows 𝓛 unit) res' (w' ∷ []) (λ is'. drop t' $ split t' $ move t' (1 ∷ []) $ drop t' $
       move t' (0 ∷ 2 ∷ 1 ∷ []) $ home t' tt u32 b-pool o-pool n-pool pool zs'.0 len-pool room-pool same-pool $

@@ -44,9 +44,9 @@ use denote.Triple.Statement.{Triple}
 use denote.Triple.Table.{entered, cited}
 use denote.Triple.Walked.{says, needs, Stays, stay_slice, stay_none, stay_none_slice, walk_of, Walks, ends_at, walked, Goes-slice, Goes-none, Goes-none_slice, walk_Meets}
 use borrow.Author.Rules.{scaled_Fits}
-use Rattle.frames.proofs.Lent.{at-list, Mine, Yours, ty_at, exit-unless, exit-if, leave-if, fork, skipped, regroup, matched, matched-last, const, is_true, is_false, not-not, differ, widen, less-fits, after, turn-of, take_out, put_in, put_back, look-out, look-back, free_all}
+use Rattle.frames.proofs.Lent.{at_list, Mine, Yours, ty_at, exit_unless, exit_if, leave_if, fork, skipped, regroup, matched, matched_last, const, is_true, is_false, not_not, differ, widen, less_fits, after, turn_of_lem, take_out, put_in, put_back, look_out, look_back, free_all}
 use Rattle.semantics.specs.Promises.{parts, IsConvertWith}
-use Rattle.semantics.specs.Remembering.{convertRemembering}
+use Rattle.semantics.specs.Remembering.{convert_remembering}
 use Rattle.conversion.proofs.Called.fit as S-fit
 use Rattle.engine.proofs.fit.Symbol as D-fit
 use Rattle.engine.proofs.fit.Symbol.{name as #fit}
@@ -104,7 +104,7 @@ module _ {M : Type 1} {𝓤 : Ura M} (𝓛 : Logic 𝓤) (mem : Memory → SProp
   n-work = length work
 
   abbrev args' : Bor (List ℕ) × (Bor (List ℕ) × (Bor (List Frame) × (Bor (List ℕ) × (Bor (List ℕ) × (Bor (List ℕ) × Unit {0})))))
-  args' = (at-list b-numbers o-numbers γ-numbers numbers, (at-list b-deques o-deques γ-deques deques, (at-list b-frames o-frames γ-frames frames, (at-list b-memory o-memory γ-memory memory, (at-list b-pool o-pool γ-pool pool, (at-list b-work o-work γ-work work, tt))))))
+  args' = (at_list b-numbers o-numbers γ-numbers numbers, (at_list b-deques o-deques γ-deques deques, (at_list b-frames o-frames γ-frames frames, (at_list b-memory o-memory γ-memory memory, (at_list b-pool o-pool γ-pool pool, (at_list b-work o-work γ-work work, tt))))))
 
   abbrev vals' : Vals f'.signature (κ-numbers, (κ-deques, (κ-frames, (κ-memory, (κ-pool, (κ-work, tt))))))
   vals' = (slice_val (b-numbers, o-numbers) (length numbers) ∷ [], (slice_val (b-deques, o-deques) (length deques) ∷ [], (slice_val (b-frames, o-frames) (length frames) ∷ [], (slice_val (b-memory, o-memory) (length memory) ∷ [], (slice_val (b-pool, o-pool) (length pool) ∷ [], (slice_val (b-work, o-work) (length work) ∷ [], tt))))))
@@ -115,10 +115,10 @@ module _ {M : Type 1} {𝓤 : Ura M} (𝓛 : Logic 𝓤) (mem : Memory → SProp
   abbrev Post : Val → SProp 𝓤
   Post = (walk_of 𝓛 f'.ended stayed (f'.clauses 𝓛 mem run)).post bound'
 
-  exits' : (res' : ℕ) (zs-memory : List ℕ) (zs-pool : List ℕ) (zs-work : List ℕ) → res' < 2 ^ 32 → IsConvertWith (convertRemembering (parts numbers deques frames) memory pool work) zs-memory zs-pool zs-work res' → length zs-memory ≡ length memory → length zs-pool ≡ length pool → length zs-work ≡ length work → ent 𝓤 (⋆ 𝓛 (‵ (Yours u32 κ-numbers q-numbers γ-numbers b-numbers o-numbers n-numbers numbers) ∷ ‵ (Yours u32 κ-deques q-deques γ-deques b-deques o-deques n-deques deques) ∷ ‵ (Yours R-Frame κ-frames q-frames γ-frames b-frames o-frames n-frames frames) ∷ ‵ (Mine u32 κ-memory q-memory γ-memory b-memory o-memory n-memory zs-memory) ∷ ‵ (Mine u32 κ-pool q-pool γ-pool b-pool o-pool n-pool zs-pool) ∷ ‵ (Mine u32 κ-work q-work γ-work b-work o-work n-work zs-work) ∷ [])) (Post (vint w32 res'))
-  exits' res' zs-memory zs-pool zs-work good' e' same_memory same-pool same-work =
+  exits' : (res' : ℕ) (zs-memory : List ℕ) (zs-pool : List ℕ) (zs-work : List ℕ) → res' < 2 ^ 32 → IsConvertWith (convert_remembering (parts numbers deques frames) memory pool work) zs-memory zs-pool zs-work res' → length zs-memory ≡ length memory → length zs-pool ≡ length pool → length zs-work ≡ length work → ent 𝓤 (⋆ 𝓛 (‵ (Yours u32 κ-numbers q-numbers γ-numbers b-numbers o-numbers n-numbers numbers) ∷ ‵ (Yours u32 κ-deques q-deques γ-deques b-deques o-deques n-deques deques) ∷ ‵ (Yours R-Frame κ-frames q-frames γ-frames b-frames o-frames n-frames frames) ∷ ‵ (Mine u32 κ-memory q-memory γ-memory b-memory o-memory n-memory zs-memory) ∷ ‵ (Mine u32 κ-pool q-pool γ-pool b-pool o-pool n-pool zs-pool) ∷ ‵ (Mine u32 κ-work q-work γ-work b-work o-work n-work zs-work) ∷ [])) (Post (vint w32 res'))
+  exits' res' zs-memory zs-pool zs-work good' e' same_memory same-pool same_work =
       qed 𝓛 (‵ (Yours u32 κ-numbers q-numbers γ-numbers b-numbers o-numbers n-numbers numbers) ∷ ‵ (Yours u32 κ-deques q-deques γ-deques b-deques o-deques n-deques deques) ∷ ‵ (Yours R-Frame κ-frames q-frames γ-frames b-frames o-frames n-frames frames) ∷ ‵ (Mine u32 κ-memory q-memory γ-memory b-memory o-memory n-memory zs-memory) ∷ ‵ (Mine u32 κ-pool q-pool γ-pool b-pool o-pool n-pool zs-pool) ∷ ‵ (Mine u32 κ-work q-work γ-work b-work o-work n-work zs-work) ∷ []) ∵
-      suffices ! _ (ends_at 𝓛 f'.ended stayed (f'.clauses 𝓛 mem run) bound' (vint w32 res') res' (tt, (tt, (tt, (zs-memory, (zs-pool, (zs-work, tt)))))) (tt, (tt, (tt, (same_memory, (same-pool, (same-work, tt))))))) $ says ! e' $
+      suffices ! _ (ends_at 𝓛 f'.ended stayed (f'.clauses 𝓛 mem run) bound' (vint w32 res') res' (tt, (tt, (tt, (zs-memory, (zs-pool, (zs-work, tt)))))) (tt, (tt, (tt, (same_memory, (same-pool, (same_work, tt))))))) $ says ! e' $
       fsplit ! $ move ! (2 ∷ []) $ fsplit ! $ move ! (4 ∷ []) $ fsplit ! $ move ! (6 ∷ []) $ fsplit ! $ move ! (8 ∷ []) $ fsplit ! $ move ! (10 ∷ []) $ fsplit ! $ nothing ! $ move ! (12 ∷ 10 ∷ 8 ∷ 6 ∷ 4 ∷ 2 ∷ 0 ∷ []) $ group ! 7 $ frame ! $
       nothing ! $ move ! (1 ∷ 0 ∷ []) $ fjoin ! $ move ! (1 ∷ 0 ∷ []) $ fjoin ! $ move ! (1 ∷ 0 ∷ []) $ fjoin ! $ move ! (1 ∷ 0 ∷ []) $ fjoin ! $ move ! (1 ∷ 0 ∷ []) $ fjoin ! $ move ! (1 ∷ 0 ∷ []) $ fjoin ! $ frame ! $
       owned ! u32 (Is u32) (uint_Makes 𝓛 w32) res' _ (refl, good') $ done !
@@ -142,7 +142,7 @@ module _ {M : Type 1} {𝓤 : Ura M} (𝓛 : Logic 𝓤) (mem : Memory → SProp
         (λ ν-0 δ-0. and_then ! (load ! (from ! (stop !)) (look ! 41 refl)) (and_then ! (load ! (from ! (stop !)) (look ! 39 refl)) (and_then ! (load ! (from ! (stop !)) (look ! 23 refl)) (no_more !)))) (λ r-1 r-1-is.
         land ! (from ! (stop !)) (init ! 26 refl (tt, tt)) $
         assigns ! (un ! (load ! (from ! (stop !)) (look ! 26 refl)) tt) (from ! (stop !)) (init ! 20 refl (tt, tt)) $
-        leave-if ! (load ! (from ! (stop !)) (look ! 20 refl))
+        leave_if ! (load ! (from ! (stop !)) (look ! 20 refl))
         (λ test-2.
         -- _0 = engine::entries::unfit()
         S-unfit.step mem run ! fm known-unfit
@@ -159,17 +159,17 @@ module _ {M : Type 1} {𝓤 : Ura M} (𝓛 : Logic 𝓤) (mem : Memory → SProp
         assigns ! (agg ! (and_then ! (load ! (from ! (stop !)) (look ! 14 refl)) (and_then ! (load ! (from ! (fld ! refl (stop !))) (look_in ! 30 (sub ! 1 refl (whole !)))) (no_more !)))) (from ! (stop !)) (init ! 12 refl (tt, (tt, (record { fits = room-work.0 }, tt)))) $
         -- _7 = conversion::convert_on(_1, _2, _3, _13, _15)
         move ! (0 ∷ 1 ∷ 3 ∷ 4 ∷ 5 ∷ []) $
-        S-convert-on.step-ggg mem run ! fm known-convert-on b-numbers o-numbers n-numbers numbers b-deques o-deques n-deques deques b-frames o-frames n-frames frames b-pool o-pool n-pool pool b-work o-work n-work work (F.needs-5 numbers deques frames memory pool work room-numbers.0 room-deques.0 room-frames.0 room-memory.0 room-pool.0 room-work.0 r-1 r-1-is (is_true r-1 (not-not r-1 test-2))) (refl) room-pool (refl) room-work
+        S-convert-on.step-ggg mem run ! fm known-convert-on b-numbers o-numbers n-numbers numbers b-deques o-deques n-deques deques b-frames o-frames n-frames frames b-pool o-pool n-pool pool b-work o-work n-work work (F.needs-5 numbers deques frames memory pool work room-numbers.0 room-deques.0 room-frames.0 room-memory.0 room-pool.0 room-work.0 r-1 r-1-is (is_true r-1 (not_not r-1 test-2))) (refl) room-pool (refl) room-work
         (λ ν-0 δ-0 ν-1 δ-1. and_then ! (load ! (from ! (stop !)) (look ! 41 refl)) (and_then ! (load ! (from ! (stop !)) (look ! 39 refl)) (and_then ! (load ! (from ! (stop !)) (look ! 37 refl)) (and_then ! (load ! (from ! (stop !)) (look ! 17 refl)) (and_then ! (load ! (from ! (stop !)) (look ! 13 refl)) (no_more !)))))) (λ refused pool-5 work-5 refused-fits refused-is same-pool-5 same-work-5.
         land ! (from ! (stop !)) (init ! 28 refl (tt, record { fits = refused-fits })) $
         assigns ! (bin ! (load ! (from ! (stop !)) (look ! 28 refl)) (const ! _ tt) tt) (from ! (stop !)) (store ! 26 refl (tt, tt)) $
-        leave-if ! (load ! (from ! (stop !)) (look ! 26 refl))
+        leave_if ! (load ! (from ! (stop !)) (look ! 26 refl))
         (λ test-6.
         assigns ! (of_opd ! (load ! (from ! (stop !)) (look ! 28 refl))) (from ! (stop !)) (init ! 42 refl (tt, record { fits = refused-fits })) $
         returns_within ! Post refl (look ! 42 refl) $ forget ! 12 refl $ forget ! 14 refl $ forget ! 16 refl $ forget ! 18 refl $ forget ! 20 refl $ forget ! 22 refl $ forget ! 24 refl $ forget ! 26 refl $ forget ! 28 refl $ forget ! 30 refl $ forget ! 32 refl $ forget ! 34 refl $ forget ! 36 refl $ forget ! 38 refl $ forget ! 40 refl $ forget ! 42 refl $
         free_all ! 6 refl $
         move ! (0 ∷ 1 ∷ 2 ∷ 5 ∷ 3 ∷ 4 ∷ []) $
-        by ! (exits' refused memory pool-5 work-5 refused-fits (F.out-7 numbers deques frames memory pool work room-numbers.0 room-deques.0 room-frames.0 room-memory.0 room-pool.0 room-work.0 r-1 r-1-is (is_true r-1 (not-not r-1 test-2)) refused pool-5 work-5 refused-fits refused-is same-pool-5 same-work-5 (differ refused 0 test-6)) (refl) (same-pool-5) (same-work-5)))
+        by ! (exits' refused memory pool-5 work-5 refused-fits (F.out-7 numbers deques frames memory pool work room-numbers.0 room-deques.0 room-frames.0 room-memory.0 room-pool.0 room-work.0 r-1 r-1-is (is_true r-1 (not_not r-1 test-2)) refused pool-5 work-5 refused-fits refused-is same-pool-5 same-work-5 (differ refused 0 test-6)) (refl) (same-pool-5) (same-work-5)))
         (λ test-6.
         assigns ! (addr ! (from ! (fld ! refl (hop ! (look_in ! 34 (sub ! 0 refl (whole !))) (stop !))))) (from ! (stop !)) (init ! 8 refl (tt, tt)) $
         assigns ! (agg ! (and_then ! (load ! (from ! (stop !)) (look ! 8 refl)) (and_then ! (load ! (from ! (fld ! refl (stop !))) (look_in ! 34 (sub ! 1 refl (whole !)))) (no_more !)))) (from ! (stop !)) (init ! 6 refl (tt, (tt, (record { fits = room-memory.0 }, tt)))) $
@@ -182,7 +182,7 @@ module _ {M : Type 1} {𝓤 : Ura M} (𝓛 : Logic 𝓤) (mem : Memory → SProp
         returns_within ! Post refl (look ! 42 refl) $ forget ! 6 refl $ forget ! 8 refl $ forget ! 10 refl $ forget ! 12 refl $ forget ! 14 refl $ forget ! 16 refl $ forget ! 18 refl $ forget ! 20 refl $ forget ! 22 refl $ forget ! 24 refl $ forget ! 26 refl $ forget ! 28 refl $ forget ! 30 refl $ forget ! 32 refl $ forget ! 34 refl $ forget ! 36 refl $ forget ! 38 refl $ forget ! 40 refl $ forget ! 42 refl $
         free_all ! 6 refl $
         move ! (1 ∷ 2 ∷ 3 ∷ 0 ∷ 4 ∷ 5 ∷ []) $
-        by ! (exits' 0 memory-8 pool-5 work-5 (lit< tt) (F.out-9 numbers deques frames memory pool work room-numbers.0 room-deques.0 room-frames.0 room-memory.0 room-pool.0 room-work.0 r-1 r-1-is (is_true r-1 (not-not r-1 test-2)) refused pool-5 work-5 refused-fits refused-is same-pool-5 same-work-5 (eqb→eq refused 0 (not-not (eqb refused 0) test-6)) memory-8 done-8 same-memory-8) (same-memory-8) (same-pool-5) (same-work-5))))))))))))))))))))))))))
+        by ! (exits' 0 memory-8 pool-5 work-5 (lit< tt) (F.out-9 numbers deques frames memory pool work room-numbers.0 room-deques.0 room-frames.0 room-memory.0 room-pool.0 room-work.0 r-1 r-1-is (is_true r-1 (not_not r-1 test-2)) refused pool-5 work-5 refused-fits refused-is same-pool-5 same-work-5 (eqb→eq refused 0 (not_not (eqb refused 0) test-6)) memory-8 done-8 same-memory-8) (same-memory-8) (same-pool-5) (same-work-5))))))))))))))))))))))))))
 
 module _ {M : Type 1} {𝓤 : Ura M} (𝓛 : Logic 𝓤) (mem : Memory → SProp 𝓤) (run : Routine → Fun 𝓤) (𝓣 : Tables 𝓤 𝓛.H) where
   open 𝓛 use {H}

@@ -44,8 +44,8 @@ use denote.Triple.Statement.{Triple}
 use denote.Triple.Table.{entered, cited}
 use denote.Triple.Walked.{says, needs, Stays, stay_slice, stay_none, stay_none_slice, walk_of, Walks, ends_at, walked, Goes-slice, Goes-none, Goes-none_slice, walk_Meets}
 use borrow.Author.Rules.{scaled_Fits}
-use Rattle.frames.proofs.Lent.{at-list, Mine, Yours, ty_at, exit-unless, exit-if, leave-if, fork, skipped, regroup, matched, matched-last, const, is_true, is_false, not-not, differ, widen, less-fits, after, turn-of, take_out, put_in, put_back, look-out, look-back, free_all}
-use Rattle.semantics.specs.Convert.{convertWith}
+use Rattle.frames.proofs.Lent.{at_list, Mine, Yours, ty_at, exit_unless, exit_if, leave_if, fork, skipped, regroup, matched, matched_last, const, is_true, is_false, not_not, differ, widen, less_fits, after, turn_of_lem, take_out, put_in, put_back, look_out, look_back, free_all}
+use Rattle.semantics.specs.Convert.{convert_with}
 use Rattle.semantics.specs.Promises.{parts, Fits, IsConvert}
 use Rattle.conversion.proofs.Called.check_old as S-check-old
 use Rattle.conversion.proofs.checking.check_old.Symbol as D-check-old
@@ -119,7 +119,7 @@ module _ {M : Type 1} {𝓤 : Ura M} (𝓛 : Logic 𝓤) (mem : Memory → SProp
   n-work = length work
 
   abbrev args' : Bor (List ℕ) × (Bor (List ℕ) × (Bor (List Frame) × (Bor (List ℕ) × (Bor (List ℕ) × Unit {0}))))
-  args' = (at-list b-numbers o-numbers γ-numbers numbers, (at-list b-deques o-deques γ-deques deques, (at-list b-frames o-frames γ-frames frames, (at-list b-pool o-pool γ-pool pool, (at-list b-work o-work γ-work work, tt)))))
+  args' = (at_list b-numbers o-numbers γ-numbers numbers, (at_list b-deques o-deques γ-deques deques, (at_list b-frames o-frames γ-frames frames, (at_list b-pool o-pool γ-pool pool, (at_list b-work o-work γ-work work, tt)))))
 
   abbrev vals' : Vals f'.signature (κ-numbers, (κ-deques, (κ-frames, (κ-pool, (κ-work, tt)))))
   vals' = (slice_val (b-numbers, o-numbers) (length numbers) ∷ [], (slice_val (b-deques, o-deques) (length deques) ∷ [], (slice_val (b-frames, o-frames) (length frames) ∷ [], (slice_val (b-pool, o-pool) (length pool) ∷ [], (slice_val (b-work, o-work) (length work) ∷ [], tt)))))
@@ -130,10 +130,10 @@ module _ {M : Type 1} {𝓤 : Ura M} (𝓛 : Logic 𝓤) (mem : Memory → SProp
   abbrev Post : Val → SProp 𝓤
   Post = (walk_of 𝓛 f'.ended stayed (f'.clauses 𝓛 mem run)).post bound'
 
-  exits' : (res' : ℕ) (zs-pool : List ℕ) (zs-work : List ℕ) → res' < 2 ^ 32 → IsConvert (convertWith (parts numbers deques frames) pool work) zs-pool zs-work res' → length zs-pool ≡ length pool → length zs-work ≡ length work → ent 𝓤 (⋆ 𝓛 (‵ (Yours u32 κ-numbers q-numbers γ-numbers b-numbers o-numbers n-numbers numbers) ∷ ‵ (Yours u32 κ-deques q-deques γ-deques b-deques o-deques n-deques deques) ∷ ‵ (Yours R-Frame κ-frames q-frames γ-frames b-frames o-frames n-frames frames) ∷ ‵ (Mine u32 κ-pool q-pool γ-pool b-pool o-pool n-pool zs-pool) ∷ ‵ (Mine u32 κ-work q-work γ-work b-work o-work n-work zs-work) ∷ [])) (Post (vint w32 res'))
-  exits' res' zs-pool zs-work good' e' same-pool same-work =
+  exits' : (res' : ℕ) (zs-pool : List ℕ) (zs-work : List ℕ) → res' < 2 ^ 32 → IsConvert (convert_with (parts numbers deques frames) pool work) zs-pool zs-work res' → length zs-pool ≡ length pool → length zs-work ≡ length work → ent 𝓤 (⋆ 𝓛 (‵ (Yours u32 κ-numbers q-numbers γ-numbers b-numbers o-numbers n-numbers numbers) ∷ ‵ (Yours u32 κ-deques q-deques γ-deques b-deques o-deques n-deques deques) ∷ ‵ (Yours R-Frame κ-frames q-frames γ-frames b-frames o-frames n-frames frames) ∷ ‵ (Mine u32 κ-pool q-pool γ-pool b-pool o-pool n-pool zs-pool) ∷ ‵ (Mine u32 κ-work q-work γ-work b-work o-work n-work zs-work) ∷ [])) (Post (vint w32 res'))
+  exits' res' zs-pool zs-work good' e' same-pool same_work =
       qed 𝓛 (‵ (Yours u32 κ-numbers q-numbers γ-numbers b-numbers o-numbers n-numbers numbers) ∷ ‵ (Yours u32 κ-deques q-deques γ-deques b-deques o-deques n-deques deques) ∷ ‵ (Yours R-Frame κ-frames q-frames γ-frames b-frames o-frames n-frames frames) ∷ ‵ (Mine u32 κ-pool q-pool γ-pool b-pool o-pool n-pool zs-pool) ∷ ‵ (Mine u32 κ-work q-work γ-work b-work o-work n-work zs-work) ∷ []) ∵
-      suffices ! _ (ends_at 𝓛 f'.ended stayed (f'.clauses 𝓛 mem run) bound' (vint w32 res') res' (tt, (tt, (tt, (zs-pool, (zs-work, tt))))) (tt, (tt, (tt, (same-pool, (same-work, tt)))))) $ says ! e' $
+      suffices ! _ (ends_at 𝓛 f'.ended stayed (f'.clauses 𝓛 mem run) bound' (vint w32 res') res' (tt, (tt, (tt, (zs-pool, (zs-work, tt))))) (tt, (tt, (tt, (same-pool, (same_work, tt)))))) $ says ! e' $
       fsplit ! $ move ! (2 ∷ []) $ fsplit ! $ move ! (4 ∷ []) $ fsplit ! $ move ! (6 ∷ []) $ fsplit ! $ move ! (8 ∷ []) $ fsplit ! $ nothing ! $ move ! (10 ∷ 8 ∷ 6 ∷ 4 ∷ 2 ∷ 0 ∷ []) $ group ! 6 $ frame ! $
       nothing ! $ move ! (1 ∷ 0 ∷ []) $ fjoin ! $ move ! (1 ∷ 0 ∷ []) $ fjoin ! $ move ! (1 ∷ 0 ∷ []) $ fjoin ! $ move ! (1 ∷ 0 ∷ []) $ fjoin ! $ move ! (1 ∷ 0 ∷ []) $ fjoin ! $ frame ! $
       owned ! u32 (Is u32) (uint_Makes 𝓛 w32) res' _ (refl, good') $ done !
@@ -162,7 +162,7 @@ module _ {M : Type 1} {𝓤 : Ura M} (𝓛 : Logic 𝓤) (mem : Memory → SProp
         (and_then ! (load ! (from ! (stop !)) (look ! 22 refl)) (no_more !)) (λ refused refused-fits refused-is.
         land ! (from ! (stop !)) (init ! 25 refl (tt, record { fits = refused-fits })) $
         assigns ! (bin ! (load ! (from ! (stop !)) (look ! 25 refl)) (const ! _ tt) tt) (from ! (stop !)) (init ! 11 refl (tt, tt)) $
-        leave-if ! (load ! (from ! (stop !)) (look ! 11 refl))
+        leave_if ! (load ! (from ! (stop !)) (look ! 11 refl))
         (λ test-3.
         assigns ! (of_opd ! (load ! (from ! (stop !)) (look ! 25 refl))) (from ! (stop !)) (init ! 37 refl (tt, record { fits = refused-fits })) $
         returns_within ! Post refl (look ! 37 refl) $ forget ! 11 refl $ forget ! 13 refl $ forget ! 15 refl $ forget ! 17 refl $ forget ! 19 refl $ forget ! 21 refl $ forget ! 25 refl $ forget ! 27 refl $ forget ! 29 refl $ forget ! 31 refl $ forget ! 33 refl $ forget ! 35 refl $ forget ! 37 refl $
@@ -170,21 +170,21 @@ module _ {M : Type 1} {𝓤 : Ura M} (𝓛 : Logic 𝓤) (mem : Memory → SProp
         by ! (exits' refused pool work-1 refused-fits (F.out-4 numbers deques frames pool work room-numbers.0 room-deques.0 room-frames.0 room-pool.0 room-work.0 ok' r-1 work-1 r-1-is same-work-1 refused refused-fits refused-is (differ refused 0 test-3)) (refl) (same-work-1)))
         (λ test-3.
         -- _7 = engine::numbers::numbers_in(_1)
-        S-numbers-in.step-g mem run ! fm known-numbers-in b-numbers o-numbers n-numbers numbers (F.needs-5 numbers deques frames pool work room-numbers.0 room-deques.0 room-frames.0 room-pool.0 room-work.0 ok' r-1 work-1 r-1-is same-work-1 refused refused-fits refused-is (eqb→eq refused 0 (not-not (eqb refused 0) test-3)))
+        S-numbers-in.step-g mem run ! fm known-numbers-in b-numbers o-numbers n-numbers numbers (F.needs-5 numbers deques frames pool work room-numbers.0 room-deques.0 room-frames.0 room-pool.0 room-work.0 ok' r-1 work-1 r-1-is same-work-1 refused refused-fits refused-is (eqb→eq refused 0 (not_not (eqb refused 0) test-3)))
         (and_then ! (load ! (from ! (stop !)) (look ! 36 refl)) (no_more !)) (λ n n-good n-is.
         land ! (from ! (stop !)) (init ! 23 refl ((LL.lawful M-Numbers.the_type L-Numbers.the_laws 𝓛).typed n _ n-good).0) $
         assigns ! (addr ! (from ! (fld ! refl (hop ! (look_in ! 29 (sub ! 0 refl (whole !))) (stop !))))) (from ! (stop !)) (init ! 7 refl (tt, tt)) $
         assigns ! (agg ! (and_then ! (load ! (from ! (stop !)) (look ! 7 refl)) (and_then ! (load ! (from ! (fld ! refl (stop !))) (look_in ! 29 (sub ! 1 refl (whole !)))) (no_more !)))) (from ! (stop !)) (init ! 5 refl (tt, (tt, (record { fits = room-pool.0 }, tt)))) $
         -- _14 = conversion::pack::pack_nodes(_16, _7.2)
         move ! (3 ∷ []) $
-        S-pack-nodes.step mem run ! fm known-pack-nodes b-pool o-pool n-pool pool n.nodes (LL.owed M-Numbers.the_type L-Numbers.the_laws n _ n-good).1.1.0.1 (F.needs-6 numbers deques frames pool work room-numbers.0 room-deques.0 room-frames.0 room-pool.0 room-work.0 ok' r-1 work-1 r-1-is same-work-1 refused refused-fits refused-is (eqb→eq refused 0 (not-not (eqb refused 0) test-3)) n n-is) (refl) room-pool
+        S-pack-nodes.step mem run ! fm known-pack-nodes b-pool o-pool n-pool pool n.nodes (LL.owed M-Numbers.the_type L-Numbers.the_laws n _ n-good).1.1.0.1 (F.needs-6 numbers deques frames pool work room-numbers.0 room-deques.0 room-frames.0 room-pool.0 room-work.0 ok' r-1 work-1 r-1-is same-work-1 refused refused-fits refused-is (eqb→eq refused 0 (not_not (eqb refused 0) test-3)) n n-is) (refl) room-pool
         (λ ν-0 δ-0. and_then ! (load ! (from ! (stop !)) (look ! 6 refl)) (and_then ! (load ! (from ! (fld ! refl (stop !))) (look_in ! 24 (sub ! 2 refl (whole !)))) (no_more !))) (λ pool-6 done-6 same-pool-6.
         land ! (from ! (stop !)) (init ! 9 refl (tt, tt)) $
         assigns ! (of_opd ! (const ! _ tt)) (from ! (stop !)) (init ! 37 refl (tt, record { fits = (lit< tt) })) $
         returns_within ! Post refl (look ! 37 refl) $ forget ! 5 refl $ forget ! 7 refl $ forget ! 9 refl $ forget ! 11 refl $ forget ! 13 refl $ forget ! 15 refl $ forget ! 17 refl $ forget ! 19 refl $ forget ! 21 refl $ forget ! 23 refl $ forget ! 25 refl $ forget ! 27 refl $ forget ! 29 refl $ forget ! 31 refl $ forget ! 33 refl $ forget ! 35 refl $ forget ! 37 refl $
         free_all ! 5 refl $
         move ! (1 ∷ 2 ∷ 3 ∷ 0 ∷ 4 ∷ []) $
-        by ! (exits' 0 pool-6 work-1 (lit< tt) (F.out-7 numbers deques frames pool work room-numbers.0 room-deques.0 room-frames.0 room-pool.0 room-work.0 ok' r-1 work-1 r-1-is same-work-1 refused refused-fits refused-is (eqb→eq refused 0 (not-not (eqb refused 0) test-3)) n n-is pool-6 done-6 same-pool-6) (same-pool-6) (same-work-1))))))))))))))))))))))))
+        by ! (exits' 0 pool-6 work-1 (lit< tt) (F.out-7 numbers deques frames pool work room-numbers.0 room-deques.0 room-frames.0 room-pool.0 room-work.0 ok' r-1 work-1 r-1-is same-work-1 refused refused-fits refused-is (eqb→eq refused 0 (not_not (eqb refused 0) test-3)) n n-is pool-6 done-6 same-pool-6) (same-pool-6) (same-work-1))))))))))))))))))))))))
 
 module _ {M : Type 1} {𝓤 : Ura M} (𝓛 : Logic 𝓤) (mem : Memory → SProp 𝓤) (run : Routine → Fun 𝓤) (𝓣 : Tables 𝓤 𝓛.H) where
   open 𝓛 use {H}
@@ -209,5 +209,5 @@ convert-on-spec 𝓤 𝓛 𝓜 𝓡 =
     (meets 𝓛 𝓜.mem 𝓡.run (tables_of 𝓤 𝓛.H 𝓜 (tables 𝓤 𝓛.H 𝓜 𝓡 code.env))
     (cited 𝓤 𝓛.H (S-check-old.Asked 𝓛 𝓜.mem 𝓡.run) 𝓜 𝓡 code.env #check-old D-check-old.routine code.calls-conversion::checking::check-old (T-check-old.met 𝓤 𝓛 𝓜 𝓡))
     (cited 𝓤 𝓛.H (S-check-number.Asked 𝓛 𝓜.mem 𝓡.run) 𝓜 𝓡 code.env #check-number D-check-number.routine code.calls-engine::check-number (T-check-number.met 𝓤 𝓛 𝓜 𝓡))
-    (cited 𝓤 𝓛.H (S-numbers-in.Asked 𝓛 𝓜.mem 𝓡.run) 𝓜 𝓡 code.env #numbers-in D-numbers-in.routine code.calls-engine::numbers-in (T-numbers-in.met 𝓤 𝓛 𝓜 𝓡))
+    (cited 𝓤 𝓛.H (S-numbers-in.Asked 𝓛 𝓜.mem 𝓡.run) 𝓜 𝓡 code.env #numbers-in D-numbers-in.routine code.calls-engine::numbers_in_lem (T-numbers-in.met 𝓤 𝓛 𝓜 𝓡))
     (cited 𝓤 𝓛.H (S-pack-nodes.Asked 𝓛 𝓜.mem 𝓡.run) 𝓜 𝓡 code.env #pack-nodes D-pack-nodes.routine code.calls-conversion::pack::pack-nodes (T-pack-nodes.met 𝓤 𝓛 𝓜 𝓡)))

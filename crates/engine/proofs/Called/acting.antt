@@ -35,7 +35,7 @@ use Rattle.semantics.specs.declared.Head.{Head}
 use Rattle.engine.specs.contracts.Acting as M-Acting
 use Rattle.engine.proofs.Acting.TheLaws as L-Acting
 use Rattle.engine.specs.declared.Acting.{Acting}
-use Rattle.frames.proofs.Lent.{at-list, Mine, Yours, Lent, Shown, lend, home, show, back, give}
+use Rattle.frames.proofs.Lent.{at_list, Mine, Yours, Lent, Shown, lend, home, show, back, give}
 use Rattle.engine.specs.contracts.refusals.acting as callee'
 
 abbrev R-Head : RattleType
@@ -55,10 +55,10 @@ module _ {M : Type 1} {𝓤 : Ura M} (𝓛 : Logic 𝓤) (mem : Memory → SProp
   Asked = triple_of 𝓛 callee'.signature (callee'.spec 𝓛 mem run)
 
   abbrev pub to-step-s : (ν-deques : ℕ) (δ-deques : GName) (b-deques o-deques n-deques : ℕ) (deques : List ℕ) (h : Head) (w : ℕ) → Asked.Ghost
-  to-step-s ν-deques δ-deques b-deques o-deques n-deques deques h w = ((((ν-deques ∷ []), tt), (full_share, tt), tt, (h, (at-list b-deques o-deques δ-deques deques, (w, tt))), (val-Head h ∷ [], (slice_val (b-deques, o-deques) n-deques ∷ [], (vint w32 w ∷ [], tt)))), tt)
+  to-step-s ν-deques δ-deques b-deques o-deques n-deques deques h w = ((((ν-deques ∷ []), tt), (full_share, tt), tt, (h, (at_list b-deques o-deques δ-deques deques, (w, tt))), (val-Head h ∷ [], (slice_val (b-deques, o-deques) n-deques ∷ [], (vint w32 w ∷ [], tt)))), tt)
 
-  pub goes-step-s : (ν-deques : ℕ) (δ-deques : GName) (b-deques o-deques n-deques : ℕ) (deques : List ℕ) (h : Head) (w : ℕ) → (h-good : Is R-Head h (val-Head h ∷ [])) (w-good : w < 2 ^ 32) (ok' : SizesIn h.numbers.workers deques) → ent 𝓤 (⋆ 𝓛 (‵ (flft (ν-deques ∷ []) full_share) ∷ ‵ ((ShrSlice (named 0) (ν-deques ∷ []) u32).own_val (at-list b-deques o-deques δ-deques deques) (slice_val (b-deques, o-deques) n-deques ∷ [])) ∷ [])) (Asked.pre (to-step-s ν-deques δ-deques b-deques o-deques n-deques deques h w))
-  goes-step-s ν-deques δ-deques b-deques o-deques n-deques deques h w h-good w-good ok' = qed 𝓛 (‵ (flft (ν-deques ∷ []) full_share) ∷ ‵ ((ShrSlice (named 0) (ν-deques ∷ []) u32).own_val (at-list b-deques o-deques δ-deques deques) (slice_val (b-deques, o-deques) n-deques ∷ [])) ∷ []) ∵ says ! ok' $ nothing ! $ move ! (1 ∷ 0 ∷ []) $ group ! 2 $ frame ! $
+  pub goes-step-s : (ν-deques : ℕ) (δ-deques : GName) (b-deques o-deques n-deques : ℕ) (deques : List ℕ) (h : Head) (w : ℕ) → (h-good : Is R-Head h (val-Head h ∷ [])) (w-good : w < 2 ^ 32) (ok' : SizesIn h.numbers.workers deques) → ent 𝓤 (⋆ 𝓛 (‵ (flft (ν-deques ∷ []) full_share) ∷ ‵ ((ShrSlice (named 0) (ν-deques ∷ []) u32).own_val (at_list b-deques o-deques δ-deques deques) (slice_val (b-deques, o-deques) n-deques ∷ [])) ∷ [])) (Asked.pre (to-step-s ν-deques δ-deques b-deques o-deques n-deques deques h w))
+  goes-step-s ν-deques δ-deques b-deques o-deques n-deques deques h w h-good w-good ok' = qed 𝓛 (‵ (flft (ν-deques ∷ []) full_share) ∷ ‵ ((ShrSlice (named 0) (ν-deques ∷ []) u32).own_val (at_list b-deques o-deques δ-deques deques) (slice_val (b-deques, o-deques) n-deques ∷ [])) ∷ []) ∵ says ! ok' $ nothing ! $ move ! (1 ∷ 0 ∷ []) $ group ! 2 $ frame ! $
       nothing ! $ owned ! u32 (Is u32) (uint_Makes 𝓛 w32) w _ (refl, w-good) $ fjoin ! $ move ! (1 ∷ 0 ∷ []) $ fjoin ! $ owned ! R-Head (Is R-Head) (LL.makes M-Head.the_type L-Head.the_plain 𝓛) h _ h-good $ fjoin ! $ done !
 
 module _ {M : Type 1} {𝓤 : Ura M} {𝓛 : Logic 𝓤} {K : Type 0} (mem : Memory → SProp 𝓤) (run : Routine → Fun 𝓤)
@@ -73,8 +73,8 @@ module _ {M : Type 1} {𝓤 : Ura M} {𝓛 : Logic 𝓤} {K : Type 0} (mem : Mem
       show t' tt u32 b-deques o-deques n-deques deques len-deques (λ ν-deques δ-deques.
       move t' (0 ∷ 1 ∷ []) $ group t' 2 $ use1 𝓛 (raw ((Asked 𝓛 mem run).pre (to-step-s 𝓛 mem run ν-deques δ-deques b-deques o-deques n-deques deques h w))) (goes-step-s 𝓛 mem run ν-deques δ-deques b-deques o-deques n-deques deques h w h-good w-good ok') $
       calls_at t' fm' (Asked 𝓛 mem run) known' (to-step-s 𝓛 mem run ν-deques δ-deques b-deques o-deques n-deques deques h w) (os' ν-deques δ-deques) (λ w'.
-      use1 𝓛 (later (some (λ (res' : Acting). ((‵ (flft (ν-deques ∷ []) full_share) ⊛ ‵ ftrue) ⊛ ‵ (R-Acting.own res' (w' ∷ []))) ⊛ raw (ensured 𝓛 callee'.ended (callee'.clauses 𝓛 mem run) ((ν-deques ∷ []), tt) (h, (at-list b-deques o-deques δ-deques deques, (w, tt))) tt res')))) (id⊢ 𝓤 _) $ await t' tt $ pick t' (λ res'. split t' $ move t' (1 ∷ []) $
-      use1 𝓛 (some (λ (zs' : Unit {0} × (Unit {0} × (Unit {0} × Unit {0}))). ‵ (lasts callee'.ended ((ν-deques ∷ []), tt) (h, (at-list b-deques o-deques δ-deques deques, (w, tt))) zs') ⊛ raw (fact 𝓤 (IsActing (core h [] deques [] []) w res')))) (id⊢ 𝓤 _) $ pick t' (λ zs'. split t' $ move t' (1 ∷ []) $ heard t' (IsActing (core h [] deques [] []) w res') (λ e'.
+      use1 𝓛 (later (some (λ (res' : Acting). ((‵ (flft (ν-deques ∷ []) full_share) ⊛ ‵ ftrue) ⊛ ‵ (R-Acting.own res' (w' ∷ []))) ⊛ raw (ensured 𝓛 callee'.ended (callee'.clauses 𝓛 mem run) ((ν-deques ∷ []), tt) (h, (at_list b-deques o-deques δ-deques deques, (w, tt))) tt res')))) (id⊢ 𝓤 _) $ await t' tt $ pick t' (λ res'. split t' $ move t' (1 ∷ []) $
+      use1 𝓛 (some (λ (zs' : Unit {0} × (Unit {0} × (Unit {0} × Unit {0}))). ‵ (lasts callee'.ended ((ν-deques ∷ []), tt) (h, (at_list b-deques o-deques δ-deques deques, (w, tt))) zs') ⊛ raw (fact 𝓤 (IsActing (core h [] deques [] []) w res')))) (id⊢ 𝓤 _) $ pick t' (λ zs'. split t' $ move t' (1 ∷ []) $ heard t' (IsActing (core h [] deques [] []) w res') (λ e'.
       fsplit t' $ drop t' $ fsplit t' $ drop t' $ fsplit t' $ drop t' $ drop t' $
       move t' (0 ∷ []) $ split t' $ move t' (1 ∷ []) $ peeks t' R-Acting (Is R-Acting) (shows 𝓛 R-Acting) res' (w' ∷ []) (λ is'. drop t' $ split t' $ move t' (1 ∷ []) $ drop t' $
       move t' (0 ∷ 1 ∷ []) $ back t' tt u32 b-deques o-deques n-deques deques len-deques room-deques $

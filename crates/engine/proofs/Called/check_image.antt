@@ -28,12 +28,12 @@ use denote.Triple.Statement.{Contract, Triple}
 use denote.Triple.Call.{calls_at, calls_at_last}
 use denote.Triple.Clauses.{ensured, lasts}
 use denote.Triple.Walked.{says}
-use Rattle.image.specs.Image.{imageCheck}
+use Rattle.image.specs.Image.{image_check}
 use Rattle.soundness.specs.Layout.{two_words}
 use Rattle.image.specs.contracts.ImageCheck as M-ImageCheck
 use Rattle.image.proofs.ImageCheck.TheLaws as L-ImageCheck
 use Rattle.image.specs.declared.ImageCheck.{ImageCheck}
-use Rattle.frames.proofs.Lent.{at-list, Mine, Yours, Lent, Shown, lend, home, show, back, give}
+use Rattle.frames.proofs.Lent.{at_list, Mine, Yours, Lent, Shown, lend, home, show, back, give}
 use Rattle.image.specs.contracts.check_image as callee'
 
 abbrev R-ImageCheck : RattleType
@@ -47,10 +47,10 @@ module _ {M : Type 1} {𝓤 : Ura M} (𝓛 : Logic 𝓤) (mem : Memory → SProp
   Asked = triple_of 𝓛 callee'.signature (callee'.spec 𝓛 mem run)
 
   abbrev pub to-step-g : (κ-image : Lft) (q-image : Share) (γ-image : GName) (b-image o-image n-image : ℕ) (image : List ℕ) → Asked.Ghost
-  to-step-g κ-image q-image γ-image b-image o-image n-image image = (((κ-image, tt), (q-image, tt), tt, (at-list b-image o-image γ-image image, tt), (slice_val (b-image, o-image) n-image ∷ [], tt)), tt)
+  to-step-g κ-image q-image γ-image b-image o-image n-image image = (((κ-image, tt), (q-image, tt), tt, (at_list b-image o-image γ-image image, tt), (slice_val (b-image, o-image) n-image ∷ [], tt)), tt)
 
-  pub goes-step-g : (κ-image : Lft) (q-image : Share) (γ-image : GName) (b-image o-image n-image : ℕ) (image : List ℕ) → ent 𝓤 (⋆ 𝓛 (‵ (flft κ-image q-image) ∷ ‵ ((ShrSlice (named 0) κ-image u8).own_val (at-list b-image o-image γ-image image) (slice_val (b-image, o-image) n-image ∷ [])) ∷ [])) (Asked.pre (to-step-g κ-image q-image γ-image b-image o-image n-image image))
-  goes-step-g κ-image q-image γ-image b-image o-image n-image image = qed 𝓛 (‵ (flft κ-image q-image) ∷ ‵ ((ShrSlice (named 0) κ-image u8).own_val (at-list b-image o-image γ-image image) (slice_val (b-image, o-image) n-image ∷ [])) ∷ []) ∵ nothing ! $ move ! (1 ∷ 0 ∷ []) $ group ! 2 $ move ! (1 ∷ 0 ∷ []) $
+  pub goes-step-g : (κ-image : Lft) (q-image : Share) (γ-image : GName) (b-image o-image n-image : ℕ) (image : List ℕ) → ent 𝓤 (⋆ 𝓛 (‵ (flft κ-image q-image) ∷ ‵ ((ShrSlice (named 0) κ-image u8).own_val (at_list b-image o-image γ-image image) (slice_val (b-image, o-image) n-image ∷ [])) ∷ [])) (Asked.pre (to-step-g κ-image q-image γ-image b-image o-image n-image image))
+  goes-step-g κ-image q-image γ-image b-image o-image n-image image = qed 𝓛 (‵ (flft κ-image q-image) ∷ ‵ ((ShrSlice (named 0) κ-image u8).own_val (at_list b-image o-image γ-image image) (slice_val (b-image, o-image) n-image ∷ [])) ∷ []) ∵ nothing ! $ move ! (1 ∷ 0 ∷ []) $ group ! 2 $ move ! (1 ∷ 0 ∷ []) $
       nothing ! $ move ! (1 ∷ 0 ∷ []) $ fjoin ! $ move ! (1 ∷ 0 ∷ []) $ join ! $ frame ! $ done !
 
 module _ {M : Type 1} {𝓤 : Ura M} {𝓛 : Logic 𝓤} {K : Type 0} (mem : Memory → SProp 𝓤) (run : Routine → Fun 𝓤)
@@ -58,15 +58,15 @@ module _ {M : Type 1} {𝓤 : Ura M} {𝓛 : Logic 𝓤} {K : Type 0} (mem : Mem
   open 𝓛 use {H}
 
   pub step-g : K → FmC 𝓤 H 𝓛.laws C → Triple 𝓤 (C name') (Asked 𝓛 mem run) → {κ-image : Lft} {q-image : Share} {γ-image : GName} → (b-image o-image n-image : ℕ) (image : List ℕ) →
-      (Opds K 𝓛 (raw ((Asked 𝓛 mem run).pre (to-step-g 𝓛 mem run κ-image q-image γ-image b-image o-image n-image image)) ∷ ‵ ((ShrSlice (named 0) κ-image u8).own_val (at-list b-image o-image γ-image image) (slice_val (b-image, o-image) n-image ∷ [])) ∷ Γ) E opds' (slice_val (b-image, o-image) n-image ∷ [])) →
-      ((res' : ImageCheck) → Is R-ImageCheck res' (val-ImageCheck res' ∷ []) → res' ≡ imageCheck two_words image → Seq K 𝓛 (‵ (Yours u8 κ-image q-image γ-image b-image o-image n-image image) ∷ Γ) (lands C Λ E dest' (val-ImageCheck res') rest' post')) →
+      (Opds K 𝓛 (raw ((Asked 𝓛 mem run).pre (to-step-g 𝓛 mem run κ-image q-image γ-image b-image o-image n-image image)) ∷ ‵ ((ShrSlice (named 0) κ-image u8).own_val (at_list b-image o-image γ-image image) (slice_val (b-image, o-image) n-image ∷ [])) ∷ Γ) E opds' (slice_val (b-image, o-image) n-image ∷ [])) →
+      ((res' : ImageCheck) → Is R-ImageCheck res' (val-ImageCheck res' ∷ []) → res' ≡ image_check two_words image → Seq K 𝓛 (‵ (Yours u8 κ-image q-image γ-image b-image o-image n-image image) ∷ Γ) (lands C Λ E dest' (val-ImageCheck res') rest' post')) →
       Seq K 𝓛 (‵ (Yours u8 κ-image q-image γ-image b-image o-image n-image image) ∷ Γ) (runs C Λ E (seq (call name' opds' dest') rest') post')
   step-g t' fm' known' {κ-image} {q-image} {γ-image} b-image o-image n-image image os' k' =
       give t' u8 b-image o-image n-image image $
       move t' (0 ∷ 1 ∷ []) $ group t' 2 $ use1 𝓛 (raw ((Asked 𝓛 mem run).pre (to-step-g 𝓛 mem run κ-image q-image γ-image b-image o-image n-image image))) (goes-step-g 𝓛 mem run κ-image q-image γ-image b-image o-image n-image image) $
       calls_at t' fm' (Asked 𝓛 mem run) known' (to-step-g 𝓛 mem run κ-image q-image γ-image b-image o-image n-image image) (os') (λ w'.
-      use1 𝓛 (later (some (λ (res' : ImageCheck). ((‵ (flft κ-image q-image) ⊛ ‵ ftrue) ⊛ ‵ (R-ImageCheck.own res' (w' ∷ []))) ⊛ raw (ensured 𝓛 callee'.ended (callee'.clauses 𝓛 mem run) (κ-image, tt) (at-list b-image o-image γ-image image, tt) tt res')))) (id⊢ 𝓤 _) $ await t' tt $ pick t' (λ res'. split t' $ move t' (1 ∷ []) $
-      use1 𝓛 (some (λ (zs' : Unit {0} × Unit {0}). ‵ (lasts callee'.ended (κ-image, tt) (at-list b-image o-image γ-image image, tt) zs') ⊛ raw (fact 𝓤 (res' ≡ imageCheck two_words image)))) (id⊢ 𝓤 _) $ pick t' (λ zs'. split t' $ move t' (1 ∷ []) $ heard t' (res' ≡ imageCheck two_words image) (λ e'.
+      use1 𝓛 (later (some (λ (res' : ImageCheck). ((‵ (flft κ-image q-image) ⊛ ‵ ftrue) ⊛ ‵ (R-ImageCheck.own res' (w' ∷ []))) ⊛ raw (ensured 𝓛 callee'.ended (callee'.clauses 𝓛 mem run) (κ-image, tt) (at_list b-image o-image γ-image image, tt) tt res')))) (id⊢ 𝓤 _) $ await t' tt $ pick t' (λ res'. split t' $ move t' (1 ∷ []) $
+      use1 𝓛 (some (λ (zs' : Unit {0} × Unit {0}). ‵ (lasts callee'.ended (κ-image, tt) (at_list b-image o-image γ-image image, tt) zs') ⊛ raw (fact 𝓤 (res' ≡ image_check two_words image)))) (id⊢ 𝓤 _) $ pick t' (λ zs'. split t' $ move t' (1 ∷ []) $ heard t' (res' ≡ image_check two_words image) (λ e'.
       fsplit t' $ drop t' $ drop t' $
       move t' (0 ∷ []) $ split t' $ move t' (1 ∷ []) $ peeks t' R-ImageCheck (Is R-ImageCheck) (shows 𝓛 R-ImageCheck) res' (w' ∷ []) (λ is'. drop t' $ split t' $ move t' (1 ∷ []) $ drop t' $
       move t' (1 ∷ 0 ∷ []) $ fjoin t' $

@@ -36,7 +36,7 @@ use Rattle.frames.specs.declared.Frame.{Frame}
 use Rattle.soundness.specs.contracts.Checked as M-Checked
 use Rattle.soundness.proofs.Checked.TheLaws as L-Checked
 use Rattle.soundness.specs.declared.Checked.{Checked}
-use Rattle.frames.proofs.Lent.{at-list, Mine, Yours, Lent, Shown, lend, home, show, back, give}
+use Rattle.frames.proofs.Lent.{at_list, Mine, Yours, Lent, Shown, lend, home, show, back, give}
 use Rattle.engine.specs.contracts.checking.check_parts as callee'
 
 abbrev R-Frame : RattleType
@@ -56,17 +56,17 @@ module _ {M : Type 1} {𝓤 : Ura M} (𝓛 : Logic 𝓤) (mem : Memory → SProp
   Asked = triple_of 𝓛 callee'.signature (callee'.spec 𝓛 mem run)
 
   abbrev pub to-step-gggg : (κ-numbers : Lft) (q-numbers : Share) (γ-numbers : GName) (κ-deques : Lft) (q-deques : Share) (γ-deques : GName) (κ-frames : Lft) (q-frames : Share) (γ-frames : GName) (κ-pool : Lft) (q-pool : Share) (γ-pool : GName) (ν-work : ℕ) (δ-work : GName) (b-numbers o-numbers n-numbers : ℕ) (numbers : List ℕ) (b-deques o-deques n-deques : ℕ) (deques : List ℕ) (b-frames o-frames n-frames : ℕ) (frames : List Frame) (b-pool o-pool n-pool : ℕ) (pool : List ℕ) (b-work o-work n-work : ℕ) (work : List ℕ) → Asked.Ghost
-  to-step-gggg κ-numbers q-numbers γ-numbers κ-deques q-deques γ-deques κ-frames q-frames γ-frames κ-pool q-pool γ-pool ν-work δ-work b-numbers o-numbers n-numbers numbers b-deques o-deques n-deques deques b-frames o-frames n-frames frames b-pool o-pool n-pool pool b-work o-work n-work work = (((κ-numbers, (κ-deques, (κ-frames, (κ-pool, ((ν-work ∷ []), tt))))), (q-numbers, (q-deques, (q-frames, (q-pool, (full_share, tt))))), tt, (at-list b-numbers o-numbers γ-numbers numbers, (at-list b-deques o-deques γ-deques deques, (at-list b-frames o-frames γ-frames frames, (at-list b-pool o-pool γ-pool pool, (at-list b-work o-work δ-work work, tt))))), (slice_val (b-numbers, o-numbers) n-numbers ∷ [], (slice_val (b-deques, o-deques) n-deques ∷ [], (slice_val (b-frames, o-frames) n-frames ∷ [], (slice_val (b-pool, o-pool) n-pool ∷ [], (slice_val (b-work, o-work) n-work ∷ [], tt)))))), tt)
+  to-step-gggg κ-numbers q-numbers γ-numbers κ-deques q-deques γ-deques κ-frames q-frames γ-frames κ-pool q-pool γ-pool ν-work δ-work b-numbers o-numbers n-numbers numbers b-deques o-deques n-deques deques b-frames o-frames n-frames frames b-pool o-pool n-pool pool b-work o-work n-work work = (((κ-numbers, (κ-deques, (κ-frames, (κ-pool, ((ν-work ∷ []), tt))))), (q-numbers, (q-deques, (q-frames, (q-pool, (full_share, tt))))), tt, (at_list b-numbers o-numbers γ-numbers numbers, (at_list b-deques o-deques γ-deques deques, (at_list b-frames o-frames γ-frames frames, (at_list b-pool o-pool γ-pool pool, (at_list b-work o-work δ-work work, tt))))), (slice_val (b-numbers, o-numbers) n-numbers ∷ [], (slice_val (b-deques, o-deques) n-deques ∷ [], (slice_val (b-frames, o-frames) n-frames ∷ [], (slice_val (b-pool, o-pool) n-pool ∷ [], (slice_val (b-work, o-work) n-work ∷ [], tt)))))), tt)
 
-  pub goes-step-gggg : (κ-numbers : Lft) (q-numbers : Share) (γ-numbers : GName) (κ-deques : Lft) (q-deques : Share) (γ-deques : GName) (κ-frames : Lft) (q-frames : Share) (γ-frames : GName) (κ-pool : Lft) (q-pool : Share) (γ-pool : GName) (ν-work : ℕ) (δ-work : GName) (b-numbers o-numbers n-numbers : ℕ) (numbers : List ℕ) (b-deques o-deques n-deques : ℕ) (deques : List ℕ) (b-frames o-frames n-frames : ℕ) (frames : List Frame) (b-pool o-pool n-pool : ℕ) (pool : List ℕ) (b-work o-work n-work : ℕ) (work : List ℕ) → (ok' : Fits (parts numbers deques frames)) → ent 𝓤 (⋆ 𝓛 (‵ (flft κ-numbers q-numbers) ∷ ‵ (flft κ-deques q-deques) ∷ ‵ (flft κ-frames q-frames) ∷ ‵ (flft κ-pool q-pool) ∷ ‵ (flft (ν-work ∷ []) full_share) ∷ ‵ ((ShrSlice (named 0) κ-numbers u32).own_val (at-list b-numbers o-numbers γ-numbers numbers) (slice_val (b-numbers, o-numbers) n-numbers ∷ [])) ∷ ‵ ((ShrSlice (named 0) κ-deques u32).own_val (at-list b-deques o-deques γ-deques deques) (slice_val (b-deques, o-deques) n-deques ∷ [])) ∷ ‵ ((ShrSlice (named 0) κ-frames R-Frame).own_val (at-list b-frames o-frames γ-frames frames) (slice_val (b-frames, o-frames) n-frames ∷ [])) ∷ ‵ ((ShrSlice (named 0) κ-pool u32).own_val (at-list b-pool o-pool γ-pool pool) (slice_val (b-pool, o-pool) n-pool ∷ [])) ∷ ‵ ((MutSlice (named 0) (ν-work ∷ []) u32).own_val (at-list b-work o-work δ-work work) (slice_val (b-work, o-work) n-work ∷ [])) ∷ [])) (Asked.pre (to-step-gggg κ-numbers q-numbers γ-numbers κ-deques q-deques γ-deques κ-frames q-frames γ-frames κ-pool q-pool γ-pool ν-work δ-work b-numbers o-numbers n-numbers numbers b-deques o-deques n-deques deques b-frames o-frames n-frames frames b-pool o-pool n-pool pool b-work o-work n-work work))
-  goes-step-gggg κ-numbers q-numbers γ-numbers κ-deques q-deques γ-deques κ-frames q-frames γ-frames κ-pool q-pool γ-pool ν-work δ-work b-numbers o-numbers n-numbers numbers b-deques o-deques n-deques deques b-frames o-frames n-frames frames b-pool o-pool n-pool pool b-work o-work n-work work ok' = qed 𝓛 (‵ (flft κ-numbers q-numbers) ∷ ‵ (flft κ-deques q-deques) ∷ ‵ (flft κ-frames q-frames) ∷ ‵ (flft κ-pool q-pool) ∷ ‵ (flft (ν-work ∷ []) full_share) ∷ ‵ ((ShrSlice (named 0) κ-numbers u32).own_val (at-list b-numbers o-numbers γ-numbers numbers) (slice_val (b-numbers, o-numbers) n-numbers ∷ [])) ∷ ‵ ((ShrSlice (named 0) κ-deques u32).own_val (at-list b-deques o-deques γ-deques deques) (slice_val (b-deques, o-deques) n-deques ∷ [])) ∷ ‵ ((ShrSlice (named 0) κ-frames R-Frame).own_val (at-list b-frames o-frames γ-frames frames) (slice_val (b-frames, o-frames) n-frames ∷ [])) ∷ ‵ ((ShrSlice (named 0) κ-pool u32).own_val (at-list b-pool o-pool γ-pool pool) (slice_val (b-pool, o-pool) n-pool ∷ [])) ∷ ‵ ((MutSlice (named 0) (ν-work ∷ []) u32).own_val (at-list b-work o-work δ-work work) (slice_val (b-work, o-work) n-work ∷ [])) ∷ []) ∵ says ! ok' $ nothing ! $ move ! (1 ∷ 2 ∷ 3 ∷ 4 ∷ 5 ∷ 0 ∷ []) $ group ! 6 $ frame ! $
+  pub goes-step-gggg : (κ-numbers : Lft) (q-numbers : Share) (γ-numbers : GName) (κ-deques : Lft) (q-deques : Share) (γ-deques : GName) (κ-frames : Lft) (q-frames : Share) (γ-frames : GName) (κ-pool : Lft) (q-pool : Share) (γ-pool : GName) (ν-work : ℕ) (δ-work : GName) (b-numbers o-numbers n-numbers : ℕ) (numbers : List ℕ) (b-deques o-deques n-deques : ℕ) (deques : List ℕ) (b-frames o-frames n-frames : ℕ) (frames : List Frame) (b-pool o-pool n-pool : ℕ) (pool : List ℕ) (b-work o-work n-work : ℕ) (work : List ℕ) → (ok' : Fits (parts numbers deques frames)) → ent 𝓤 (⋆ 𝓛 (‵ (flft κ-numbers q-numbers) ∷ ‵ (flft κ-deques q-deques) ∷ ‵ (flft κ-frames q-frames) ∷ ‵ (flft κ-pool q-pool) ∷ ‵ (flft (ν-work ∷ []) full_share) ∷ ‵ ((ShrSlice (named 0) κ-numbers u32).own_val (at_list b-numbers o-numbers γ-numbers numbers) (slice_val (b-numbers, o-numbers) n-numbers ∷ [])) ∷ ‵ ((ShrSlice (named 0) κ-deques u32).own_val (at_list b-deques o-deques γ-deques deques) (slice_val (b-deques, o-deques) n-deques ∷ [])) ∷ ‵ ((ShrSlice (named 0) κ-frames R-Frame).own_val (at_list b-frames o-frames γ-frames frames) (slice_val (b-frames, o-frames) n-frames ∷ [])) ∷ ‵ ((ShrSlice (named 0) κ-pool u32).own_val (at_list b-pool o-pool γ-pool pool) (slice_val (b-pool, o-pool) n-pool ∷ [])) ∷ ‵ ((MutSlice (named 0) (ν-work ∷ []) u32).own_val (at_list b-work o-work δ-work work) (slice_val (b-work, o-work) n-work ∷ [])) ∷ [])) (Asked.pre (to-step-gggg κ-numbers q-numbers γ-numbers κ-deques q-deques γ-deques κ-frames q-frames γ-frames κ-pool q-pool γ-pool ν-work δ-work b-numbers o-numbers n-numbers numbers b-deques o-deques n-deques deques b-frames o-frames n-frames frames b-pool o-pool n-pool pool b-work o-work n-work work))
+  goes-step-gggg κ-numbers q-numbers γ-numbers κ-deques q-deques γ-deques κ-frames q-frames γ-frames κ-pool q-pool γ-pool ν-work δ-work b-numbers o-numbers n-numbers numbers b-deques o-deques n-deques deques b-frames o-frames n-frames frames b-pool o-pool n-pool pool b-work o-work n-work work ok' = qed 𝓛 (‵ (flft κ-numbers q-numbers) ∷ ‵ (flft κ-deques q-deques) ∷ ‵ (flft κ-frames q-frames) ∷ ‵ (flft κ-pool q-pool) ∷ ‵ (flft (ν-work ∷ []) full_share) ∷ ‵ ((ShrSlice (named 0) κ-numbers u32).own_val (at_list b-numbers o-numbers γ-numbers numbers) (slice_val (b-numbers, o-numbers) n-numbers ∷ [])) ∷ ‵ ((ShrSlice (named 0) κ-deques u32).own_val (at_list b-deques o-deques γ-deques deques) (slice_val (b-deques, o-deques) n-deques ∷ [])) ∷ ‵ ((ShrSlice (named 0) κ-frames R-Frame).own_val (at_list b-frames o-frames γ-frames frames) (slice_val (b-frames, o-frames) n-frames ∷ [])) ∷ ‵ ((ShrSlice (named 0) κ-pool u32).own_val (at_list b-pool o-pool γ-pool pool) (slice_val (b-pool, o-pool) n-pool ∷ [])) ∷ ‵ ((MutSlice (named 0) (ν-work ∷ []) u32).own_val (at_list b-work o-work δ-work work) (slice_val (b-work, o-work) n-work ∷ [])) ∷ []) ∵ says ! ok' $ nothing ! $ move ! (1 ∷ 2 ∷ 3 ∷ 4 ∷ 5 ∷ 0 ∷ []) $ group ! 6 $ frame ! $
       nothing ! $ move ! (5 ∷ 0 ∷ []) $ fjoin ! $ move ! (4 ∷ 0 ∷ []) $ fjoin ! $ move ! (3 ∷ 0 ∷ []) $ fjoin ! $ move ! (2 ∷ 0 ∷ []) $ fjoin ! $ move ! (1 ∷ 0 ∷ []) $ fjoin ! $ done !
 
   abbrev pub to-step-ssss : (ν-numbers : ℕ) (δ-numbers : GName) (ν-deques : ℕ) (δ-deques : GName) (ν-frames : ℕ) (δ-frames : GName) (ν-pool : ℕ) (δ-pool : GName) (ν-work : ℕ) (δ-work : GName) (b-numbers o-numbers n-numbers : ℕ) (numbers : List ℕ) (b-deques o-deques n-deques : ℕ) (deques : List ℕ) (b-frames o-frames n-frames : ℕ) (frames : List Frame) (b-pool o-pool n-pool : ℕ) (pool : List ℕ) (b-work o-work n-work : ℕ) (work : List ℕ) → Asked.Ghost
-  to-step-ssss ν-numbers δ-numbers ν-deques δ-deques ν-frames δ-frames ν-pool δ-pool ν-work δ-work b-numbers o-numbers n-numbers numbers b-deques o-deques n-deques deques b-frames o-frames n-frames frames b-pool o-pool n-pool pool b-work o-work n-work work = ((((ν-numbers ∷ []), ((ν-deques ∷ []), ((ν-frames ∷ []), ((ν-pool ∷ []), ((ν-work ∷ []), tt))))), (full_share, (full_share, (full_share, (full_share, (full_share, tt))))), tt, (at-list b-numbers o-numbers δ-numbers numbers, (at-list b-deques o-deques δ-deques deques, (at-list b-frames o-frames δ-frames frames, (at-list b-pool o-pool δ-pool pool, (at-list b-work o-work δ-work work, tt))))), (slice_val (b-numbers, o-numbers) n-numbers ∷ [], (slice_val (b-deques, o-deques) n-deques ∷ [], (slice_val (b-frames, o-frames) n-frames ∷ [], (slice_val (b-pool, o-pool) n-pool ∷ [], (slice_val (b-work, o-work) n-work ∷ [], tt)))))), tt)
+  to-step-ssss ν-numbers δ-numbers ν-deques δ-deques ν-frames δ-frames ν-pool δ-pool ν-work δ-work b-numbers o-numbers n-numbers numbers b-deques o-deques n-deques deques b-frames o-frames n-frames frames b-pool o-pool n-pool pool b-work o-work n-work work = ((((ν-numbers ∷ []), ((ν-deques ∷ []), ((ν-frames ∷ []), ((ν-pool ∷ []), ((ν-work ∷ []), tt))))), (full_share, (full_share, (full_share, (full_share, (full_share, tt))))), tt, (at_list b-numbers o-numbers δ-numbers numbers, (at_list b-deques o-deques δ-deques deques, (at_list b-frames o-frames δ-frames frames, (at_list b-pool o-pool δ-pool pool, (at_list b-work o-work δ-work work, tt))))), (slice_val (b-numbers, o-numbers) n-numbers ∷ [], (slice_val (b-deques, o-deques) n-deques ∷ [], (slice_val (b-frames, o-frames) n-frames ∷ [], (slice_val (b-pool, o-pool) n-pool ∷ [], (slice_val (b-work, o-work) n-work ∷ [], tt)))))), tt)
 
-  pub goes-step-ssss : (ν-numbers : ℕ) (δ-numbers : GName) (ν-deques : ℕ) (δ-deques : GName) (ν-frames : ℕ) (δ-frames : GName) (ν-pool : ℕ) (δ-pool : GName) (ν-work : ℕ) (δ-work : GName) (b-numbers o-numbers n-numbers : ℕ) (numbers : List ℕ) (b-deques o-deques n-deques : ℕ) (deques : List ℕ) (b-frames o-frames n-frames : ℕ) (frames : List Frame) (b-pool o-pool n-pool : ℕ) (pool : List ℕ) (b-work o-work n-work : ℕ) (work : List ℕ) → (ok' : Fits (parts numbers deques frames)) → ent 𝓤 (⋆ 𝓛 (‵ (flft (ν-numbers ∷ []) full_share) ∷ ‵ (flft (ν-deques ∷ []) full_share) ∷ ‵ (flft (ν-frames ∷ []) full_share) ∷ ‵ (flft (ν-pool ∷ []) full_share) ∷ ‵ (flft (ν-work ∷ []) full_share) ∷ ‵ ((ShrSlice (named 0) (ν-numbers ∷ []) u32).own_val (at-list b-numbers o-numbers δ-numbers numbers) (slice_val (b-numbers, o-numbers) n-numbers ∷ [])) ∷ ‵ ((ShrSlice (named 0) (ν-deques ∷ []) u32).own_val (at-list b-deques o-deques δ-deques deques) (slice_val (b-deques, o-deques) n-deques ∷ [])) ∷ ‵ ((ShrSlice (named 0) (ν-frames ∷ []) R-Frame).own_val (at-list b-frames o-frames δ-frames frames) (slice_val (b-frames, o-frames) n-frames ∷ [])) ∷ ‵ ((ShrSlice (named 0) (ν-pool ∷ []) u32).own_val (at-list b-pool o-pool δ-pool pool) (slice_val (b-pool, o-pool) n-pool ∷ [])) ∷ ‵ ((MutSlice (named 0) (ν-work ∷ []) u32).own_val (at-list b-work o-work δ-work work) (slice_val (b-work, o-work) n-work ∷ [])) ∷ [])) (Asked.pre (to-step-ssss ν-numbers δ-numbers ν-deques δ-deques ν-frames δ-frames ν-pool δ-pool ν-work δ-work b-numbers o-numbers n-numbers numbers b-deques o-deques n-deques deques b-frames o-frames n-frames frames b-pool o-pool n-pool pool b-work o-work n-work work))
-  goes-step-ssss ν-numbers δ-numbers ν-deques δ-deques ν-frames δ-frames ν-pool δ-pool ν-work δ-work b-numbers o-numbers n-numbers numbers b-deques o-deques n-deques deques b-frames o-frames n-frames frames b-pool o-pool n-pool pool b-work o-work n-work work ok' = qed 𝓛 (‵ (flft (ν-numbers ∷ []) full_share) ∷ ‵ (flft (ν-deques ∷ []) full_share) ∷ ‵ (flft (ν-frames ∷ []) full_share) ∷ ‵ (flft (ν-pool ∷ []) full_share) ∷ ‵ (flft (ν-work ∷ []) full_share) ∷ ‵ ((ShrSlice (named 0) (ν-numbers ∷ []) u32).own_val (at-list b-numbers o-numbers δ-numbers numbers) (slice_val (b-numbers, o-numbers) n-numbers ∷ [])) ∷ ‵ ((ShrSlice (named 0) (ν-deques ∷ []) u32).own_val (at-list b-deques o-deques δ-deques deques) (slice_val (b-deques, o-deques) n-deques ∷ [])) ∷ ‵ ((ShrSlice (named 0) (ν-frames ∷ []) R-Frame).own_val (at-list b-frames o-frames δ-frames frames) (slice_val (b-frames, o-frames) n-frames ∷ [])) ∷ ‵ ((ShrSlice (named 0) (ν-pool ∷ []) u32).own_val (at-list b-pool o-pool δ-pool pool) (slice_val (b-pool, o-pool) n-pool ∷ [])) ∷ ‵ ((MutSlice (named 0) (ν-work ∷ []) u32).own_val (at-list b-work o-work δ-work work) (slice_val (b-work, o-work) n-work ∷ [])) ∷ []) ∵ says ! ok' $ nothing ! $ move ! (1 ∷ 2 ∷ 3 ∷ 4 ∷ 5 ∷ 0 ∷ []) $ group ! 6 $ frame ! $
+  pub goes-step-ssss : (ν-numbers : ℕ) (δ-numbers : GName) (ν-deques : ℕ) (δ-deques : GName) (ν-frames : ℕ) (δ-frames : GName) (ν-pool : ℕ) (δ-pool : GName) (ν-work : ℕ) (δ-work : GName) (b-numbers o-numbers n-numbers : ℕ) (numbers : List ℕ) (b-deques o-deques n-deques : ℕ) (deques : List ℕ) (b-frames o-frames n-frames : ℕ) (frames : List Frame) (b-pool o-pool n-pool : ℕ) (pool : List ℕ) (b-work o-work n-work : ℕ) (work : List ℕ) → (ok' : Fits (parts numbers deques frames)) → ent 𝓤 (⋆ 𝓛 (‵ (flft (ν-numbers ∷ []) full_share) ∷ ‵ (flft (ν-deques ∷ []) full_share) ∷ ‵ (flft (ν-frames ∷ []) full_share) ∷ ‵ (flft (ν-pool ∷ []) full_share) ∷ ‵ (flft (ν-work ∷ []) full_share) ∷ ‵ ((ShrSlice (named 0) (ν-numbers ∷ []) u32).own_val (at_list b-numbers o-numbers δ-numbers numbers) (slice_val (b-numbers, o-numbers) n-numbers ∷ [])) ∷ ‵ ((ShrSlice (named 0) (ν-deques ∷ []) u32).own_val (at_list b-deques o-deques δ-deques deques) (slice_val (b-deques, o-deques) n-deques ∷ [])) ∷ ‵ ((ShrSlice (named 0) (ν-frames ∷ []) R-Frame).own_val (at_list b-frames o-frames δ-frames frames) (slice_val (b-frames, o-frames) n-frames ∷ [])) ∷ ‵ ((ShrSlice (named 0) (ν-pool ∷ []) u32).own_val (at_list b-pool o-pool δ-pool pool) (slice_val (b-pool, o-pool) n-pool ∷ [])) ∷ ‵ ((MutSlice (named 0) (ν-work ∷ []) u32).own_val (at_list b-work o-work δ-work work) (slice_val (b-work, o-work) n-work ∷ [])) ∷ [])) (Asked.pre (to-step-ssss ν-numbers δ-numbers ν-deques δ-deques ν-frames δ-frames ν-pool δ-pool ν-work δ-work b-numbers o-numbers n-numbers numbers b-deques o-deques n-deques deques b-frames o-frames n-frames frames b-pool o-pool n-pool pool b-work o-work n-work work))
+  goes-step-ssss ν-numbers δ-numbers ν-deques δ-deques ν-frames δ-frames ν-pool δ-pool ν-work δ-work b-numbers o-numbers n-numbers numbers b-deques o-deques n-deques deques b-frames o-frames n-frames frames b-pool o-pool n-pool pool b-work o-work n-work work ok' = qed 𝓛 (‵ (flft (ν-numbers ∷ []) full_share) ∷ ‵ (flft (ν-deques ∷ []) full_share) ∷ ‵ (flft (ν-frames ∷ []) full_share) ∷ ‵ (flft (ν-pool ∷ []) full_share) ∷ ‵ (flft (ν-work ∷ []) full_share) ∷ ‵ ((ShrSlice (named 0) (ν-numbers ∷ []) u32).own_val (at_list b-numbers o-numbers δ-numbers numbers) (slice_val (b-numbers, o-numbers) n-numbers ∷ [])) ∷ ‵ ((ShrSlice (named 0) (ν-deques ∷ []) u32).own_val (at_list b-deques o-deques δ-deques deques) (slice_val (b-deques, o-deques) n-deques ∷ [])) ∷ ‵ ((ShrSlice (named 0) (ν-frames ∷ []) R-Frame).own_val (at_list b-frames o-frames δ-frames frames) (slice_val (b-frames, o-frames) n-frames ∷ [])) ∷ ‵ ((ShrSlice (named 0) (ν-pool ∷ []) u32).own_val (at_list b-pool o-pool δ-pool pool) (slice_val (b-pool, o-pool) n-pool ∷ [])) ∷ ‵ ((MutSlice (named 0) (ν-work ∷ []) u32).own_val (at_list b-work o-work δ-work work) (slice_val (b-work, o-work) n-work ∷ [])) ∷ []) ∵ says ! ok' $ nothing ! $ move ! (1 ∷ 2 ∷ 3 ∷ 4 ∷ 5 ∷ 0 ∷ []) $ group ! 6 $ frame ! $
       nothing ! $ move ! (5 ∷ 0 ∷ []) $ fjoin ! $ move ! (4 ∷ 0 ∷ []) $ fjoin ! $ move ! (3 ∷ 0 ∷ []) $ fjoin ! $ move ! (2 ∷ 0 ∷ []) $ fjoin ! $ move ! (1 ∷ 0 ∷ []) $ fjoin ! $ done !
 
 module _ {M : Type 1} {𝓤 : Ura M} {𝓛 : Logic 𝓤} {K : Type 0} (mem : Memory → SProp 𝓤) (run : Routine → Fun 𝓤)
@@ -74,19 +74,19 @@ module _ {M : Type 1} {𝓤 : Ura M} {𝓛 : Logic 𝓤} {K : Type 0} (mem : Mem
   open 𝓛 use {H}
 
   pub step-gggg : K → FmC 𝓤 H 𝓛.laws C → Triple 𝓤 (C name') (Asked 𝓛 mem run) → {κ-numbers : Lft} {q-numbers : Share} {γ-numbers : GName} {κ-deques : Lft} {q-deques : Share} {γ-deques : GName} {κ-frames : Lft} {q-frames : Share} {γ-frames : GName} {κ-pool : Lft} {q-pool : Share} {γ-pool : GName} {κ-work : Lft} {q-work : Share} {γ-work : GName} → (b-numbers o-numbers n-numbers : ℕ) (numbers : List ℕ) (b-deques o-deques n-deques : ℕ) (deques : List ℕ) (b-frames o-frames n-frames : ℕ) (frames : List Frame) (b-pool o-pool n-pool : ℕ) (pool : List ℕ) (b-work o-work n-work : ℕ) (work : List ℕ) → Fits (parts numbers deques frames) → length work ≡ n-work → Room u32 n-work →
-      ((ν-work : ℕ) (δ-work : GName) → Opds K 𝓛 (raw ((Asked 𝓛 mem run).pre (to-step-gggg 𝓛 mem run κ-numbers q-numbers γ-numbers κ-deques q-deques γ-deques κ-frames q-frames γ-frames κ-pool q-pool γ-pool ν-work δ-work b-numbers o-numbers n-numbers numbers b-deques o-deques n-deques deques b-frames o-frames n-frames frames b-pool o-pool n-pool pool b-work o-work n-work work)) ∷ ‵ (Lent u32 κ-work (ν-work ∷ []) q-work γ-work b-work o-work δ-work work) ∷ ‵ ((ShrSlice (named 0) κ-pool u32).own_val (at-list b-pool o-pool γ-pool pool) (slice_val (b-pool, o-pool) n-pool ∷ [])) ∷ ‵ ((ShrSlice (named 0) κ-frames R-Frame).own_val (at-list b-frames o-frames γ-frames frames) (slice_val (b-frames, o-frames) n-frames ∷ [])) ∷ ‵ ((ShrSlice (named 0) κ-deques u32).own_val (at-list b-deques o-deques γ-deques deques) (slice_val (b-deques, o-deques) n-deques ∷ [])) ∷ ‵ ((ShrSlice (named 0) κ-numbers u32).own_val (at-list b-numbers o-numbers γ-numbers numbers) (slice_val (b-numbers, o-numbers) n-numbers ∷ [])) ∷ Γ) E opds' (slice_val (b-numbers, o-numbers) n-numbers ∷ slice_val (b-deques, o-deques) n-deques ∷ slice_val (b-frames, o-frames) n-frames ∷ slice_val (b-pool, o-pool) n-pool ∷ slice_val (b-work, o-work) n-work ∷ [])) →
+      ((ν-work : ℕ) (δ-work : GName) → Opds K 𝓛 (raw ((Asked 𝓛 mem run).pre (to-step-gggg 𝓛 mem run κ-numbers q-numbers γ-numbers κ-deques q-deques γ-deques κ-frames q-frames γ-frames κ-pool q-pool γ-pool ν-work δ-work b-numbers o-numbers n-numbers numbers b-deques o-deques n-deques deques b-frames o-frames n-frames frames b-pool o-pool n-pool pool b-work o-work n-work work)) ∷ ‵ (Lent u32 κ-work (ν-work ∷ []) q-work γ-work b-work o-work δ-work work) ∷ ‵ ((ShrSlice (named 0) κ-pool u32).own_val (at_list b-pool o-pool γ-pool pool) (slice_val (b-pool, o-pool) n-pool ∷ [])) ∷ ‵ ((ShrSlice (named 0) κ-frames R-Frame).own_val (at_list b-frames o-frames γ-frames frames) (slice_val (b-frames, o-frames) n-frames ∷ [])) ∷ ‵ ((ShrSlice (named 0) κ-deques u32).own_val (at_list b-deques o-deques γ-deques deques) (slice_val (b-deques, o-deques) n-deques ∷ [])) ∷ ‵ ((ShrSlice (named 0) κ-numbers u32).own_val (at_list b-numbers o-numbers γ-numbers numbers) (slice_val (b-numbers, o-numbers) n-numbers ∷ [])) ∷ Γ) E opds' (slice_val (b-numbers, o-numbers) n-numbers ∷ slice_val (b-deques, o-deques) n-deques ∷ slice_val (b-frames, o-frames) n-frames ∷ slice_val (b-pool, o-pool) n-pool ∷ slice_val (b-work, o-work) n-work ∷ [])) →
       ((res' : Checked) (zs-work : List ℕ) → Is R-Checked res' (val-Checked res' ∷ []) → IsCheck (parts numbers deques frames) pool work zs-work res' → length zs-work ≡ length work → Seq K 𝓛 (‵ (Yours u32 κ-numbers q-numbers γ-numbers b-numbers o-numbers n-numbers numbers) ∷ ‵ (Yours u32 κ-deques q-deques γ-deques b-deques o-deques n-deques deques) ∷ ‵ (Yours R-Frame κ-frames q-frames γ-frames b-frames o-frames n-frames frames) ∷ ‵ (Yours u32 κ-pool q-pool γ-pool b-pool o-pool n-pool pool) ∷ ‵ (Mine u32 κ-work q-work γ-work b-work o-work n-work zs-work) ∷ Γ) (lands C Λ E dest' (val-Checked res') rest' post')) →
       Seq K 𝓛 (‵ (Yours u32 κ-numbers q-numbers γ-numbers b-numbers o-numbers n-numbers numbers) ∷ ‵ (Yours u32 κ-deques q-deques γ-deques b-deques o-deques n-deques deques) ∷ ‵ (Yours R-Frame κ-frames q-frames γ-frames b-frames o-frames n-frames frames) ∷ ‵ (Yours u32 κ-pool q-pool γ-pool b-pool o-pool n-pool pool) ∷ ‵ (Mine u32 κ-work q-work γ-work b-work o-work n-work work) ∷ Γ) (runs C Λ E (seq (call name' opds' dest') rest') post')
   step-gggg t' fm' known' {κ-numbers} {q-numbers} {γ-numbers} {κ-deques} {q-deques} {γ-deques} {κ-frames} {q-frames} {γ-frames} {κ-pool} {q-pool} {γ-pool} {κ-work} {q-work} {γ-work} b-numbers o-numbers n-numbers numbers b-deques o-deques n-deques deques b-frames o-frames n-frames frames b-pool o-pool n-pool pool b-work o-work n-work work ok' len-work room-work os' k' =
       give t' u32 b-numbers o-numbers n-numbers numbers $ move t' (3 ∷ []) $ give t' u32 b-deques o-deques n-deques deques $ move t' (6 ∷ []) $ give t' R-Frame b-frames o-frames n-frames frames $ move t' (9 ∷ []) $ give t' u32 b-pool o-pool n-pool pool $ move t' (12 ∷ []) $ lend t' tt u32 b-work o-work n-work work len-work (λ ν-work δ-work.
       move t' (12 ∷ 9 ∷ 6 ∷ 3 ∷ 0 ∷ 13 ∷ 10 ∷ 7 ∷ 4 ∷ 1 ∷ []) $ group t' 10 $ use1 𝓛 (raw ((Asked 𝓛 mem run).pre (to-step-gggg 𝓛 mem run κ-numbers q-numbers γ-numbers κ-deques q-deques γ-deques κ-frames q-frames γ-frames κ-pool q-pool γ-pool ν-work δ-work b-numbers o-numbers n-numbers numbers b-deques o-deques n-deques deques b-frames o-frames n-frames frames b-pool o-pool n-pool pool b-work o-work n-work work))) (goes-step-gggg 𝓛 mem run κ-numbers q-numbers γ-numbers κ-deques q-deques γ-deques κ-frames q-frames γ-frames κ-pool q-pool γ-pool ν-work δ-work b-numbers o-numbers n-numbers numbers b-deques o-deques n-deques deques b-frames o-frames n-frames frames b-pool o-pool n-pool pool b-work o-work n-work work ok') $
       calls_at t' fm' (Asked 𝓛 mem run) known' (to-step-gggg 𝓛 mem run κ-numbers q-numbers γ-numbers κ-deques q-deques γ-deques κ-frames q-frames γ-frames κ-pool q-pool γ-pool ν-work δ-work b-numbers o-numbers n-numbers numbers b-deques o-deques n-deques deques b-frames o-frames n-frames frames b-pool o-pool n-pool pool b-work o-work n-work work) (os' ν-work δ-work) (λ w'.
-      use1 𝓛 (later (some (λ (res' : Checked). ((‵ (flft κ-numbers q-numbers) ⊛ (‵ (flft κ-deques q-deques) ⊛ (‵ (flft κ-frames q-frames) ⊛ (‵ (flft κ-pool q-pool) ⊛ (‵ (flft (ν-work ∷ []) full_share) ⊛ ‵ ftrue))))) ⊛ ‵ (R-Checked.own res' (w' ∷ []))) ⊛ raw (ensured 𝓛 callee'.ended (callee'.clauses 𝓛 mem run) (κ-numbers, (κ-deques, (κ-frames, (κ-pool, ((ν-work ∷ []), tt))))) (at-list b-numbers o-numbers γ-numbers numbers, (at-list b-deques o-deques γ-deques deques, (at-list b-frames o-frames γ-frames frames, (at-list b-pool o-pool γ-pool pool, (at-list b-work o-work δ-work work, tt))))) tt res')))) (id⊢ 𝓤 _) $ await t' tt $ pick t' (λ res'. split t' $ move t' (1 ∷ []) $
-      use1 𝓛 (some (λ (zs' : Unit {0} × (Unit {0} × (Unit {0} × (Unit {0} × (List ℕ × Unit {0}))))). ‵ (lasts callee'.ended (κ-numbers, (κ-deques, (κ-frames, (κ-pool, ((ν-work ∷ []), tt))))) (at-list b-numbers o-numbers γ-numbers numbers, (at-list b-deques o-deques γ-deques deques, (at-list b-frames o-frames γ-frames frames, (at-list b-pool o-pool γ-pool pool, (at-list b-work o-work δ-work work, tt))))) zs') ⊛ raw (fact 𝓤 (IsCheck (parts numbers deques frames) pool work zs'.1.1.1.1.0 res')))) (id⊢ 𝓤 _) $ pick t' (λ zs'. split t' $ move t' (1 ∷ []) $ heard t' (IsCheck (parts numbers deques frames) pool work zs'.1.1.1.1.0 res') (λ e'.
-      fsplit t' $ drop t' $ fsplit t' $ drop t' $ fsplit t' $ drop t' $ fsplit t' $ drop t' $ fsplit t' $ fsplit t' $ move t' (1 ∷ []) $ feq_l t' (λ same-work. move t' (1 ∷ []) $ drop t' $
+      use1 𝓛 (later (some (λ (res' : Checked). ((‵ (flft κ-numbers q-numbers) ⊛ (‵ (flft κ-deques q-deques) ⊛ (‵ (flft κ-frames q-frames) ⊛ (‵ (flft κ-pool q-pool) ⊛ (‵ (flft (ν-work ∷ []) full_share) ⊛ ‵ ftrue))))) ⊛ ‵ (R-Checked.own res' (w' ∷ []))) ⊛ raw (ensured 𝓛 callee'.ended (callee'.clauses 𝓛 mem run) (κ-numbers, (κ-deques, (κ-frames, (κ-pool, ((ν-work ∷ []), tt))))) (at_list b-numbers o-numbers γ-numbers numbers, (at_list b-deques o-deques γ-deques deques, (at_list b-frames o-frames γ-frames frames, (at_list b-pool o-pool γ-pool pool, (at_list b-work o-work δ-work work, tt))))) tt res')))) (id⊢ 𝓤 _) $ await t' tt $ pick t' (λ res'. split t' $ move t' (1 ∷ []) $
+      use1 𝓛 (some (λ (zs' : Unit {0} × (Unit {0} × (Unit {0} × (Unit {0} × (List ℕ × Unit {0}))))). ‵ (lasts callee'.ended (κ-numbers, (κ-deques, (κ-frames, (κ-pool, ((ν-work ∷ []), tt))))) (at_list b-numbers o-numbers γ-numbers numbers, (at_list b-deques o-deques γ-deques deques, (at_list b-frames o-frames γ-frames frames, (at_list b-pool o-pool γ-pool pool, (at_list b-work o-work δ-work work, tt))))) zs') ⊛ raw (fact 𝓤 (IsCheck (parts numbers deques frames) pool work zs'.1.1.1.1.0 res')))) (id⊢ 𝓤 _) $ pick t' (λ zs'. split t' $ move t' (1 ∷ []) $ heard t' (IsCheck (parts numbers deques frames) pool work zs'.1.1.1.1.0 res') (λ e'.
+      fsplit t' $ drop t' $ fsplit t' $ drop t' $ fsplit t' $ drop t' $ fsplit t' $ drop t' $ fsplit t' $ fsplit t' $ move t' (1 ∷ []) $ feq_l t' (λ same_work. move t' (1 ∷ []) $ drop t' $
       move t' (1 ∷ []) $ split t' $ move t' (1 ∷ []) $ peeks t' R-Checked (Is R-Checked) (shows 𝓛 R-Checked) res' (w' ∷ []) (λ is'. drop t' $ split t' $ move t' (1 ∷ []) $ split t' $ move t' (1 ∷ []) $ split t' $ move t' (1 ∷ []) $ split t' $ move t' (1 ∷ []) $ split t' $ move t' (1 ∷ []) $ drop t' $
-      move t' (0 ∷ 6 ∷ 5 ∷ []) $ home t' tt u32 b-work o-work n-work work zs'.1.1.1.1.0 len-work room-work same-work $ move t' (5 ∷ 1 ∷ []) $ fjoin t' $ move t' (5 ∷ 2 ∷ []) $ fjoin t' $ move t' (5 ∷ 3 ∷ []) $ fjoin t' $ move t' (5 ∷ 4 ∷ []) $ fjoin t' $
-      subst (λ (v' : Val). Seq K 𝓛 (‵ (Yours u32 κ-numbers q-numbers γ-numbers b-numbers o-numbers n-numbers numbers) ∷ ‵ (Yours u32 κ-deques q-deques γ-deques b-deques o-deques n-deques deques) ∷ ‵ (Yours R-Frame κ-frames q-frames γ-frames b-frames o-frames n-frames frames) ∷ ‵ (Yours u32 κ-pool q-pool γ-pool b-pool o-pool n-pool pool) ∷ ‵ (Mine u32 κ-work q-work γ-work b-work o-work n-work zs'.1.1.1.1.0) ∷ Γ) (lands C Λ E dest' v' rest' post')) (sym (ap only (EL.tells M-Checked.the_type L-Checked.the_laws res' _ is'))) (k' res' zs'.1.1.1.1.0 (subst (Is R-Checked res') (EL.tells M-Checked.the_type L-Checked.the_laws res' _ is') is') e' same-work))))))))
+      move t' (0 ∷ 6 ∷ 5 ∷ []) $ home t' tt u32 b-work o-work n-work work zs'.1.1.1.1.0 len-work room-work same_work $ move t' (5 ∷ 1 ∷ []) $ fjoin t' $ move t' (5 ∷ 2 ∷ []) $ fjoin t' $ move t' (5 ∷ 3 ∷ []) $ fjoin t' $ move t' (5 ∷ 4 ∷ []) $ fjoin t' $
+      subst (λ (v' : Val). Seq K 𝓛 (‵ (Yours u32 κ-numbers q-numbers γ-numbers b-numbers o-numbers n-numbers numbers) ∷ ‵ (Yours u32 κ-deques q-deques γ-deques b-deques o-deques n-deques deques) ∷ ‵ (Yours R-Frame κ-frames q-frames γ-frames b-frames o-frames n-frames frames) ∷ ‵ (Yours u32 κ-pool q-pool γ-pool b-pool o-pool n-pool pool) ∷ ‵ (Mine u32 κ-work q-work γ-work b-work o-work n-work zs'.1.1.1.1.0) ∷ Γ) (lands C Λ E dest' v' rest' post')) (sym (ap only (EL.tells M-Checked.the_type L-Checked.the_laws res' _ is'))) (k' res' zs'.1.1.1.1.0 (subst (Is R-Checked res') (EL.tells M-Checked.the_type L-Checked.the_laws res' _ is') is') e' same_work))))))))
 
   pub step-ssss : K → FmC 𝓤 H 𝓛.laws C → Triple 𝓤 (C name') (Asked 𝓛 mem run) → {κ-numbers : Lft} {q-numbers : Share} {γ-numbers : GName} {κ-deques : Lft} {q-deques : Share} {γ-deques : GName} {κ-frames : Lft} {q-frames : Share} {γ-frames : GName} {κ-pool : Lft} {q-pool : Share} {γ-pool : GName} {κ-work : Lft} {q-work : Share} {γ-work : GName} → (b-numbers o-numbers n-numbers : ℕ) (numbers : List ℕ) (b-deques o-deques n-deques : ℕ) (deques : List ℕ) (b-frames o-frames n-frames : ℕ) (frames : List Frame) (b-pool o-pool n-pool : ℕ) (pool : List ℕ) (b-work o-work n-work : ℕ) (work : List ℕ) → Fits (parts numbers deques frames) → length numbers ≡ n-numbers → Room u32 n-numbers → length deques ≡ n-deques → Room u32 n-deques → length frames ≡ n-frames → Room R-Frame n-frames → length pool ≡ n-pool → Room u32 n-pool → length work ≡ n-work → Room u32 n-work →
       ((ν-numbers : ℕ) (δ-numbers : GName) (ν-deques : ℕ) (δ-deques : GName) (ν-frames : ℕ) (δ-frames : GName) (ν-pool : ℕ) (δ-pool : GName) (ν-work : ℕ) (δ-work : GName) → Opds K 𝓛 (raw ((Asked 𝓛 mem run).pre (to-step-ssss 𝓛 mem run ν-numbers δ-numbers ν-deques δ-deques ν-frames δ-frames ν-pool δ-pool ν-work δ-work b-numbers o-numbers n-numbers numbers b-deques o-deques n-deques deques b-frames o-frames n-frames frames b-pool o-pool n-pool pool b-work o-work n-work work)) ∷ ‵ (Lent u32 κ-work (ν-work ∷ []) q-work γ-work b-work o-work δ-work work) ∷ ‵ (Shown u32 κ-pool (ν-pool ∷ []) q-pool γ-pool b-pool o-pool pool) ∷ ‵ (Shown R-Frame κ-frames (ν-frames ∷ []) q-frames γ-frames b-frames o-frames frames) ∷ ‵ (Shown u32 κ-deques (ν-deques ∷ []) q-deques γ-deques b-deques o-deques deques) ∷ ‵ (Shown u32 κ-numbers (ν-numbers ∷ []) q-numbers γ-numbers b-numbers o-numbers numbers) ∷ Γ) E opds' (slice_val (b-numbers, o-numbers) n-numbers ∷ slice_val (b-deques, o-deques) n-deques ∷ slice_val (b-frames, o-frames) n-frames ∷ slice_val (b-pool, o-pool) n-pool ∷ slice_val (b-work, o-work) n-work ∷ [])) →
@@ -96,9 +96,9 @@ module _ {M : Type 1} {𝓤 : Ura M} {𝓛 : Logic 𝓤} {K : Type 0} (mem : Mem
       show t' tt u32 b-numbers o-numbers n-numbers numbers len-numbers (λ ν-numbers δ-numbers. move t' (3 ∷ []) $ show t' tt u32 b-deques o-deques n-deques deques len-deques (λ ν-deques δ-deques. move t' (6 ∷ []) $ show t' tt R-Frame b-frames o-frames n-frames frames len-frames (λ ν-frames δ-frames. move t' (9 ∷ []) $ show t' tt u32 b-pool o-pool n-pool pool len-pool (λ ν-pool δ-pool. move t' (12 ∷ []) $ lend t' tt u32 b-work o-work n-work work len-work (λ ν-work δ-work.
       move t' (12 ∷ 9 ∷ 6 ∷ 3 ∷ 0 ∷ 13 ∷ 10 ∷ 7 ∷ 4 ∷ 1 ∷ []) $ group t' 10 $ use1 𝓛 (raw ((Asked 𝓛 mem run).pre (to-step-ssss 𝓛 mem run ν-numbers δ-numbers ν-deques δ-deques ν-frames δ-frames ν-pool δ-pool ν-work δ-work b-numbers o-numbers n-numbers numbers b-deques o-deques n-deques deques b-frames o-frames n-frames frames b-pool o-pool n-pool pool b-work o-work n-work work))) (goes-step-ssss 𝓛 mem run ν-numbers δ-numbers ν-deques δ-deques ν-frames δ-frames ν-pool δ-pool ν-work δ-work b-numbers o-numbers n-numbers numbers b-deques o-deques n-deques deques b-frames o-frames n-frames frames b-pool o-pool n-pool pool b-work o-work n-work work ok') $
       calls_at t' fm' (Asked 𝓛 mem run) known' (to-step-ssss 𝓛 mem run ν-numbers δ-numbers ν-deques δ-deques ν-frames δ-frames ν-pool δ-pool ν-work δ-work b-numbers o-numbers n-numbers numbers b-deques o-deques n-deques deques b-frames o-frames n-frames frames b-pool o-pool n-pool pool b-work o-work n-work work) (os' ν-numbers δ-numbers ν-deques δ-deques ν-frames δ-frames ν-pool δ-pool ν-work δ-work) (λ w'.
-      use1 𝓛 (later (some (λ (res' : Checked). ((‵ (flft (ν-numbers ∷ []) full_share) ⊛ (‵ (flft (ν-deques ∷ []) full_share) ⊛ (‵ (flft (ν-frames ∷ []) full_share) ⊛ (‵ (flft (ν-pool ∷ []) full_share) ⊛ (‵ (flft (ν-work ∷ []) full_share) ⊛ ‵ ftrue))))) ⊛ ‵ (R-Checked.own res' (w' ∷ []))) ⊛ raw (ensured 𝓛 callee'.ended (callee'.clauses 𝓛 mem run) ((ν-numbers ∷ []), ((ν-deques ∷ []), ((ν-frames ∷ []), ((ν-pool ∷ []), ((ν-work ∷ []), tt))))) (at-list b-numbers o-numbers δ-numbers numbers, (at-list b-deques o-deques δ-deques deques, (at-list b-frames o-frames δ-frames frames, (at-list b-pool o-pool δ-pool pool, (at-list b-work o-work δ-work work, tt))))) tt res')))) (id⊢ 𝓤 _) $ await t' tt $ pick t' (λ res'. split t' $ move t' (1 ∷ []) $
-      use1 𝓛 (some (λ (zs' : Unit {0} × (Unit {0} × (Unit {0} × (Unit {0} × (List ℕ × Unit {0}))))). ‵ (lasts callee'.ended ((ν-numbers ∷ []), ((ν-deques ∷ []), ((ν-frames ∷ []), ((ν-pool ∷ []), ((ν-work ∷ []), tt))))) (at-list b-numbers o-numbers δ-numbers numbers, (at-list b-deques o-deques δ-deques deques, (at-list b-frames o-frames δ-frames frames, (at-list b-pool o-pool δ-pool pool, (at-list b-work o-work δ-work work, tt))))) zs') ⊛ raw (fact 𝓤 (IsCheck (parts numbers deques frames) pool work zs'.1.1.1.1.0 res')))) (id⊢ 𝓤 _) $ pick t' (λ zs'. split t' $ move t' (1 ∷ []) $ heard t' (IsCheck (parts numbers deques frames) pool work zs'.1.1.1.1.0 res') (λ e'.
-      fsplit t' $ drop t' $ fsplit t' $ drop t' $ fsplit t' $ drop t' $ fsplit t' $ drop t' $ fsplit t' $ fsplit t' $ move t' (1 ∷ []) $ feq_l t' (λ same-work. move t' (1 ∷ []) $ drop t' $
+      use1 𝓛 (later (some (λ (res' : Checked). ((‵ (flft (ν-numbers ∷ []) full_share) ⊛ (‵ (flft (ν-deques ∷ []) full_share) ⊛ (‵ (flft (ν-frames ∷ []) full_share) ⊛ (‵ (flft (ν-pool ∷ []) full_share) ⊛ (‵ (flft (ν-work ∷ []) full_share) ⊛ ‵ ftrue))))) ⊛ ‵ (R-Checked.own res' (w' ∷ []))) ⊛ raw (ensured 𝓛 callee'.ended (callee'.clauses 𝓛 mem run) ((ν-numbers ∷ []), ((ν-deques ∷ []), ((ν-frames ∷ []), ((ν-pool ∷ []), ((ν-work ∷ []), tt))))) (at_list b-numbers o-numbers δ-numbers numbers, (at_list b-deques o-deques δ-deques deques, (at_list b-frames o-frames δ-frames frames, (at_list b-pool o-pool δ-pool pool, (at_list b-work o-work δ-work work, tt))))) tt res')))) (id⊢ 𝓤 _) $ await t' tt $ pick t' (λ res'. split t' $ move t' (1 ∷ []) $
+      use1 𝓛 (some (λ (zs' : Unit {0} × (Unit {0} × (Unit {0} × (Unit {0} × (List ℕ × Unit {0}))))). ‵ (lasts callee'.ended ((ν-numbers ∷ []), ((ν-deques ∷ []), ((ν-frames ∷ []), ((ν-pool ∷ []), ((ν-work ∷ []), tt))))) (at_list b-numbers o-numbers δ-numbers numbers, (at_list b-deques o-deques δ-deques deques, (at_list b-frames o-frames δ-frames frames, (at_list b-pool o-pool δ-pool pool, (at_list b-work o-work δ-work work, tt))))) zs') ⊛ raw (fact 𝓤 (IsCheck (parts numbers deques frames) pool work zs'.1.1.1.1.0 res')))) (id⊢ 𝓤 _) $ pick t' (λ zs'. split t' $ move t' (1 ∷ []) $ heard t' (IsCheck (parts numbers deques frames) pool work zs'.1.1.1.1.0 res') (λ e'.
+      fsplit t' $ drop t' $ fsplit t' $ drop t' $ fsplit t' $ drop t' $ fsplit t' $ drop t' $ fsplit t' $ fsplit t' $ move t' (1 ∷ []) $ feq_l t' (λ same_work. move t' (1 ∷ []) $ drop t' $
       move t' (1 ∷ []) $ split t' $ move t' (1 ∷ []) $ peeks t' R-Checked (Is R-Checked) (shows 𝓛 R-Checked) res' (w' ∷ []) (λ is'. drop t' $ split t' $ move t' (1 ∷ []) $ split t' $ move t' (1 ∷ []) $ split t' $ move t' (1 ∷ []) $ split t' $ move t' (1 ∷ []) $ split t' $ move t' (1 ∷ []) $ drop t' $
-      move t' (0 ∷ 6 ∷ 5 ∷ []) $ home t' tt u32 b-work o-work n-work work zs'.1.1.1.1.0 len-work room-work same-work $ move t' (1 ∷ 5 ∷ []) $ back t' tt u32 b-pool o-pool n-pool pool len-pool room-pool $ move t' (2 ∷ 5 ∷ []) $ back t' tt R-Frame b-frames o-frames n-frames frames len-frames room-frames $ move t' (3 ∷ 5 ∷ []) $ back t' tt u32 b-deques o-deques n-deques deques len-deques room-deques $ move t' (4 ∷ 5 ∷ []) $ back t' tt u32 b-numbers o-numbers n-numbers numbers len-numbers room-numbers $
-      subst (λ (v' : Val). Seq K 𝓛 (‵ (Mine u32 κ-numbers q-numbers γ-numbers b-numbers o-numbers n-numbers numbers) ∷ ‵ (Mine u32 κ-deques q-deques γ-deques b-deques o-deques n-deques deques) ∷ ‵ (Mine R-Frame κ-frames q-frames γ-frames b-frames o-frames n-frames frames) ∷ ‵ (Mine u32 κ-pool q-pool γ-pool b-pool o-pool n-pool pool) ∷ ‵ (Mine u32 κ-work q-work γ-work b-work o-work n-work zs'.1.1.1.1.0) ∷ Γ) (lands C Λ E dest' v' rest' post')) (sym (ap only (EL.tells M-Checked.the_type L-Checked.the_laws res' _ is'))) (k' res' zs'.1.1.1.1.0 (subst (Is R-Checked res') (EL.tells M-Checked.the_type L-Checked.the_laws res' _ is') is') e' same-work))))))))))))
+      move t' (0 ∷ 6 ∷ 5 ∷ []) $ home t' tt u32 b-work o-work n-work work zs'.1.1.1.1.0 len-work room-work same_work $ move t' (1 ∷ 5 ∷ []) $ back t' tt u32 b-pool o-pool n-pool pool len-pool room-pool $ move t' (2 ∷ 5 ∷ []) $ back t' tt R-Frame b-frames o-frames n-frames frames len-frames room-frames $ move t' (3 ∷ 5 ∷ []) $ back t' tt u32 b-deques o-deques n-deques deques len-deques room-deques $ move t' (4 ∷ 5 ∷ []) $ back t' tt u32 b-numbers o-numbers n-numbers numbers len-numbers room-numbers $
+      subst (λ (v' : Val). Seq K 𝓛 (‵ (Mine u32 κ-numbers q-numbers γ-numbers b-numbers o-numbers n-numbers numbers) ∷ ‵ (Mine u32 κ-deques q-deques γ-deques b-deques o-deques n-deques deques) ∷ ‵ (Mine R-Frame κ-frames q-frames γ-frames b-frames o-frames n-frames frames) ∷ ‵ (Mine u32 κ-pool q-pool γ-pool b-pool o-pool n-pool pool) ∷ ‵ (Mine u32 κ-work q-work γ-work b-work o-work n-work zs'.1.1.1.1.0) ∷ Γ) (lands C Λ E dest' v' rest' post')) (sym (ap only (EL.tells M-Checked.the_type L-Checked.the_laws res' _ is'))) (k' res' zs'.1.1.1.1.0 (subst (Is R-Checked res') (EL.tells M-Checked.the_type L-Checked.the_laws res' _ is') is') e' same_work))))))))))))

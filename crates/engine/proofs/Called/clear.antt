@@ -29,7 +29,7 @@ use denote.Triple.Call.{calls_at, calls_at_last}
 use denote.Triple.Clauses.{ensured, lasts}
 use denote.Triple.Walked.{says}
 use Rattle.soundness.specs.Soundness.{cleared}
-use Rattle.frames.proofs.Lent.{at-list, Mine, Yours, Lent, Shown, lend, home, show, back, give}
+use Rattle.frames.proofs.Lent.{at_list, Mine, Yours, Lent, Shown, lend, home, show, back, give}
 use Rattle.pool_check.specs.contracts.clear as callee'
 
 module _ {M : Type 1} {𝓤 : Ura M} (𝓛 : Logic 𝓤) (mem : Memory → SProp 𝓤) (run : Routine → Fun 𝓤) where
@@ -37,10 +37,10 @@ module _ {M : Type 1} {𝓤 : Ura M} (𝓛 : Logic 𝓤) (mem : Memory → SProp
   Asked = triple_of 𝓛 callee'.signature (callee'.spec 𝓛 mem run)
 
   abbrev pub to_step : (ν-work : ℕ) (δ-work : GName) (b-work o-work n-work : ℕ) (work : List ℕ) (n : ℕ) → Asked.Ghost
-  to_step ν-work δ-work b-work o-work n-work work n = ((((ν-work ∷ []), tt), (full_share, tt), tt, (at-list b-work o-work δ-work work, (n, tt)), (slice_val (b-work, o-work) n-work ∷ [], (vint w32 n ∷ [], tt))), tt)
+  to_step ν-work δ-work b-work o-work n-work work n = ((((ν-work ∷ []), tt), (full_share, tt), tt, (at_list b-work o-work δ-work work, (n, tt)), (slice_val (b-work, o-work) n-work ∷ [], (vint w32 n ∷ [], tt))), tt)
 
-  pub goes_step : (ν-work : ℕ) (δ-work : GName) (b-work o-work n-work : ℕ) (work : List ℕ) (n : ℕ) → (n-good : n < 2 ^ 32) → ent 𝓤 (⋆ 𝓛 (‵ (flft (ν-work ∷ []) full_share) ∷ ‵ ((MutSlice (named 0) (ν-work ∷ []) u32).own_val (at-list b-work o-work δ-work work) (slice_val (b-work, o-work) n-work ∷ [])) ∷ [])) (Asked.pre (to_step ν-work δ-work b-work o-work n-work work n))
-  goes_step ν-work δ-work b-work o-work n-work work n n-good = qed 𝓛 (‵ (flft (ν-work ∷ []) full_share) ∷ ‵ ((MutSlice (named 0) (ν-work ∷ []) u32).own_val (at-list b-work o-work δ-work work) (slice_val (b-work, o-work) n-work ∷ [])) ∷ []) ∵ nothing ! $ move ! (1 ∷ 0 ∷ []) $ group ! 2 $ move ! (1 ∷ 0 ∷ []) $
+  pub goes_step : (ν-work : ℕ) (δ-work : GName) (b-work o-work n-work : ℕ) (work : List ℕ) (n : ℕ) → (n-good : n < 2 ^ 32) → ent 𝓤 (⋆ 𝓛 (‵ (flft (ν-work ∷ []) full_share) ∷ ‵ ((MutSlice (named 0) (ν-work ∷ []) u32).own_val (at_list b-work o-work δ-work work) (slice_val (b-work, o-work) n-work ∷ [])) ∷ [])) (Asked.pre (to_step ν-work δ-work b-work o-work n-work work n))
+  goes_step ν-work δ-work b-work o-work n-work work n n-good = qed 𝓛 (‵ (flft (ν-work ∷ []) full_share) ∷ ‵ ((MutSlice (named 0) (ν-work ∷ []) u32).own_val (at_list b-work o-work δ-work work) (slice_val (b-work, o-work) n-work ∷ [])) ∷ []) ∵ nothing ! $ move ! (1 ∷ 0 ∷ []) $ group ! 2 $ move ! (1 ∷ 0 ∷ []) $
       nothing ! $ owned ! u32 (Is u32) (uint_Makes 𝓛 w32) n _ (refl, n-good) $ fjoin ! $ move ! (1 ∷ 0 ∷ []) $ fjoin ! $ move ! (1 ∷ 0 ∷ []) $ join ! $ frame ! $ done !
 
 module _ {M : Type 1} {𝓤 : Ura M} {𝓛 : Logic 𝓤} {K : Type 0} (mem : Memory → SProp 𝓤) (run : Routine → Fun 𝓤)
@@ -55,9 +55,9 @@ module _ {M : Type 1} {𝓤 : Ura M} {𝓛 : Logic 𝓤} {K : Type 0} (mem : Mem
       lend t' tt u32 b-work o-work n-work work len-work (λ ν-work δ-work.
       move t' (0 ∷ 1 ∷ []) $ group t' 2 $ use1 𝓛 (raw ((Asked 𝓛 mem run).pre (to_step 𝓛 mem run ν-work δ-work b-work o-work n-work work n))) (goes_step 𝓛 mem run ν-work δ-work b-work o-work n-work work n n-good) $
       calls_at t' fm' (Asked 𝓛 mem run) known' (to_step 𝓛 mem run ν-work δ-work b-work o-work n-work work n) (os' ν-work δ-work) (λ w'.
-      use1 𝓛 (later (some (λ (res' : Unit {0}). ((‵ (flft (ν-work ∷ []) full_share) ⊛ ‵ ftrue) ⊛ ‵ (unit.own_val res' (w' ∷ []))) ⊛ raw (ensured 𝓛 callee'.ended (callee'.clauses 𝓛 mem run) ((ν-work ∷ []), tt) (at-list b-work o-work δ-work work, (n, tt)) tt res')))) (id⊢ 𝓤 _) $ await t' tt $ pick t' (λ res'. split t' $ move t' (1 ∷ []) $
-      use1 𝓛 (some (λ (zs' : List ℕ × (Unit {0} × Unit {0})). ‵ (lasts callee'.ended ((ν-work ∷ []), tt) (at-list b-work o-work δ-work work, (n, tt)) zs') ⊛ raw (fact 𝓤 (zs'.0 ≡ cleared n work)))) (id⊢ 𝓤 _) $ pick t' (λ zs'. split t' $ move t' (1 ∷ []) $ heard t' (zs'.0 ≡ cleared n work) (λ e'.
-      fsplit t' $ fsplit t' $ move t' (1 ∷ []) $ feq_l t' (λ same-work. move t' (1 ∷ []) $ fsplit t' $ drop t' $ drop t' $
+      use1 𝓛 (later (some (λ (res' : Unit {0}). ((‵ (flft (ν-work ∷ []) full_share) ⊛ ‵ ftrue) ⊛ ‵ (unit.own_val res' (w' ∷ []))) ⊛ raw (ensured 𝓛 callee'.ended (callee'.clauses 𝓛 mem run) ((ν-work ∷ []), tt) (at_list b-work o-work δ-work work, (n, tt)) tt res')))) (id⊢ 𝓤 _) $ await t' tt $ pick t' (λ res'. split t' $ move t' (1 ∷ []) $
+      use1 𝓛 (some (λ (zs' : List ℕ × (Unit {0} × Unit {0})). ‵ (lasts callee'.ended ((ν-work ∷ []), tt) (at_list b-work o-work δ-work work, (n, tt)) zs') ⊛ raw (fact 𝓤 (zs'.0 ≡ cleared n work)))) (id⊢ 𝓤 _) $ pick t' (λ zs'. split t' $ move t' (1 ∷ []) $ heard t' (zs'.0 ≡ cleared n work) (λ e'.
+      fsplit t' $ fsplit t' $ move t' (1 ∷ []) $ feq_l t' (λ same_work. move t' (1 ∷ []) $ fsplit t' $ drop t' $ drop t' $
       move t' (1 ∷ []) $ split t' $ move t' (1 ∷ []) $ peeks t' unit (Is unit) (shows 𝓛 unit) res' (w' ∷ []) (λ is'. drop t' $ split t' $ move t' (1 ∷ []) $ drop t' $
-      move t' (0 ∷ 2 ∷ 1 ∷ []) $ home t' tt u32 b-work o-work n-work work zs'.0 len-work room-work same-work $
-      subst (λ (v' : Val). Seq K 𝓛 (‵ (Mine u32 κ-work q-work γ-work b-work o-work n-work zs'.0) ∷ Γ) (lands C Λ E dest' v' rest' post')) (sym (ap only (Nothing-Tells res' _ is'))) (k' zs'.0 e' same-work))))))))
+      move t' (0 ∷ 2 ∷ 1 ∷ []) $ home t' tt u32 b-work o-work n-work work zs'.0 len-work room-work same_work $
+      subst (λ (v' : Val). Seq K 𝓛 (‵ (Mine u32 κ-work q-work γ-work b-work o-work n-work zs'.0) ∷ Γ) (lands C Λ E dest' v' rest' post')) (sym (ap only (Nothing-Tells res' _ is'))) (k' zs'.0 e' same_work))))))))

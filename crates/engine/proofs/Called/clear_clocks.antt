@@ -28,7 +28,7 @@ use denote.Triple.Statement.{Contract, Triple}
 use denote.Triple.Call.{calls_at, calls_at_last}
 use denote.Triple.Clauses.{ensured, lasts}
 use denote.Triple.Walked.{says}
-use Rattle.frames.proofs.Lent.{at-list, Mine, Yours, Lent, Shown, lend, home, show, back, give}
+use Rattle.frames.proofs.Lent.{at_list, Mine, Yours, Lent, Shown, lend, home, show, back, give}
 use Rattle.timing.specs.contracts.clear_clocks as callee'
 
 module _ {M : Type 1} {𝓤 : Ura M} (𝓛 : Logic 𝓤) (mem : Memory → SProp 𝓤) (run : Routine → Fun 𝓤) where
@@ -36,10 +36,10 @@ module _ {M : Type 1} {𝓤 : Ura M} (𝓛 : Logic 𝓤) (mem : Memory → SProp
   Asked = triple_of 𝓛 callee'.signature (callee'.spec 𝓛 mem run)
 
   abbrev pub to_step : (ν-clocks : ℕ) (δ-clocks : GName) (b-clocks o-clocks n-clocks : ℕ) (clocks : List ℕ) → Asked.Ghost
-  to_step ν-clocks δ-clocks b-clocks o-clocks n-clocks clocks = ((((ν-clocks ∷ []), tt), (full_share, tt), tt, (at-list b-clocks o-clocks δ-clocks clocks, tt), (slice_val (b-clocks, o-clocks) n-clocks ∷ [], tt)), tt)
+  to_step ν-clocks δ-clocks b-clocks o-clocks n-clocks clocks = ((((ν-clocks ∷ []), tt), (full_share, tt), tt, (at_list b-clocks o-clocks δ-clocks clocks, tt), (slice_val (b-clocks, o-clocks) n-clocks ∷ [], tt)), tt)
 
-  pub goes_step : (ν-clocks : ℕ) (δ-clocks : GName) (b-clocks o-clocks n-clocks : ℕ) (clocks : List ℕ) → ent 𝓤 (⋆ 𝓛 (‵ (flft (ν-clocks ∷ []) full_share) ∷ ‵ ((MutSlice (named 0) (ν-clocks ∷ []) u64).own_val (at-list b-clocks o-clocks δ-clocks clocks) (slice_val (b-clocks, o-clocks) n-clocks ∷ [])) ∷ [])) (Asked.pre (to_step ν-clocks δ-clocks b-clocks o-clocks n-clocks clocks))
-  goes_step ν-clocks δ-clocks b-clocks o-clocks n-clocks clocks = qed 𝓛 (‵ (flft (ν-clocks ∷ []) full_share) ∷ ‵ ((MutSlice (named 0) (ν-clocks ∷ []) u64).own_val (at-list b-clocks o-clocks δ-clocks clocks) (slice_val (b-clocks, o-clocks) n-clocks ∷ [])) ∷ []) ∵ nothing ! $ move ! (1 ∷ 0 ∷ []) $ group ! 2 $ move ! (1 ∷ 0 ∷ []) $
+  pub goes_step : (ν-clocks : ℕ) (δ-clocks : GName) (b-clocks o-clocks n-clocks : ℕ) (clocks : List ℕ) → ent 𝓤 (⋆ 𝓛 (‵ (flft (ν-clocks ∷ []) full_share) ∷ ‵ ((MutSlice (named 0) (ν-clocks ∷ []) u64).own_val (at_list b-clocks o-clocks δ-clocks clocks) (slice_val (b-clocks, o-clocks) n-clocks ∷ [])) ∷ [])) (Asked.pre (to_step ν-clocks δ-clocks b-clocks o-clocks n-clocks clocks))
+  goes_step ν-clocks δ-clocks b-clocks o-clocks n-clocks clocks = qed 𝓛 (‵ (flft (ν-clocks ∷ []) full_share) ∷ ‵ ((MutSlice (named 0) (ν-clocks ∷ []) u64).own_val (at_list b-clocks o-clocks δ-clocks clocks) (slice_val (b-clocks, o-clocks) n-clocks ∷ [])) ∷ []) ∵ nothing ! $ move ! (1 ∷ 0 ∷ []) $ group ! 2 $ move ! (1 ∷ 0 ∷ []) $
       nothing ! $ move ! (1 ∷ 0 ∷ []) $ fjoin ! $ move ! (1 ∷ 0 ∷ []) $ join ! $ frame ! $ done !
 
 module _ {M : Type 1} {𝓤 : Ura M} {𝓛 : Logic 𝓤} {K : Type 0} (mem : Memory → SProp 𝓤) (run : Routine → Fun 𝓤)
@@ -54,9 +54,9 @@ module _ {M : Type 1} {𝓤 : Ura M} {𝓛 : Logic 𝓤} {K : Type 0} (mem : Mem
       lend t' tt u64 b-clocks o-clocks n-clocks clocks len-clocks (λ ν-clocks δ-clocks.
       move t' (0 ∷ 1 ∷ []) $ group t' 2 $ use1 𝓛 (raw ((Asked 𝓛 mem run).pre (to_step 𝓛 mem run ν-clocks δ-clocks b-clocks o-clocks n-clocks clocks))) (goes_step 𝓛 mem run ν-clocks δ-clocks b-clocks o-clocks n-clocks clocks) $
       calls_at t' fm' (Asked 𝓛 mem run) known' (to_step 𝓛 mem run ν-clocks δ-clocks b-clocks o-clocks n-clocks clocks) (os' ν-clocks δ-clocks) (λ w'.
-      use1 𝓛 (later (some (λ (res' : Unit {0}). ((‵ (flft (ν-clocks ∷ []) full_share) ⊛ ‵ ftrue) ⊛ ‵ (unit.own_val res' (w' ∷ []))) ⊛ raw (ensured 𝓛 callee'.ended (callee'.clauses 𝓛 mem run) ((ν-clocks ∷ []), tt) (at-list b-clocks o-clocks δ-clocks clocks, tt) tt res')))) (id⊢ 𝓤 _) $ await t' tt $ pick t' (λ res'. split t' $ move t' (1 ∷ []) $
-      use1 𝓛 (some (λ (zs' : List ℕ × Unit {0}). ‵ (lasts callee'.ended ((ν-clocks ∷ []), tt) (at-list b-clocks o-clocks δ-clocks clocks, tt) zs') ⊛ raw (fact 𝓤 (zs'.0 ≡ replicate (length clocks) 0)))) (id⊢ 𝓤 _) $ pick t' (λ zs'. split t' $ move t' (1 ∷ []) $ heard t' (zs'.0 ≡ replicate (length clocks) 0) (λ e'.
-      fsplit t' $ fsplit t' $ move t' (1 ∷ []) $ feq_l t' (λ same-clocks. move t' (1 ∷ []) $ drop t' $
+      use1 𝓛 (later (some (λ (res' : Unit {0}). ((‵ (flft (ν-clocks ∷ []) full_share) ⊛ ‵ ftrue) ⊛ ‵ (unit.own_val res' (w' ∷ []))) ⊛ raw (ensured 𝓛 callee'.ended (callee'.clauses 𝓛 mem run) ((ν-clocks ∷ []), tt) (at_list b-clocks o-clocks δ-clocks clocks, tt) tt res')))) (id⊢ 𝓤 _) $ await t' tt $ pick t' (λ res'. split t' $ move t' (1 ∷ []) $
+      use1 𝓛 (some (λ (zs' : List ℕ × Unit {0}). ‵ (lasts callee'.ended ((ν-clocks ∷ []), tt) (at_list b-clocks o-clocks δ-clocks clocks, tt) zs') ⊛ raw (fact 𝓤 (zs'.0 ≡ replicate (length clocks) 0)))) (id⊢ 𝓤 _) $ pick t' (λ zs'. split t' $ move t' (1 ∷ []) $ heard t' (zs'.0 ≡ replicate (length clocks) 0) (λ e'.
+      fsplit t' $ fsplit t' $ move t' (1 ∷ []) $ feq_l t' (λ same_clocks. move t' (1 ∷ []) $ drop t' $
       move t' (1 ∷ []) $ split t' $ move t' (1 ∷ []) $ peeks t' unit (Is unit) (shows 𝓛 unit) res' (w' ∷ []) (λ is'. drop t' $ split t' $ move t' (1 ∷ []) $ drop t' $
-      move t' (0 ∷ 2 ∷ 1 ∷ []) $ home t' tt u64 b-clocks o-clocks n-clocks clocks zs'.0 len-clocks room-clocks same-clocks $
-      subst (λ (v' : Val). Seq K 𝓛 (‵ (Mine u64 κ-clocks q-clocks γ-clocks b-clocks o-clocks n-clocks zs'.0) ∷ Γ) (lands C Λ E dest' v' rest' post')) (sym (ap only (Nothing-Tells res' _ is'))) (k' zs'.0 e' same-clocks))))))))
+      move t' (0 ∷ 2 ∷ 1 ∷ []) $ home t' tt u64 b-clocks o-clocks n-clocks clocks zs'.0 len-clocks room-clocks same_clocks $
+      subst (λ (v' : Val). Seq K 𝓛 (‵ (Mine u64 κ-clocks q-clocks γ-clocks b-clocks o-clocks n-clocks zs'.0) ∷ Γ) (lands C Λ E dest' v' rest' post')) (sym (ap only (Nothing-Tells res' _ is'))) (k' zs'.0 e' same_clocks))))))))

@@ -28,9 +28,9 @@ use denote.Triple.Statement.{Contract, Triple}
 use denote.Triple.Call.{calls_at, calls_at_last}
 use denote.Triple.Clauses.{ensured, lasts}
 use denote.Triple.Walked.{says}
-use Rattle.semantics.specs.Images.{nodesZero}
+use Rattle.semantics.specs.Images.{nodes_zero}
 use Rattle.soundness.specs.Layout.{two_words}
-use Rattle.frames.proofs.Lent.{at-list, Mine, Yours, Lent, Shown, lend, home, show, back, give}
+use Rattle.frames.proofs.Lent.{at_list, Mine, Yours, Lent, Shown, lend, home, show, back, give}
 use Rattle.engine.specs.contracts.images.clear_nodes as callee'
 
 module _ {M : Type 1} {𝓤 : Ura M} (𝓛 : Logic 𝓤) (mem : Memory → SProp 𝓤) (run : Routine → Fun 𝓤) where
@@ -38,10 +38,10 @@ module _ {M : Type 1} {𝓤 : Ura M} (𝓛 : Logic 𝓤) (mem : Memory → SProp
   Asked = triple_of 𝓛 callee'.signature (callee'.spec 𝓛 mem run)
 
   abbrev pub to_step : (ν-pool : ℕ) (δ-pool : GName) (b-pool o-pool n-pool : ℕ) (pool : List ℕ) → Asked.Ghost
-  to_step ν-pool δ-pool b-pool o-pool n-pool pool = ((((ν-pool ∷ []), tt), (full_share, tt), tt, (at-list b-pool o-pool δ-pool pool, tt), (slice_val (b-pool, o-pool) n-pool ∷ [], tt)), tt)
+  to_step ν-pool δ-pool b-pool o-pool n-pool pool = ((((ν-pool ∷ []), tt), (full_share, tt), tt, (at_list b-pool o-pool δ-pool pool, tt), (slice_val (b-pool, o-pool) n-pool ∷ [], tt)), tt)
 
-  pub goes_step : (ν-pool : ℕ) (δ-pool : GName) (b-pool o-pool n-pool : ℕ) (pool : List ℕ) → ent 𝓤 (⋆ 𝓛 (‵ (flft (ν-pool ∷ []) full_share) ∷ ‵ ((MutSlice (named 0) (ν-pool ∷ []) u32).own_val (at-list b-pool o-pool δ-pool pool) (slice_val (b-pool, o-pool) n-pool ∷ [])) ∷ [])) (Asked.pre (to_step ν-pool δ-pool b-pool o-pool n-pool pool))
-  goes_step ν-pool δ-pool b-pool o-pool n-pool pool = qed 𝓛 (‵ (flft (ν-pool ∷ []) full_share) ∷ ‵ ((MutSlice (named 0) (ν-pool ∷ []) u32).own_val (at-list b-pool o-pool δ-pool pool) (slice_val (b-pool, o-pool) n-pool ∷ [])) ∷ []) ∵ nothing ! $ move ! (1 ∷ 0 ∷ []) $ group ! 2 $ move ! (1 ∷ 0 ∷ []) $
+  pub goes_step : (ν-pool : ℕ) (δ-pool : GName) (b-pool o-pool n-pool : ℕ) (pool : List ℕ) → ent 𝓤 (⋆ 𝓛 (‵ (flft (ν-pool ∷ []) full_share) ∷ ‵ ((MutSlice (named 0) (ν-pool ∷ []) u32).own_val (at_list b-pool o-pool δ-pool pool) (slice_val (b-pool, o-pool) n-pool ∷ [])) ∷ [])) (Asked.pre (to_step ν-pool δ-pool b-pool o-pool n-pool pool))
+  goes_step ν-pool δ-pool b-pool o-pool n-pool pool = qed 𝓛 (‵ (flft (ν-pool ∷ []) full_share) ∷ ‵ ((MutSlice (named 0) (ν-pool ∷ []) u32).own_val (at_list b-pool o-pool δ-pool pool) (slice_val (b-pool, o-pool) n-pool ∷ [])) ∷ []) ∵ nothing ! $ move ! (1 ∷ 0 ∷ []) $ group ! 2 $ move ! (1 ∷ 0 ∷ []) $
       nothing ! $ move ! (1 ∷ 0 ∷ []) $ fjoin ! $ move ! (1 ∷ 0 ∷ []) $ join ! $ frame ! $ done !
 
 module _ {M : Type 1} {𝓤 : Ura M} {𝓛 : Logic 𝓤} {K : Type 0} (mem : Memory → SProp 𝓤) (run : Routine → Fun 𝓤)
@@ -50,14 +50,14 @@ module _ {M : Type 1} {𝓤 : Ura M} {𝓛 : Logic 𝓤} {K : Type 0} (mem : Mem
 
   pub step : K → FmC 𝓤 H 𝓛.laws C → Triple 𝓤 (C name') (Asked 𝓛 mem run) → {κ-pool : Lft} {q-pool : Share} {γ-pool : GName} → (b-pool o-pool n-pool : ℕ) (pool : List ℕ) → length pool ≡ n-pool → Room u32 n-pool →
       ((ν-pool : ℕ) (δ-pool : GName) → Opds K 𝓛 (raw ((Asked 𝓛 mem run).pre (to_step 𝓛 mem run ν-pool δ-pool b-pool o-pool n-pool pool)) ∷ ‵ (Lent u32 κ-pool (ν-pool ∷ []) q-pool γ-pool b-pool o-pool δ-pool pool) ∷ Γ) E opds' (slice_val (b-pool, o-pool) n-pool ∷ [])) →
-      ((zs-pool : List ℕ) → zs-pool ≡ nodesZero two_words pool → length zs-pool ≡ length pool → Seq K 𝓛 (‵ (Mine u32 κ-pool q-pool γ-pool b-pool o-pool n-pool zs-pool) ∷ Γ) (lands C Λ E dest' (vunit) rest' post')) →
+      ((zs-pool : List ℕ) → zs-pool ≡ nodes_zero two_words pool → length zs-pool ≡ length pool → Seq K 𝓛 (‵ (Mine u32 κ-pool q-pool γ-pool b-pool o-pool n-pool zs-pool) ∷ Γ) (lands C Λ E dest' (vunit) rest' post')) →
       Seq K 𝓛 (‵ (Mine u32 κ-pool q-pool γ-pool b-pool o-pool n-pool pool) ∷ Γ) (runs C Λ E (seq (call name' opds' dest') rest') post')
   step t' fm' known' {κ-pool} {q-pool} {γ-pool} b-pool o-pool n-pool pool len-pool room-pool os' k' =
       lend t' tt u32 b-pool o-pool n-pool pool len-pool (λ ν-pool δ-pool.
       move t' (0 ∷ 1 ∷ []) $ group t' 2 $ use1 𝓛 (raw ((Asked 𝓛 mem run).pre (to_step 𝓛 mem run ν-pool δ-pool b-pool o-pool n-pool pool))) (goes_step 𝓛 mem run ν-pool δ-pool b-pool o-pool n-pool pool) $
       calls_at t' fm' (Asked 𝓛 mem run) known' (to_step 𝓛 mem run ν-pool δ-pool b-pool o-pool n-pool pool) (os' ν-pool δ-pool) (λ w'.
-      use1 𝓛 (later (some (λ (res' : Unit {0}). ((‵ (flft (ν-pool ∷ []) full_share) ⊛ ‵ ftrue) ⊛ ‵ (unit.own_val res' (w' ∷ []))) ⊛ raw (ensured 𝓛 callee'.ended (callee'.clauses 𝓛 mem run) ((ν-pool ∷ []), tt) (at-list b-pool o-pool δ-pool pool, tt) tt res')))) (id⊢ 𝓤 _) $ await t' tt $ pick t' (λ res'. split t' $ move t' (1 ∷ []) $
-      use1 𝓛 (some (λ (zs' : List ℕ × Unit {0}). ‵ (lasts callee'.ended ((ν-pool ∷ []), tt) (at-list b-pool o-pool δ-pool pool, tt) zs') ⊛ raw (fact 𝓤 (zs'.0 ≡ nodesZero two_words pool)))) (id⊢ 𝓤 _) $ pick t' (λ zs'. split t' $ move t' (1 ∷ []) $ heard t' (zs'.0 ≡ nodesZero two_words pool) (λ e'.
+      use1 𝓛 (later (some (λ (res' : Unit {0}). ((‵ (flft (ν-pool ∷ []) full_share) ⊛ ‵ ftrue) ⊛ ‵ (unit.own_val res' (w' ∷ []))) ⊛ raw (ensured 𝓛 callee'.ended (callee'.clauses 𝓛 mem run) ((ν-pool ∷ []), tt) (at_list b-pool o-pool δ-pool pool, tt) tt res')))) (id⊢ 𝓤 _) $ await t' tt $ pick t' (λ res'. split t' $ move t' (1 ∷ []) $
+      use1 𝓛 (some (λ (zs' : List ℕ × Unit {0}). ‵ (lasts callee'.ended ((ν-pool ∷ []), tt) (at_list b-pool o-pool δ-pool pool, tt) zs') ⊛ raw (fact 𝓤 (zs'.0 ≡ nodes_zero two_words pool)))) (id⊢ 𝓤 _) $ pick t' (λ zs'. split t' $ move t' (1 ∷ []) $ heard t' (zs'.0 ≡ nodes_zero two_words pool) (λ e'.
       fsplit t' $ fsplit t' $ move t' (1 ∷ []) $ feq_l t' (λ same-pool. move t' (1 ∷ []) $ drop t' $
       move t' (1 ∷ []) $ split t' $ move t' (1 ∷ []) $ peeks t' unit (Is unit) (shows 𝓛 unit) res' (w' ∷ []) (λ is'. drop t' $ split t' $ move t' (1 ∷ []) $ drop t' $
       move t' (0 ∷ 2 ∷ 1 ∷ []) $ home t' tt u32 b-pool o-pool n-pool pool zs'.0 len-pool room-pool same-pool $

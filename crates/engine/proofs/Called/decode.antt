@@ -28,11 +28,11 @@ use denote.Triple.Statement.{Contract, Triple}
 use denote.Triple.Call.{calls_at, calls_at_last}
 use denote.Triple.Clauses.{ensured, lasts}
 use denote.Triple.Walked.{says}
-use Rattle.model.specs.Record.{decodeAt}
+use Rattle.model.specs.Record.{decode_at}
 use Rattle.model.specs.contracts.Decoded as M-Decoded
 use Rattle.model.proofs.Decoded.TheLaws as L-Decoded
 use Rattle.model.specs.declared.Decoded.{Decoded}
-use Rattle.frames.proofs.Lent.{at-list, Mine, Yours, Lent, Shown, lend, home, show, back, give}
+use Rattle.frames.proofs.Lent.{at_list, Mine, Yours, Lent, Shown, lend, home, show, back, give}
 use Rattle.model.specs.contracts.record.decode as callee'
 
 abbrev R-Decoded : RattleType
@@ -46,10 +46,10 @@ module _ {M : Type 1} {𝓤 : Ura M} (𝓛 : Logic 𝓤) (mem : Memory → SProp
   Asked = triple_of 𝓛 callee'.signature (callee'.spec 𝓛 mem run)
 
   abbrev pub to-step-g : (κ-tape : Lft) (q-tape : Share) (γ-tape : GName) (b-tape o-tape n-tape : ℕ) (tape : List ℕ) (at : ℕ) → Asked.Ghost
-  to-step-g κ-tape q-tape γ-tape b-tape o-tape n-tape tape at = (((κ-tape, tt), (q-tape, tt), tt, (at-list b-tape o-tape γ-tape tape, (at, tt)), (slice_val (b-tape, o-tape) n-tape ∷ [], (vint w64 at ∷ [], tt))), tt)
+  to-step-g κ-tape q-tape γ-tape b-tape o-tape n-tape tape at = (((κ-tape, tt), (q-tape, tt), tt, (at_list b-tape o-tape γ-tape tape, (at, tt)), (slice_val (b-tape, o-tape) n-tape ∷ [], (vint w64 at ∷ [], tt))), tt)
 
-  pub goes-step-g : (κ-tape : Lft) (q-tape : Share) (γ-tape : GName) (b-tape o-tape n-tape : ℕ) (tape : List ℕ) (at : ℕ) → (at-good : at < 2 ^ 64) (ok' : at + 8 ≤ length tape) → ent 𝓤 (⋆ 𝓛 (‵ (flft κ-tape q-tape) ∷ ‵ ((ShrSlice (named 0) κ-tape u8).own_val (at-list b-tape o-tape γ-tape tape) (slice_val (b-tape, o-tape) n-tape ∷ [])) ∷ [])) (Asked.pre (to-step-g κ-tape q-tape γ-tape b-tape o-tape n-tape tape at))
-  goes-step-g κ-tape q-tape γ-tape b-tape o-tape n-tape tape at at-good ok' = qed 𝓛 (‵ (flft κ-tape q-tape) ∷ ‵ ((ShrSlice (named 0) κ-tape u8).own_val (at-list b-tape o-tape γ-tape tape) (slice_val (b-tape, o-tape) n-tape ∷ [])) ∷ []) ∵ says ! ok' $ nothing ! $ move ! (1 ∷ 0 ∷ []) $ group ! 2 $ frame ! $
+  pub goes-step-g : (κ-tape : Lft) (q-tape : Share) (γ-tape : GName) (b-tape o-tape n-tape : ℕ) (tape : List ℕ) (at : ℕ) → (at-good : at < 2 ^ 64) (ok' : at + 8 ≤ length tape) → ent 𝓤 (⋆ 𝓛 (‵ (flft κ-tape q-tape) ∷ ‵ ((ShrSlice (named 0) κ-tape u8).own_val (at_list b-tape o-tape γ-tape tape) (slice_val (b-tape, o-tape) n-tape ∷ [])) ∷ [])) (Asked.pre (to-step-g κ-tape q-tape γ-tape b-tape o-tape n-tape tape at))
+  goes-step-g κ-tape q-tape γ-tape b-tape o-tape n-tape tape at at-good ok' = qed 𝓛 (‵ (flft κ-tape q-tape) ∷ ‵ ((ShrSlice (named 0) κ-tape u8).own_val (at_list b-tape o-tape γ-tape tape) (slice_val (b-tape, o-tape) n-tape ∷ [])) ∷ []) ∵ says ! ok' $ nothing ! $ move ! (1 ∷ 0 ∷ []) $ group ! 2 $ frame ! $
       nothing ! $ owned ! usize (Is usize) (uint_Makes 𝓛 w64) at _ (refl, at-good) $ fjoin ! $ move ! (1 ∷ 0 ∷ []) $ fjoin ! $ done !
 
 module _ {M : Type 1} {𝓤 : Ura M} {𝓛 : Logic 𝓤} {K : Type 0} (mem : Memory → SProp 𝓤) (run : Routine → Fun 𝓤)
@@ -57,15 +57,15 @@ module _ {M : Type 1} {𝓤 : Ura M} {𝓛 : Logic 𝓤} {K : Type 0} (mem : Mem
   open 𝓛 use {H}
 
   pub step-g : K → FmC 𝓤 H 𝓛.laws C → Triple 𝓤 (C name') (Asked 𝓛 mem run) → {κ-tape : Lft} {q-tape : Share} {γ-tape : GName} → (b-tape o-tape n-tape : ℕ) (tape : List ℕ) (at : ℕ) → (at-good : at < 2 ^ 64) → at + 8 ≤ length tape →
-      (Opds K 𝓛 (raw ((Asked 𝓛 mem run).pre (to-step-g 𝓛 mem run κ-tape q-tape γ-tape b-tape o-tape n-tape tape at)) ∷ ‵ ((ShrSlice (named 0) κ-tape u8).own_val (at-list b-tape o-tape γ-tape tape) (slice_val (b-tape, o-tape) n-tape ∷ [])) ∷ Γ) E opds' (slice_val (b-tape, o-tape) n-tape ∷ vint w64 at ∷ [])) →
-      ((res' : Decoded) → Is R-Decoded res' (val-Decoded res' ∷ []) → res' ≡ decodeAt tape at → Seq K 𝓛 (‵ (Yours u8 κ-tape q-tape γ-tape b-tape o-tape n-tape tape) ∷ Γ) (lands C Λ E dest' (val-Decoded res') rest' post')) →
+      (Opds K 𝓛 (raw ((Asked 𝓛 mem run).pre (to-step-g 𝓛 mem run κ-tape q-tape γ-tape b-tape o-tape n-tape tape at)) ∷ ‵ ((ShrSlice (named 0) κ-tape u8).own_val (at_list b-tape o-tape γ-tape tape) (slice_val (b-tape, o-tape) n-tape ∷ [])) ∷ Γ) E opds' (slice_val (b-tape, o-tape) n-tape ∷ vint w64 at ∷ [])) →
+      ((res' : Decoded) → Is R-Decoded res' (val-Decoded res' ∷ []) → res' ≡ decode_at tape at → Seq K 𝓛 (‵ (Yours u8 κ-tape q-tape γ-tape b-tape o-tape n-tape tape) ∷ Γ) (lands C Λ E dest' (val-Decoded res') rest' post')) →
       Seq K 𝓛 (‵ (Yours u8 κ-tape q-tape γ-tape b-tape o-tape n-tape tape) ∷ Γ) (runs C Λ E (seq (call name' opds' dest') rest') post')
   step-g t' fm' known' {κ-tape} {q-tape} {γ-tape} b-tape o-tape n-tape tape at at-good ok' os' k' =
       give t' u8 b-tape o-tape n-tape tape $
       move t' (0 ∷ 1 ∷ []) $ group t' 2 $ use1 𝓛 (raw ((Asked 𝓛 mem run).pre (to-step-g 𝓛 mem run κ-tape q-tape γ-tape b-tape o-tape n-tape tape at))) (goes-step-g 𝓛 mem run κ-tape q-tape γ-tape b-tape o-tape n-tape tape at at-good ok') $
       calls_at t' fm' (Asked 𝓛 mem run) known' (to-step-g 𝓛 mem run κ-tape q-tape γ-tape b-tape o-tape n-tape tape at) (os') (λ w'.
-      use1 𝓛 (later (some (λ (res' : Decoded). ((‵ (flft κ-tape q-tape) ⊛ ‵ ftrue) ⊛ ‵ (R-Decoded.own res' (w' ∷ []))) ⊛ raw (ensured 𝓛 callee'.ended (callee'.clauses 𝓛 mem run) (κ-tape, tt) (at-list b-tape o-tape γ-tape tape, (at, tt)) tt res')))) (id⊢ 𝓤 _) $ await t' tt $ pick t' (λ res'. split t' $ move t' (1 ∷ []) $
-      use1 𝓛 (some (λ (zs' : Unit {0} × (Unit {0} × Unit {0})). ‵ (lasts callee'.ended (κ-tape, tt) (at-list b-tape o-tape γ-tape tape, (at, tt)) zs') ⊛ raw (fact 𝓤 (res' ≡ decodeAt tape at)))) (id⊢ 𝓤 _) $ pick t' (λ zs'. split t' $ move t' (1 ∷ []) $ heard t' (res' ≡ decodeAt tape at) (λ e'.
+      use1 𝓛 (later (some (λ (res' : Decoded). ((‵ (flft κ-tape q-tape) ⊛ ‵ ftrue) ⊛ ‵ (R-Decoded.own res' (w' ∷ []))) ⊛ raw (ensured 𝓛 callee'.ended (callee'.clauses 𝓛 mem run) (κ-tape, tt) (at_list b-tape o-tape γ-tape tape, (at, tt)) tt res')))) (id⊢ 𝓤 _) $ await t' tt $ pick t' (λ res'. split t' $ move t' (1 ∷ []) $
+      use1 𝓛 (some (λ (zs' : Unit {0} × (Unit {0} × Unit {0})). ‵ (lasts callee'.ended (κ-tape, tt) (at_list b-tape o-tape γ-tape tape, (at, tt)) zs') ⊛ raw (fact 𝓤 (res' ≡ decode_at tape at)))) (id⊢ 𝓤 _) $ pick t' (λ zs'. split t' $ move t' (1 ∷ []) $ heard t' (res' ≡ decode_at tape at) (λ e'.
       fsplit t' $ drop t' $ fsplit t' $ drop t' $ drop t' $
       move t' (0 ∷ []) $ split t' $ move t' (1 ∷ []) $ peeks t' R-Decoded (Is R-Decoded) (shows 𝓛 R-Decoded) res' (w' ∷ []) (λ is'. drop t' $ split t' $ move t' (1 ∷ []) $ drop t' $
       move t' (1 ∷ 0 ∷ []) $ fjoin t' $

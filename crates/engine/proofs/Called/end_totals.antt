@@ -29,12 +29,12 @@ use denote.Triple.Call.{calls_at, calls_at_last}
 use denote.Triple.Clauses.{ensured, lasts}
 use denote.Triple.Walked.{says}
 use Rattle.words.specs.Basics.{none}
-use Rattle.soundness.specs.Numbers.{numbersIn, totalsIn, numberCount}
-use Rattle.reducers.specs.Reducers.{viewWords}
+use Rattle.soundness.specs.Numbers.{numbers_in, totals_in, number_count}
+use Rattle.reducers.specs.Reducers.{view_words}
 use Rattle.reducers.specs.contracts.View as M-View
 use Rattle.reducers.proofs.View.TheLaws as L-View
 use Rattle.reducers.specs.declared.View.{View}
-use Rattle.frames.proofs.Lent.{at-list, Mine, Yours, Lent, Shown, lend, home, show, back, give}
+use Rattle.frames.proofs.Lent.{at_list, Mine, Yours, Lent, Shown, lend, home, show, back, give}
 use Rattle.engine.specs.contracts.numbers.end_totals as callee'
 
 abbrev R-View : RattleType
@@ -48,26 +48,26 @@ module _ {M : Type 1} {𝓤 : Ura M} (𝓛 : Logic 𝓤) (mem : Memory → SProp
   Asked = triple_of 𝓛 callee'.signature (callee'.spec 𝓛 mem run)
 
   abbrev pub to_step : (ν-numbers : ℕ) (δ-numbers : GName) (b-numbers o-numbers n-numbers : ℕ) (numbers : List ℕ) (parent : ℕ) (view : View) → Asked.Ghost
-  to_step ν-numbers δ-numbers b-numbers o-numbers n-numbers numbers parent view = ((((ν-numbers ∷ []), tt), (full_share, tt), tt, (at-list b-numbers o-numbers δ-numbers numbers, (parent, (view, tt))), (slice_val (b-numbers, o-numbers) n-numbers ∷ [], (vint w32 parent ∷ [], (val-View view ∷ [], tt)))), tt)
+  to_step ν-numbers δ-numbers b-numbers o-numbers n-numbers numbers parent view = ((((ν-numbers ∷ []), tt), (full_share, tt), tt, (at_list b-numbers o-numbers δ-numbers numbers, (parent, (view, tt))), (slice_val (b-numbers, o-numbers) n-numbers ∷ [], (vint w32 parent ∷ [], (val-View view ∷ [], tt)))), tt)
 
-  pub goes_step : (ν-numbers : ℕ) (δ-numbers : GName) (b-numbers o-numbers n-numbers : ℕ) (numbers : List ℕ) (parent : ℕ) (view : View) → (parent-good : parent < 2 ^ 32) (view-good : Is R-View view (val-View view ∷ [])) (ok' : length numbers ≡ numberCount) → ent 𝓤 (⋆ 𝓛 (‵ (flft (ν-numbers ∷ []) full_share) ∷ ‵ ((MutSlice (named 0) (ν-numbers ∷ []) u32).own_val (at-list b-numbers o-numbers δ-numbers numbers) (slice_val (b-numbers, o-numbers) n-numbers ∷ [])) ∷ [])) (Asked.pre (to_step ν-numbers δ-numbers b-numbers o-numbers n-numbers numbers parent view))
-  goes_step ν-numbers δ-numbers b-numbers o-numbers n-numbers numbers parent view parent-good view-good ok' = qed 𝓛 (‵ (flft (ν-numbers ∷ []) full_share) ∷ ‵ ((MutSlice (named 0) (ν-numbers ∷ []) u32).own_val (at-list b-numbers o-numbers δ-numbers numbers) (slice_val (b-numbers, o-numbers) n-numbers ∷ [])) ∷ []) ∵ says ! ok' $ nothing ! $ move ! (1 ∷ 0 ∷ []) $ group ! 2 $ frame ! $
+  pub goes_step : (ν-numbers : ℕ) (δ-numbers : GName) (b-numbers o-numbers n-numbers : ℕ) (numbers : List ℕ) (parent : ℕ) (view : View) → (parent-good : parent < 2 ^ 32) (view-good : Is R-View view (val-View view ∷ [])) (ok' : length numbers ≡ number_count) → ent 𝓤 (⋆ 𝓛 (‵ (flft (ν-numbers ∷ []) full_share) ∷ ‵ ((MutSlice (named 0) (ν-numbers ∷ []) u32).own_val (at_list b-numbers o-numbers δ-numbers numbers) (slice_val (b-numbers, o-numbers) n-numbers ∷ [])) ∷ [])) (Asked.pre (to_step ν-numbers δ-numbers b-numbers o-numbers n-numbers numbers parent view))
+  goes_step ν-numbers δ-numbers b-numbers o-numbers n-numbers numbers parent view parent-good view-good ok' = qed 𝓛 (‵ (flft (ν-numbers ∷ []) full_share) ∷ ‵ ((MutSlice (named 0) (ν-numbers ∷ []) u32).own_val (at_list b-numbers o-numbers δ-numbers numbers) (slice_val (b-numbers, o-numbers) n-numbers ∷ [])) ∷ []) ∵ says ! ok' $ nothing ! $ move ! (1 ∷ 0 ∷ []) $ group ! 2 $ frame ! $
       nothing ! $ owned ! R-View (Is R-View) (LL.makes M-View.the_type L-View.the_plain 𝓛) view _ view-good $ fjoin ! $ owned ! u32 (Is u32) (uint_Makes 𝓛 w32) parent _ (refl, parent-good) $ fjoin ! $ move ! (1 ∷ 0 ∷ []) $ fjoin ! $ done !
 
 module _ {M : Type 1} {𝓤 : Ura M} {𝓛 : Logic 𝓤} {K : Type 0} (mem : Memory → SProp 𝓤) (run : Routine → Fun 𝓤)
     {Γ : List (Item 𝓤)} {E : Env 𝓤 𝓛.H} {C : Calls 𝓤 𝓛.H} {Λ : Loops 𝓤 𝓛.H} {post' : Post 𝓤 𝓛.H} {dest' : Place} {name' : Name} {opds' : List Operand} {rest' : Body} where
   open 𝓛 use {H}
 
-  pub step : K → FmC 𝓤 H 𝓛.laws C → Triple 𝓤 (C name') (Asked 𝓛 mem run) → {κ-numbers : Lft} {q-numbers : Share} {γ-numbers : GName} → (b-numbers o-numbers n-numbers : ℕ) (numbers : List ℕ) (parent : ℕ) (view : View) → (parent-good : parent < 2 ^ 32) → (view-good : Is R-View view (val-View view ∷ [])) → length numbers ≡ numberCount → length numbers ≡ n-numbers → Room u32 n-numbers →
+  pub step : K → FmC 𝓤 H 𝓛.laws C → Triple 𝓤 (C name') (Asked 𝓛 mem run) → {κ-numbers : Lft} {q-numbers : Share} {γ-numbers : GName} → (b-numbers o-numbers n-numbers : ℕ) (numbers : List ℕ) (parent : ℕ) (view : View) → (parent-good : parent < 2 ^ 32) → (view-good : Is R-View view (val-View view ∷ [])) → length numbers ≡ number_count → length numbers ≡ n-numbers → Room u32 n-numbers →
       ((ν-numbers : ℕ) (δ-numbers : GName) → Opds K 𝓛 (raw ((Asked 𝓛 mem run).pre (to_step 𝓛 mem run ν-numbers δ-numbers b-numbers o-numbers n-numbers numbers parent view)) ∷ ‵ (Lent u32 κ-numbers (ν-numbers ∷ []) q-numbers γ-numbers b-numbers o-numbers δ-numbers numbers) ∷ Γ) E opds' (slice_val (b-numbers, o-numbers) n-numbers ∷ vint w32 parent ∷ val-View view ∷ [])) →
-      ((zs-numbers : List ℕ) → (totalsIn zs-numbers ≡ cond (eqb parent none) (viewWords view) (totalsIn numbers)) × (numbersIn zs-numbers ≡ numbersIn numbers) → length zs-numbers ≡ length numbers → Seq K 𝓛 (‵ (Mine u32 κ-numbers q-numbers γ-numbers b-numbers o-numbers n-numbers zs-numbers) ∷ Γ) (lands C Λ E dest' (vunit) rest' post')) →
+      ((zs-numbers : List ℕ) → (totals_in zs-numbers ≡ cond (eqb parent none) (view_words view) (totals_in numbers)) × (numbers_in zs-numbers ≡ numbers_in numbers) → length zs-numbers ≡ length numbers → Seq K 𝓛 (‵ (Mine u32 κ-numbers q-numbers γ-numbers b-numbers o-numbers n-numbers zs-numbers) ∷ Γ) (lands C Λ E dest' (vunit) rest' post')) →
       Seq K 𝓛 (‵ (Mine u32 κ-numbers q-numbers γ-numbers b-numbers o-numbers n-numbers numbers) ∷ Γ) (runs C Λ E (seq (call name' opds' dest') rest') post')
   step t' fm' known' {κ-numbers} {q-numbers} {γ-numbers} b-numbers o-numbers n-numbers numbers parent view parent-good view-good ok' len-numbers room-numbers os' k' =
       lend t' tt u32 b-numbers o-numbers n-numbers numbers len-numbers (λ ν-numbers δ-numbers.
       move t' (0 ∷ 1 ∷ []) $ group t' 2 $ use1 𝓛 (raw ((Asked 𝓛 mem run).pre (to_step 𝓛 mem run ν-numbers δ-numbers b-numbers o-numbers n-numbers numbers parent view))) (goes_step 𝓛 mem run ν-numbers δ-numbers b-numbers o-numbers n-numbers numbers parent view parent-good view-good ok') $
       calls_at t' fm' (Asked 𝓛 mem run) known' (to_step 𝓛 mem run ν-numbers δ-numbers b-numbers o-numbers n-numbers numbers parent view) (os' ν-numbers δ-numbers) (λ w'.
-      use1 𝓛 (later (some (λ (res' : Unit {0}). ((‵ (flft (ν-numbers ∷ []) full_share) ⊛ ‵ ftrue) ⊛ ‵ (unit.own_val res' (w' ∷ []))) ⊛ raw (ensured 𝓛 callee'.ended (callee'.clauses 𝓛 mem run) ((ν-numbers ∷ []), tt) (at-list b-numbers o-numbers δ-numbers numbers, (parent, (view, tt))) tt res')))) (id⊢ 𝓤 _) $ await t' tt $ pick t' (λ res'. split t' $ move t' (1 ∷ []) $
-      use1 𝓛 (some (λ (zs' : List ℕ × (Unit {0} × (Unit {0} × Unit {0}))). ‵ (lasts callee'.ended ((ν-numbers ∷ []), tt) (at-list b-numbers o-numbers δ-numbers numbers, (parent, (view, tt))) zs') ⊛ raw (fact 𝓤 ((totalsIn zs'.0 ≡ cond (eqb parent none) (viewWords view) (totalsIn numbers)) × (numbersIn zs'.0 ≡ numbersIn numbers))))) (id⊢ 𝓤 _) $ pick t' (λ zs'. split t' $ move t' (1 ∷ []) $ heard t' ((totalsIn zs'.0 ≡ cond (eqb parent none) (viewWords view) (totalsIn numbers)) × (numbersIn zs'.0 ≡ numbersIn numbers)) (λ e'.
+      use1 𝓛 (later (some (λ (res' : Unit {0}). ((‵ (flft (ν-numbers ∷ []) full_share) ⊛ ‵ ftrue) ⊛ ‵ (unit.own_val res' (w' ∷ []))) ⊛ raw (ensured 𝓛 callee'.ended (callee'.clauses 𝓛 mem run) ((ν-numbers ∷ []), tt) (at_list b-numbers o-numbers δ-numbers numbers, (parent, (view, tt))) tt res')))) (id⊢ 𝓤 _) $ await t' tt $ pick t' (λ res'. split t' $ move t' (1 ∷ []) $
+      use1 𝓛 (some (λ (zs' : List ℕ × (Unit {0} × (Unit {0} × Unit {0}))). ‵ (lasts callee'.ended ((ν-numbers ∷ []), tt) (at_list b-numbers o-numbers δ-numbers numbers, (parent, (view, tt))) zs') ⊛ raw (fact 𝓤 ((totals_in zs'.0 ≡ cond (eqb parent none) (view_words view) (totals_in numbers)) × (numbers_in zs'.0 ≡ numbers_in numbers))))) (id⊢ 𝓤 _) $ pick t' (λ zs'. split t' $ move t' (1 ∷ []) $ heard t' ((totals_in zs'.0 ≡ cond (eqb parent none) (view_words view) (totals_in numbers)) × (numbers_in zs'.0 ≡ numbers_in numbers)) (λ e'.
       fsplit t' $ fsplit t' $ move t' (1 ∷ []) $ feq_l t' (λ same_numbers. move t' (1 ∷ []) $ fsplit t' $ drop t' $ fsplit t' $ drop t' $ drop t' $
       move t' (1 ∷ []) $ split t' $ move t' (1 ∷ []) $ peeks t' unit (Is unit) (shows 𝓛 unit) res' (w' ∷ []) (λ is'. drop t' $ split t' $ move t' (1 ∷ []) $ drop t' $
       move t' (0 ∷ 2 ∷ 1 ∷ []) $ home t' tt u32 b-numbers o-numbers n-numbers numbers zs'.0 len-numbers room-numbers same_numbers $

@@ -35,7 +35,7 @@ use Rattle.frames.specs.declared.Returned.{Returned}
 use Rattle.engine.specs.contracts.Out as M-Out
 use Rattle.engine.proofs.Out.TheLaws as L-Out
 use Rattle.engine.specs.declared.Out.{Out}
-use Rattle.frames.proofs.Lent.{at-list, Mine, Yours, Lent, Shown, lend, home, show, back, give}
+use Rattle.frames.proofs.Lent.{at_list, Mine, Yours, Lent, Shown, lend, home, show, back, give}
 use Rattle.engine.specs.contracts.returns.ended as callee'
 
 abbrev R-Returned : RattleType
@@ -54,26 +54,26 @@ module _ {M : Type 1} {𝓤 : Ura M} (𝓛 : Logic 𝓤) (mem : Memory → SProp
   abbrev pub Asked : Contract 𝓤
   Asked = triple_of 𝓛 callee'.signature (callee'.spec 𝓛 mem run)
 
-  abbrev pub to_step : (free-node : ℕ) (free-place : ℕ) (free-count : ℕ) (outcome : Returned) → Asked.Ghost
-  to_step free-node free-place free-count outcome = ((tt, tt, tt, (free-node, (free-place, (free-count, (outcome, tt)))), (vint w32 free-node ∷ [], (vint w32 free-place ∷ [], (vint w32 free-count ∷ [], (val-Returned outcome ∷ [], tt))))), tt)
+  abbrev pub to_step : (free_node_lem : ℕ) (free_place_lem : ℕ) (free_count : ℕ) (outcome : Returned) → Asked.Ghost
+  to_step free_node_lem free_place_lem free_count outcome = ((tt, tt, tt, (free_node_lem, (free_place_lem, (free_count, (outcome, tt)))), (vint w32 free_node_lem ∷ [], (vint w32 free_place_lem ∷ [], (vint w32 free_count ∷ [], (val-Returned outcome ∷ [], tt))))), tt)
 
-  pub goes_step : (free-node : ℕ) (free-place : ℕ) (free-count : ℕ) (outcome : Returned) → (free-node-good : free-node < 2 ^ 32) (free-place-good : free-place < 2 ^ 32) (free-count-good : free-count < 2 ^ 32) (outcome-good : Is R-Returned outcome (val-Returned outcome ∷ [])) → ent 𝓤 (⋆ 𝓛 (‵ ftrue ∷ [])) (Asked.pre (to_step free-node free-place free-count outcome))
-  goes_step free-node free-place free-count outcome free-node-good free-place-good free-count-good outcome-good = qed 𝓛 (‵ ftrue ∷ []) ∵
-      nothing ! $ owned ! R-Returned (Is R-Returned) (EL.makes M-Returned.the_type L-Returned.the_plain 𝓛) outcome _ outcome-good $ fjoin ! $ owned ! u32 (Is u32) (uint_Makes 𝓛 w32) free-count _ (refl, free-count-good) $ fjoin ! $ owned ! u32 (Is u32) (uint_Makes 𝓛 w32) free-place _ (refl, free-place-good) $ fjoin ! $ owned ! u32 (Is u32) (uint_Makes 𝓛 w32) free-node _ (refl, free-node-good) $ fjoin ! $ move ! (1 ∷ 0 ∷ []) $ join ! $ frame ! $ done !
+  pub goes_step : (free_node_lem : ℕ) (free_place_lem : ℕ) (free_count : ℕ) (outcome : Returned) → (free-node-good : free_node_lem < 2 ^ 32) (free-place-good : free_place_lem < 2 ^ 32) (free-count-good : free_count < 2 ^ 32) (outcome-good : Is R-Returned outcome (val-Returned outcome ∷ [])) → ent 𝓤 (⋆ 𝓛 (‵ ftrue ∷ [])) (Asked.pre (to_step free_node_lem free_place_lem free_count outcome))
+  goes_step free_node_lem free_place_lem free_count outcome free-node-good free-place-good free-count-good outcome-good = qed 𝓛 (‵ ftrue ∷ []) ∵
+      nothing ! $ owned ! R-Returned (Is R-Returned) (EL.makes M-Returned.the_type L-Returned.the_plain 𝓛) outcome _ outcome-good $ fjoin ! $ owned ! u32 (Is u32) (uint_Makes 𝓛 w32) free_count _ (refl, free-count-good) $ fjoin ! $ owned ! u32 (Is u32) (uint_Makes 𝓛 w32) free_place_lem _ (refl, free-place-good) $ fjoin ! $ owned ! u32 (Is u32) (uint_Makes 𝓛 w32) free_node_lem _ (refl, free-node-good) $ fjoin ! $ move ! (1 ∷ 0 ∷ []) $ join ! $ frame ! $ done !
 
 module _ {M : Type 1} {𝓤 : Ura M} {𝓛 : Logic 𝓤} {K : Type 0} (mem : Memory → SProp 𝓤) (run : Routine → Fun 𝓤)
     {Γ : List (Item 𝓤)} {E : Env 𝓤 𝓛.H} {C : Calls 𝓤 𝓛.H} {Λ : Loops 𝓤 𝓛.H} {post' : Post 𝓤 𝓛.H} {dest' : Place} {name' : Name} {opds' : List Operand} {rest' : Body} where
   open 𝓛 use {H}
 
-  pub step : K → FmC 𝓤 H 𝓛.laws C → Triple 𝓤 (C name') (Asked 𝓛 mem run) → (free-node : ℕ) (free-place : ℕ) (free-count : ℕ) (outcome : Returned) → (free-node-good : free-node < 2 ^ 32) → (free-place-good : free-place < 2 ^ 32) → (free-count-good : free-count < 2 ^ 32) → (outcome-good : Is R-Returned outcome (val-Returned outcome ∷ [])) →
-      (Opds K 𝓛 (raw ((Asked 𝓛 mem run).pre (to_step 𝓛 mem run free-node free-place free-count outcome)) ∷ Γ) E opds' (vint w32 free-node ∷ vint w32 free-place ∷ vint w32 free-count ∷ val-Returned outcome ∷ [])) →
-      ((res' : Out) → Is R-Out res' (val-Out res' ∷ []) → LeavesEnded res' free-node free-place free-count outcome → Seq K 𝓛 (Γ) (lands C Λ E dest' (val-Out res') rest' post')) →
+  pub step : K → FmC 𝓤 H 𝓛.laws C → Triple 𝓤 (C name') (Asked 𝓛 mem run) → (free_node_lem : ℕ) (free_place_lem : ℕ) (free_count : ℕ) (outcome : Returned) → (free-node-good : free_node_lem < 2 ^ 32) → (free-place-good : free_place_lem < 2 ^ 32) → (free-count-good : free_count < 2 ^ 32) → (outcome-good : Is R-Returned outcome (val-Returned outcome ∷ [])) →
+      (Opds K 𝓛 (raw ((Asked 𝓛 mem run).pre (to_step 𝓛 mem run free_node_lem free_place_lem free_count outcome)) ∷ Γ) E opds' (vint w32 free_node_lem ∷ vint w32 free_place_lem ∷ vint w32 free_count ∷ val-Returned outcome ∷ [])) →
+      ((res' : Out) → Is R-Out res' (val-Out res' ∷ []) → LeavesEnded res' free_node_lem free_place_lem free_count outcome → Seq K 𝓛 (Γ) (lands C Λ E dest' (val-Out res') rest' post')) →
       Seq K 𝓛 (Γ) (runs C Λ E (seq (call name' opds' dest') rest') post')
-  step t' fm' known' free-node free-place free-count outcome free-node-good free-place-good free-count-good outcome-good os' k' =
-      nothing t' $ use1 𝓛 (raw ((Asked 𝓛 mem run).pre (to_step 𝓛 mem run free-node free-place free-count outcome))) (goes_step 𝓛 mem run free-node free-place free-count outcome free-node-good free-place-good free-count-good outcome-good) $
-      calls_at t' fm' (Asked 𝓛 mem run) known' (to_step 𝓛 mem run free-node free-place free-count outcome) (os') (λ w'.
-      use1 𝓛 (later (some (λ (res' : Out). (‵ ftrue ⊛ ‵ (R-Out.own res' (w' ∷ []))) ⊛ raw (ensured 𝓛 callee'.ended (callee'.clauses 𝓛 mem run) tt (free-node, (free-place, (free-count, (outcome, tt)))) tt res')))) (id⊢ 𝓤 _) $ await t' tt $ pick t' (λ res'. split t' $ move t' (1 ∷ []) $
-      use1 𝓛 (some (λ (zs' : Unit {0} × (Unit {0} × (Unit {0} × (Unit {0} × Unit {0})))). ‵ (lasts callee'.ended tt (free-node, (free-place, (free-count, (outcome, tt)))) zs') ⊛ raw (fact 𝓤 (LeavesEnded res' free-node free-place free-count outcome)))) (id⊢ 𝓤 _) $ pick t' (λ zs'. split t' $ move t' (1 ∷ []) $ heard t' (LeavesEnded res' free-node free-place free-count outcome) (λ e'.
+  step t' fm' known' free_node_lem free_place_lem free_count outcome free-node-good free-place-good free-count-good outcome-good os' k' =
+      nothing t' $ use1 𝓛 (raw ((Asked 𝓛 mem run).pre (to_step 𝓛 mem run free_node_lem free_place_lem free_count outcome))) (goes_step 𝓛 mem run free_node_lem free_place_lem free_count outcome free-node-good free-place-good free-count-good outcome-good) $
+      calls_at t' fm' (Asked 𝓛 mem run) known' (to_step 𝓛 mem run free_node_lem free_place_lem free_count outcome) (os') (λ w'.
+      use1 𝓛 (later (some (λ (res' : Out). (‵ ftrue ⊛ ‵ (R-Out.own res' (w' ∷ []))) ⊛ raw (ensured 𝓛 callee'.ended (callee'.clauses 𝓛 mem run) tt (free_node_lem, (free_place_lem, (free_count, (outcome, tt)))) tt res')))) (id⊢ 𝓤 _) $ await t' tt $ pick t' (λ res'. split t' $ move t' (1 ∷ []) $
+      use1 𝓛 (some (λ (zs' : Unit {0} × (Unit {0} × (Unit {0} × (Unit {0} × Unit {0})))). ‵ (lasts callee'.ended tt (free_node_lem, (free_place_lem, (free_count, (outcome, tt)))) zs') ⊛ raw (fact 𝓤 (LeavesEnded res' free_node_lem free_place_lem free_count outcome)))) (id⊢ 𝓤 _) $ pick t' (λ zs'. split t' $ move t' (1 ∷ []) $ heard t' (LeavesEnded res' free_node_lem free_place_lem free_count outcome) (λ e'.
       fsplit t' $ drop t' $ fsplit t' $ drop t' $ fsplit t' $ drop t' $ fsplit t' $ drop t' $ drop t' $
       move t' (0 ∷ []) $ split t' $ move t' (1 ∷ []) $ peeks t' R-Out (Is R-Out) (shows 𝓛 R-Out) res' (w' ∷ []) (λ is'. drop t' $ drop t' $
       subst (λ (v' : Val). Seq K 𝓛 (Γ) (lands C Λ E dest' v' rest' post')) (sym (ap only (LL.tells M-Out.the_type L-Out.the_laws res' _ is'))) (k' res' (subst (Is R-Out res') (LL.tells M-Out.the_type L-Out.the_laws res' _ is') is') e'))))))

@@ -28,14 +28,14 @@ use denote.Triple.Statement.{Contract, Triple}
 use denote.Triple.Call.{calls_at, calls_at_last}
 use denote.Triple.Clauses.{ensured, lasts}
 use denote.Triple.Walked.{says}
-use Rattle.engine.specs.Promises.{stepBy}
+use Rattle.engine.specs.Promises.{step_by}
 use Rattle.model.specs.contracts.Step as M-Step
 use Rattle.model.proofs.Step.TheLaws as L-Step
 use Rattle.model.specs.declared.Step.{Step}
 use Rattle.engine.specs.contracts.Fields as M-Fields
 use Rattle.engine.proofs.Fields.TheLaws as L-Fields
 use Rattle.engine.specs.declared.Fields.{Fields}
-use Rattle.frames.proofs.Lent.{at-list, Mine, Yours, Lent, Shown, lend, home, show, back, give}
+use Rattle.frames.proofs.Lent.{at_list, Mine, Yours, Lent, Shown, lend, home, show, back, give}
 use Rattle.engine.specs.contracts.records.fields_of as callee'
 
 abbrev R-Step : RattleType
@@ -67,13 +67,13 @@ module _ {M : Type 1} {𝓤 : Ura M} {𝓛 : Logic 𝓤} {K : Type 0} (mem : Mem
 
   pub step : K → FmC 𝓤 H 𝓛.laws C → Triple 𝓤 (C name') (Asked 𝓛 mem run) → (step' : Step) → (step'-good : Is R-Step step' (val-Step step' ∷ [])) →
       (Opds K 𝓛 (raw ((Asked 𝓛 mem run).pre (to_step 𝓛 mem run step')) ∷ Γ) E opds' (val-Step step' ∷ [])) →
-      ((res' : Fields) → Is R-Fields res' (val-Fields res' ∷ []) → stepBy res' ≡ step' → Seq K 𝓛 (Γ) (lands C Λ E dest' (val-Fields res') rest' post')) →
+      ((res' : Fields) → Is R-Fields res' (val-Fields res' ∷ []) → step_by res' ≡ step' → Seq K 𝓛 (Γ) (lands C Λ E dest' (val-Fields res') rest' post')) →
       Seq K 𝓛 (Γ) (runs C Λ E (seq (call name' opds' dest') rest') post')
   step t' fm' known' step' step'-good os' k' =
       nothing t' $ use1 𝓛 (raw ((Asked 𝓛 mem run).pre (to_step 𝓛 mem run step'))) (goes_step 𝓛 mem run step' step'-good) $
       calls_at t' fm' (Asked 𝓛 mem run) known' (to_step 𝓛 mem run step') (os') (λ w'.
       use1 𝓛 (later (some (λ (res' : Fields). (‵ ftrue ⊛ ‵ (R-Fields.own res' (w' ∷ []))) ⊛ raw (ensured 𝓛 callee'.ended (callee'.clauses 𝓛 mem run) tt (step', tt) tt res')))) (id⊢ 𝓤 _) $ await t' tt $ pick t' (λ res'. split t' $ move t' (1 ∷ []) $
-      use1 𝓛 (some (λ (zs' : Unit {0} × Unit {0}). ‵ (lasts callee'.ended tt (step', tt) zs') ⊛ raw (fact 𝓤 (stepBy res' ≡ step')))) (id⊢ 𝓤 _) $ pick t' (λ zs'. split t' $ move t' (1 ∷ []) $ heard t' (stepBy res' ≡ step') (λ e'.
+      use1 𝓛 (some (λ (zs' : Unit {0} × Unit {0}). ‵ (lasts callee'.ended tt (step', tt) zs') ⊛ raw (fact 𝓤 (step_by res' ≡ step')))) (id⊢ 𝓤 _) $ pick t' (λ zs'. split t' $ move t' (1 ∷ []) $ heard t' (step_by res' ≡ step') (λ e'.
       fsplit t' $ drop t' $ drop t' $
       move t' (0 ∷ []) $ split t' $ move t' (1 ∷ []) $ peeks t' R-Fields (Is R-Fields) (shows 𝓛 R-Fields) res' (w' ∷ []) (λ is'. drop t' $ drop t' $
       subst (λ (v' : Val). Seq K 𝓛 (Γ) (lands C Λ E dest' v' rest' post')) (sym (ap only (LL.tells M-Fields.the_type L-Fields.the_laws res' _ is'))) (k' res' (subst (Is R-Fields res') (LL.tells M-Fields.the_type L-Fields.the_laws res' _ is') is') e'))))))

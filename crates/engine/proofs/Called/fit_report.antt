@@ -28,7 +28,7 @@ use denote.Triple.Statement.{Contract, Triple}
 use denote.Triple.Call.{calls_at, calls_at_last}
 use denote.Triple.Clauses.{ensured, lasts}
 use denote.Triple.Walked.{says}
-use Rattle.frames.proofs.Lent.{at-list, Mine, Yours, Lent, Shown, lend, home, show, back, give}
+use Rattle.frames.proofs.Lent.{at_list, Mine, Yours, Lent, Shown, lend, home, show, back, give}
 use Rattle.engine.specs.contracts.entries.fit_report as callee'
 
 module _ {M : Type 1} {𝓤 : Ura M} (𝓛 : Logic 𝓤) (mem : Memory → SProp 𝓤) (run : Routine → Fun 𝓤) where
@@ -36,10 +36,10 @@ module _ {M : Type 1} {𝓤 : Ura M} (𝓛 : Logic 𝓤) (mem : Memory → SProp
   Asked = triple_of 𝓛 callee'.signature (callee'.spec 𝓛 mem run)
 
   abbrev pub to-step-ss : (ν-clocks : ℕ) (δ-clocks : GName) (ν-report : ℕ) (δ-report : GName) (b-clocks o-clocks n-clocks : ℕ) (clocks : List ℕ) (b-report o-report n-report : ℕ) (report : List ℕ) (places : ℕ) → Asked.Ghost
-  to-step-ss ν-clocks δ-clocks ν-report δ-report b-clocks o-clocks n-clocks clocks b-report o-report n-report report places = ((((ν-clocks ∷ []), ((ν-report ∷ []), tt)), (full_share, (full_share, tt)), tt, (places, (at-list b-clocks o-clocks δ-clocks clocks, (at-list b-report o-report δ-report report, tt))), (vint w64 places ∷ [], (slice_val (b-clocks, o-clocks) n-clocks ∷ [], (slice_val (b-report, o-report) n-report ∷ [], tt)))), tt)
+  to-step-ss ν-clocks δ-clocks ν-report δ-report b-clocks o-clocks n-clocks clocks b-report o-report n-report report places = ((((ν-clocks ∷ []), ((ν-report ∷ []), tt)), (full_share, (full_share, tt)), tt, (places, (at_list b-clocks o-clocks δ-clocks clocks, (at_list b-report o-report δ-report report, tt))), (vint w64 places ∷ [], (slice_val (b-clocks, o-clocks) n-clocks ∷ [], (slice_val (b-report, o-report) n-report ∷ [], tt)))), tt)
 
-  pub goes-step-ss : (ν-clocks : ℕ) (δ-clocks : GName) (ν-report : ℕ) (δ-report : GName) (b-clocks o-clocks n-clocks : ℕ) (clocks : List ℕ) (b-report o-report n-report : ℕ) (report : List ℕ) (places : ℕ) → (places-good : places < 2 ^ 64) → ent 𝓤 (⋆ 𝓛 (‵ (flft (ν-clocks ∷ []) full_share) ∷ ‵ (flft (ν-report ∷ []) full_share) ∷ ‵ ((ShrSlice (named 0) (ν-clocks ∷ []) u64).own_val (at-list b-clocks o-clocks δ-clocks clocks) (slice_val (b-clocks, o-clocks) n-clocks ∷ [])) ∷ ‵ ((ShrSlice (named 0) (ν-report ∷ []) u64).own_val (at-list b-report o-report δ-report report) (slice_val (b-report, o-report) n-report ∷ [])) ∷ [])) (Asked.pre (to-step-ss ν-clocks δ-clocks ν-report δ-report b-clocks o-clocks n-clocks clocks b-report o-report n-report report places))
-  goes-step-ss ν-clocks δ-clocks ν-report δ-report b-clocks o-clocks n-clocks clocks b-report o-report n-report report places places-good = qed 𝓛 (‵ (flft (ν-clocks ∷ []) full_share) ∷ ‵ (flft (ν-report ∷ []) full_share) ∷ ‵ ((ShrSlice (named 0) (ν-clocks ∷ []) u64).own_val (at-list b-clocks o-clocks δ-clocks clocks) (slice_val (b-clocks, o-clocks) n-clocks ∷ [])) ∷ ‵ ((ShrSlice (named 0) (ν-report ∷ []) u64).own_val (at-list b-report o-report δ-report report) (slice_val (b-report, o-report) n-report ∷ [])) ∷ []) ∵ nothing ! $ move ! (1 ∷ 2 ∷ 0 ∷ []) $ group ! 3 $ move ! (1 ∷ 2 ∷ 0 ∷ []) $
+  pub goes-step-ss : (ν-clocks : ℕ) (δ-clocks : GName) (ν-report : ℕ) (δ-report : GName) (b-clocks o-clocks n-clocks : ℕ) (clocks : List ℕ) (b-report o-report n-report : ℕ) (report : List ℕ) (places : ℕ) → (places-good : places < 2 ^ 64) → ent 𝓤 (⋆ 𝓛 (‵ (flft (ν-clocks ∷ []) full_share) ∷ ‵ (flft (ν-report ∷ []) full_share) ∷ ‵ ((ShrSlice (named 0) (ν-clocks ∷ []) u64).own_val (at_list b-clocks o-clocks δ-clocks clocks) (slice_val (b-clocks, o-clocks) n-clocks ∷ [])) ∷ ‵ ((ShrSlice (named 0) (ν-report ∷ []) u64).own_val (at_list b-report o-report δ-report report) (slice_val (b-report, o-report) n-report ∷ [])) ∷ [])) (Asked.pre (to-step-ss ν-clocks δ-clocks ν-report δ-report b-clocks o-clocks n-clocks clocks b-report o-report n-report report places))
+  goes-step-ss ν-clocks δ-clocks ν-report δ-report b-clocks o-clocks n-clocks clocks b-report o-report n-report report places places-good = qed 𝓛 (‵ (flft (ν-clocks ∷ []) full_share) ∷ ‵ (flft (ν-report ∷ []) full_share) ∷ ‵ ((ShrSlice (named 0) (ν-clocks ∷ []) u64).own_val (at_list b-clocks o-clocks δ-clocks clocks) (slice_val (b-clocks, o-clocks) n-clocks ∷ [])) ∷ ‵ ((ShrSlice (named 0) (ν-report ∷ []) u64).own_val (at_list b-report o-report δ-report report) (slice_val (b-report, o-report) n-report ∷ [])) ∷ []) ∵ nothing ! $ move ! (1 ∷ 2 ∷ 0 ∷ []) $ group ! 3 $ move ! (1 ∷ 2 ∷ 0 ∷ []) $
       nothing ! $ move ! (2 ∷ 0 ∷ []) $ fjoin ! $ move ! (1 ∷ 0 ∷ []) $ fjoin ! $ owned ! usize (Is usize) (uint_Makes 𝓛 w64) places _ (refl, places-good) $ fjoin ! $ move ! (1 ∷ 0 ∷ []) $ join ! $ frame ! $ done !
 
 module _ {M : Type 1} {𝓤 : Ura M} {𝓛 : Logic 𝓤} {K : Type 0} (mem : Memory → SProp 𝓤) (run : Routine → Fun 𝓤)
@@ -54,8 +54,8 @@ module _ {M : Type 1} {𝓤 : Ura M} {𝓛 : Logic 𝓤} {K : Type 0} (mem : Mem
       show t' tt u64 b-clocks o-clocks n-clocks clocks len-clocks (λ ν-clocks δ-clocks. move t' (3 ∷ []) $ show t' tt u64 b-report o-report n-report report len-report (λ ν-report δ-report.
       move t' (3 ∷ 0 ∷ 4 ∷ 1 ∷ []) $ group t' 4 $ use1 𝓛 (raw ((Asked 𝓛 mem run).pre (to-step-ss 𝓛 mem run ν-clocks δ-clocks ν-report δ-report b-clocks o-clocks n-clocks clocks b-report o-report n-report report places))) (goes-step-ss 𝓛 mem run ν-clocks δ-clocks ν-report δ-report b-clocks o-clocks n-clocks clocks b-report o-report n-report report places places-good) $
       calls_at t' fm' (Asked 𝓛 mem run) known' (to-step-ss 𝓛 mem run ν-clocks δ-clocks ν-report δ-report b-clocks o-clocks n-clocks clocks b-report o-report n-report report places) (os' ν-clocks δ-clocks ν-report δ-report) (λ w'.
-      use1 𝓛 (later (some (λ (res' : Bool). ((‵ (flft (ν-clocks ∷ []) full_share) ⊛ (‵ (flft (ν-report ∷ []) full_share) ⊛ ‵ ftrue)) ⊛ ‵ (bool.own_val res' (w' ∷ []))) ⊛ raw (ensured 𝓛 callee'.ended (callee'.clauses 𝓛 mem run) ((ν-clocks ∷ []), ((ν-report ∷ []), tt)) (places, (at-list b-clocks o-clocks δ-clocks clocks, (at-list b-report o-report δ-report report, tt))) tt res')))) (id⊢ 𝓤 _) $ await t' tt $ pick t' (λ res'. split t' $ move t' (1 ∷ []) $
-      use1 𝓛 (some (λ (zs' : Unit {0} × (Unit {0} × (Unit {0} × Unit {0}))). ‵ (lasts callee'.ended ((ν-clocks ∷ []), ((ν-report ∷ []), tt)) (places, (at-list b-clocks o-clocks δ-clocks clocks, (at-list b-report o-report δ-report report, tt))) zs') ⊛ raw (fact 𝓤 (res' ≡ eqb (length clocks) (2 * places) && eqb (length report) 4)))) (id⊢ 𝓤 _) $ pick t' (λ zs'. split t' $ move t' (1 ∷ []) $ heard t' (res' ≡ eqb (length clocks) (2 * places) && eqb (length report) 4) (λ e'.
+      use1 𝓛 (later (some (λ (res' : Bool). ((‵ (flft (ν-clocks ∷ []) full_share) ⊛ (‵ (flft (ν-report ∷ []) full_share) ⊛ ‵ ftrue)) ⊛ ‵ (bool.own_val res' (w' ∷ []))) ⊛ raw (ensured 𝓛 callee'.ended (callee'.clauses 𝓛 mem run) ((ν-clocks ∷ []), ((ν-report ∷ []), tt)) (places, (at_list b-clocks o-clocks δ-clocks clocks, (at_list b-report o-report δ-report report, tt))) tt res')))) (id⊢ 𝓤 _) $ await t' tt $ pick t' (λ res'. split t' $ move t' (1 ∷ []) $
+      use1 𝓛 (some (λ (zs' : Unit {0} × (Unit {0} × (Unit {0} × Unit {0}))). ‵ (lasts callee'.ended ((ν-clocks ∷ []), ((ν-report ∷ []), tt)) (places, (at_list b-clocks o-clocks δ-clocks clocks, (at_list b-report o-report δ-report report, tt))) zs') ⊛ raw (fact 𝓤 (res' ≡ eqb (length clocks) (2 * places) && eqb (length report) 4)))) (id⊢ 𝓤 _) $ pick t' (λ zs'. split t' $ move t' (1 ∷ []) $ heard t' (res' ≡ eqb (length clocks) (2 * places) && eqb (length report) 4) (λ e'.
       fsplit t' $ drop t' $ fsplit t' $ drop t' $ fsplit t' $ drop t' $ drop t' $
       move t' (0 ∷ []) $ split t' $ move t' (1 ∷ []) $ peeks t' bool (Is bool) (shows 𝓛 bool) res' (w' ∷ []) (λ is'. drop t' $ split t' $ move t' (1 ∷ []) $ split t' $ move t' (1 ∷ []) $ drop t' $
       move t' (0 ∷ 2 ∷ []) $ back t' tt u64 b-report o-report n-report report len-report room-report $ move t' (1 ∷ 2 ∷ []) $ back t' tt u64 b-clocks o-clocks n-clocks clocks len-clocks room-clocks $

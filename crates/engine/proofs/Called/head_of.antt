@@ -28,14 +28,14 @@ use denote.Triple.Statement.{Contract, Triple}
 use denote.Triple.Call.{calls_at, calls_at_last}
 use denote.Triple.Clauses.{ensured, lasts}
 use denote.Triple.Walked.{says}
-use Rattle.semantics.specs.Entries.{headOf}
+use Rattle.semantics.specs.Entries.{head_of}
 use Rattle.soundness.specs.contracts.Numbers as M-Numbers
 use Rattle.soundness.proofs.Numbers.TheLaws as L-Numbers
 use Rattle.soundness.specs.declared.Numbers.{Numbers}
 use Rattle.semantics.specs.contracts.Head as M-Head
 use Rattle.semantics.proofs.Head.TheLaws as L-Head
 use Rattle.semantics.specs.declared.Head.{Head}
-use Rattle.frames.proofs.Lent.{at-list, Mine, Yours, Lent, Shown, lend, home, show, back, give}
+use Rattle.frames.proofs.Lent.{at_list, Mine, Yours, Lent, Shown, lend, home, show, back, give}
 use Rattle.engine.specs.contracts.tapes.head_of as callee'
 
 abbrev R-Numbers : RattleType
@@ -54,26 +54,26 @@ module _ {M : Type 1} {𝓤 : Ura M} (𝓛 : Logic 𝓤) (mem : Memory → SProp
   abbrev pub Asked : Contract 𝓤
   Asked = triple_of 𝓛 callee'.signature (callee'.spec 𝓛 mem run)
 
-  abbrev pub to_step : (numbers : Numbers) (free-count : ℕ) → Asked.Ghost
-  to_step numbers free-count = ((tt, tt, tt, (numbers, (free-count, tt)), (val-Numbers numbers ∷ [], (vint w32 free-count ∷ [], tt))), tt)
+  abbrev pub to_step : (numbers : Numbers) (free_count : ℕ) → Asked.Ghost
+  to_step numbers free_count = ((tt, tt, tt, (numbers, (free_count, tt)), (val-Numbers numbers ∷ [], (vint w32 free_count ∷ [], tt))), tt)
 
-  pub goes_step : (numbers : Numbers) (free-count : ℕ) → (numbers-good : Is R-Numbers numbers (val-Numbers numbers ∷ [])) (free-count-good : free-count < 2 ^ 32) → ent 𝓤 (⋆ 𝓛 (‵ ftrue ∷ [])) (Asked.pre (to_step numbers free-count))
-  goes_step numbers free-count numbers-good free-count-good = qed 𝓛 (‵ ftrue ∷ []) ∵
-      nothing ! $ owned ! u32 (Is u32) (uint_Makes 𝓛 w32) free-count _ (refl, free-count-good) $ fjoin ! $ owned ! R-Numbers (Is R-Numbers) (LL.makes M-Numbers.the_type L-Numbers.the_plain 𝓛) numbers _ numbers-good $ fjoin ! $ move ! (1 ∷ 0 ∷ []) $ join ! $ frame ! $ done !
+  pub goes_step : (numbers : Numbers) (free_count : ℕ) → (numbers-good : Is R-Numbers numbers (val-Numbers numbers ∷ [])) (free-count-good : free_count < 2 ^ 32) → ent 𝓤 (⋆ 𝓛 (‵ ftrue ∷ [])) (Asked.pre (to_step numbers free_count))
+  goes_step numbers free_count numbers-good free-count-good = qed 𝓛 (‵ ftrue ∷ []) ∵
+      nothing ! $ owned ! u32 (Is u32) (uint_Makes 𝓛 w32) free_count _ (refl, free-count-good) $ fjoin ! $ owned ! R-Numbers (Is R-Numbers) (LL.makes M-Numbers.the_type L-Numbers.the_plain 𝓛) numbers _ numbers-good $ fjoin ! $ move ! (1 ∷ 0 ∷ []) $ join ! $ frame ! $ done !
 
 module _ {M : Type 1} {𝓤 : Ura M} {𝓛 : Logic 𝓤} {K : Type 0} (mem : Memory → SProp 𝓤) (run : Routine → Fun 𝓤)
     {Γ : List (Item 𝓤)} {E : Env 𝓤 𝓛.H} {C : Calls 𝓤 𝓛.H} {Λ : Loops 𝓤 𝓛.H} {post' : Post 𝓤 𝓛.H} {dest' : Place} {name' : Name} {opds' : List Operand} {rest' : Body} where
   open 𝓛 use {H}
 
-  pub step : K → FmC 𝓤 H 𝓛.laws C → Triple 𝓤 (C name') (Asked 𝓛 mem run) → (numbers : Numbers) (free-count : ℕ) → (numbers-good : Is R-Numbers numbers (val-Numbers numbers ∷ [])) → (free-count-good : free-count < 2 ^ 32) →
-      (Opds K 𝓛 (raw ((Asked 𝓛 mem run).pre (to_step 𝓛 mem run numbers free-count)) ∷ Γ) E opds' (val-Numbers numbers ∷ vint w32 free-count ∷ [])) →
-      ((res' : Head) → Is R-Head res' (val-Head res' ∷ []) → res' ≡ headOf numbers free-count → Seq K 𝓛 (Γ) (lands C Λ E dest' (val-Head res') rest' post')) →
+  pub step : K → FmC 𝓤 H 𝓛.laws C → Triple 𝓤 (C name') (Asked 𝓛 mem run) → (numbers : Numbers) (free_count : ℕ) → (numbers-good : Is R-Numbers numbers (val-Numbers numbers ∷ [])) → (free-count-good : free_count < 2 ^ 32) →
+      (Opds K 𝓛 (raw ((Asked 𝓛 mem run).pre (to_step 𝓛 mem run numbers free_count)) ∷ Γ) E opds' (val-Numbers numbers ∷ vint w32 free_count ∷ [])) →
+      ((res' : Head) → Is R-Head res' (val-Head res' ∷ []) → res' ≡ head_of numbers free_count → Seq K 𝓛 (Γ) (lands C Λ E dest' (val-Head res') rest' post')) →
       Seq K 𝓛 (Γ) (runs C Λ E (seq (call name' opds' dest') rest') post')
-  step t' fm' known' numbers free-count numbers-good free-count-good os' k' =
-      nothing t' $ use1 𝓛 (raw ((Asked 𝓛 mem run).pre (to_step 𝓛 mem run numbers free-count))) (goes_step 𝓛 mem run numbers free-count numbers-good free-count-good) $
-      calls_at t' fm' (Asked 𝓛 mem run) known' (to_step 𝓛 mem run numbers free-count) (os') (λ w'.
-      use1 𝓛 (later (some (λ (res' : Head). (‵ ftrue ⊛ ‵ (R-Head.own res' (w' ∷ []))) ⊛ raw (ensured 𝓛 callee'.ended (callee'.clauses 𝓛 mem run) tt (numbers, (free-count, tt)) tt res')))) (id⊢ 𝓤 _) $ await t' tt $ pick t' (λ res'. split t' $ move t' (1 ∷ []) $
-      use1 𝓛 (some (λ (zs' : Unit {0} × (Unit {0} × Unit {0})). ‵ (lasts callee'.ended tt (numbers, (free-count, tt)) zs') ⊛ raw (fact 𝓤 (res' ≡ headOf numbers free-count)))) (id⊢ 𝓤 _) $ pick t' (λ zs'. split t' $ move t' (1 ∷ []) $ heard t' (res' ≡ headOf numbers free-count) (λ e'.
+  step t' fm' known' numbers free_count numbers-good free-count-good os' k' =
+      nothing t' $ use1 𝓛 (raw ((Asked 𝓛 mem run).pre (to_step 𝓛 mem run numbers free_count))) (goes_step 𝓛 mem run numbers free_count numbers-good free-count-good) $
+      calls_at t' fm' (Asked 𝓛 mem run) known' (to_step 𝓛 mem run numbers free_count) (os') (λ w'.
+      use1 𝓛 (later (some (λ (res' : Head). (‵ ftrue ⊛ ‵ (R-Head.own res' (w' ∷ []))) ⊛ raw (ensured 𝓛 callee'.ended (callee'.clauses 𝓛 mem run) tt (numbers, (free_count, tt)) tt res')))) (id⊢ 𝓤 _) $ await t' tt $ pick t' (λ res'. split t' $ move t' (1 ∷ []) $
+      use1 𝓛 (some (λ (zs' : Unit {0} × (Unit {0} × Unit {0})). ‵ (lasts callee'.ended tt (numbers, (free_count, tt)) zs') ⊛ raw (fact 𝓤 (res' ≡ head_of numbers free_count)))) (id⊢ 𝓤 _) $ pick t' (λ zs'. split t' $ move t' (1 ∷ []) $ heard t' (res' ≡ head_of numbers free_count) (λ e'.
       fsplit t' $ drop t' $ fsplit t' $ drop t' $ drop t' $
       move t' (0 ∷ []) $ split t' $ move t' (1 ∷ []) $ peeks t' R-Head (Is R-Head) (shows 𝓛 R-Head) res' (w' ∷ []) (λ is'. drop t' $ drop t' $
       subst (λ (v' : Val). Seq K 𝓛 (Γ) (lands C Λ E dest' v' rest' post')) (sym (ap only (LL.tells M-Head.the_type L-Head.the_laws res' _ is'))) (k' res' (subst (Is R-Head res') (LL.tells M-Head.the_type L-Head.the_laws res' _ is') is') e'))))))

@@ -29,7 +29,7 @@ use denote.Triple.Call.{calls_at, calls_at_last}
 use denote.Triple.Clauses.{ensured, lasts}
 use denote.Triple.Walked.{says}
 use Rattle.packed.specs.Pool.{value}
-use Rattle.frames.proofs.Lent.{at-list, Mine, Yours, Lent, Shown, lend, home, show, back, give}
+use Rattle.frames.proofs.Lent.{at_list, Mine, Yours, Lent, Shown, lend, home, show, back, give}
 use Rattle.packed.specs.contracts.leaf_value as callee'
 
 module _ {M : Type 1} {𝓤 : Ura M} (𝓛 : Logic 𝓤) (mem : Memory → SProp 𝓤) (run : Routine → Fun 𝓤) where
@@ -37,10 +37,10 @@ module _ {M : Type 1} {𝓤 : Ura M} (𝓛 : Logic 𝓤) (mem : Memory → SProp
   Asked = triple_of 𝓛 callee'.signature (callee'.spec 𝓛 mem run)
 
   abbrev pub to-step-s : (ν-pool : ℕ) (δ-pool : GName) (b-pool o-pool n-pool : ℕ) (pool : List ℕ) (nodes : ℕ) (leaf : ℕ) → Asked.Ghost
-  to-step-s ν-pool δ-pool b-pool o-pool n-pool pool nodes leaf = ((((ν-pool ∷ []), tt), (full_share, tt), tt, (at-list b-pool o-pool δ-pool pool, (nodes, (leaf, tt))), (slice_val (b-pool, o-pool) n-pool ∷ [], (vint w32 nodes ∷ [], (vint w32 leaf ∷ [], tt)))), tt)
+  to-step-s ν-pool δ-pool b-pool o-pool n-pool pool nodes leaf = ((((ν-pool ∷ []), tt), (full_share, tt), tt, (at_list b-pool o-pool δ-pool pool, (nodes, (leaf, tt))), (slice_val (b-pool, o-pool) n-pool ∷ [], (vint w32 nodes ∷ [], (vint w32 leaf ∷ [], tt)))), tt)
 
-  pub goes-step-s : (ν-pool : ℕ) (δ-pool : GName) (b-pool o-pool n-pool : ℕ) (pool : List ℕ) (nodes : ℕ) (leaf : ℕ) → (nodes-good : nodes < 2 ^ 32) (leaf-good : leaf < 2 ^ 32) (ok' : (2 * nodes ≤ length pool) × (leaf < nodes)) → ent 𝓤 (⋆ 𝓛 (‵ (flft (ν-pool ∷ []) full_share) ∷ ‵ ((ShrSlice (named 0) (ν-pool ∷ []) u32).own_val (at-list b-pool o-pool δ-pool pool) (slice_val (b-pool, o-pool) n-pool ∷ [])) ∷ [])) (Asked.pre (to-step-s ν-pool δ-pool b-pool o-pool n-pool pool nodes leaf))
-  goes-step-s ν-pool δ-pool b-pool o-pool n-pool pool nodes leaf nodes-good leaf-good ok' = qed 𝓛 (‵ (flft (ν-pool ∷ []) full_share) ∷ ‵ ((ShrSlice (named 0) (ν-pool ∷ []) u32).own_val (at-list b-pool o-pool δ-pool pool) (slice_val (b-pool, o-pool) n-pool ∷ [])) ∷ []) ∵ says ! ok' $ nothing ! $ move ! (1 ∷ 0 ∷ []) $ group ! 2 $ frame ! $
+  pub goes-step-s : (ν-pool : ℕ) (δ-pool : GName) (b-pool o-pool n-pool : ℕ) (pool : List ℕ) (nodes : ℕ) (leaf : ℕ) → (nodes-good : nodes < 2 ^ 32) (leaf-good : leaf < 2 ^ 32) (ok' : (2 * nodes ≤ length pool) × (leaf < nodes)) → ent 𝓤 (⋆ 𝓛 (‵ (flft (ν-pool ∷ []) full_share) ∷ ‵ ((ShrSlice (named 0) (ν-pool ∷ []) u32).own_val (at_list b-pool o-pool δ-pool pool) (slice_val (b-pool, o-pool) n-pool ∷ [])) ∷ [])) (Asked.pre (to-step-s ν-pool δ-pool b-pool o-pool n-pool pool nodes leaf))
+  goes-step-s ν-pool δ-pool b-pool o-pool n-pool pool nodes leaf nodes-good leaf-good ok' = qed 𝓛 (‵ (flft (ν-pool ∷ []) full_share) ∷ ‵ ((ShrSlice (named 0) (ν-pool ∷ []) u32).own_val (at_list b-pool o-pool δ-pool pool) (slice_val (b-pool, o-pool) n-pool ∷ [])) ∷ []) ∵ says ! ok' $ nothing ! $ move ! (1 ∷ 0 ∷ []) $ group ! 2 $ frame ! $
       nothing ! $ owned ! u32 (Is u32) (uint_Makes 𝓛 w32) leaf _ (refl, leaf-good) $ fjoin ! $ owned ! u32 (Is u32) (uint_Makes 𝓛 w32) nodes _ (refl, nodes-good) $ fjoin ! $ move ! (1 ∷ 0 ∷ []) $ fjoin ! $ done !
 
 module _ {M : Type 1} {𝓤 : Ura M} {𝓛 : Logic 𝓤} {K : Type 0} (mem : Memory → SProp 𝓤) (run : Routine → Fun 𝓤)
@@ -55,8 +55,8 @@ module _ {M : Type 1} {𝓤 : Ura M} {𝓛 : Logic 𝓤} {K : Type 0} (mem : Mem
       show t' tt u32 b-pool o-pool n-pool pool len-pool (λ ν-pool δ-pool.
       move t' (0 ∷ 1 ∷ []) $ group t' 2 $ use1 𝓛 (raw ((Asked 𝓛 mem run).pre (to-step-s 𝓛 mem run ν-pool δ-pool b-pool o-pool n-pool pool nodes leaf))) (goes-step-s 𝓛 mem run ν-pool δ-pool b-pool o-pool n-pool pool nodes leaf nodes-good leaf-good ok') $
       calls_at t' fm' (Asked 𝓛 mem run) known' (to-step-s 𝓛 mem run ν-pool δ-pool b-pool o-pool n-pool pool nodes leaf) (os' ν-pool δ-pool) (λ w'.
-      use1 𝓛 (later (some (λ (res' : ℕ). ((‵ (flft (ν-pool ∷ []) full_share) ⊛ ‵ ftrue) ⊛ ‵ (u32.own_val res' (w' ∷ []))) ⊛ raw (ensured 𝓛 callee'.ended (callee'.clauses 𝓛 mem run) ((ν-pool ∷ []), tt) (at-list b-pool o-pool δ-pool pool, (nodes, (leaf, tt))) tt res')))) (id⊢ 𝓤 _) $ await t' tt $ pick t' (λ res'. split t' $ move t' (1 ∷ []) $
-      use1 𝓛 (some (λ (zs' : Unit {0} × (Unit {0} × (Unit {0} × Unit {0}))). ‵ (lasts callee'.ended ((ν-pool ∷ []), tt) (at-list b-pool o-pool δ-pool pool, (nodes, (leaf, tt))) zs') ⊛ raw (fact 𝓤 (res' ≡ value pool leaf)))) (id⊢ 𝓤 _) $ pick t' (λ zs'. split t' $ move t' (1 ∷ []) $ heard t' (res' ≡ value pool leaf) (λ e'.
+      use1 𝓛 (later (some (λ (res' : ℕ). ((‵ (flft (ν-pool ∷ []) full_share) ⊛ ‵ ftrue) ⊛ ‵ (u32.own_val res' (w' ∷ []))) ⊛ raw (ensured 𝓛 callee'.ended (callee'.clauses 𝓛 mem run) ((ν-pool ∷ []), tt) (at_list b-pool o-pool δ-pool pool, (nodes, (leaf, tt))) tt res')))) (id⊢ 𝓤 _) $ await t' tt $ pick t' (λ res'. split t' $ move t' (1 ∷ []) $
+      use1 𝓛 (some (λ (zs' : Unit {0} × (Unit {0} × (Unit {0} × Unit {0}))). ‵ (lasts callee'.ended ((ν-pool ∷ []), tt) (at_list b-pool o-pool δ-pool pool, (nodes, (leaf, tt))) zs') ⊛ raw (fact 𝓤 (res' ≡ value pool leaf)))) (id⊢ 𝓤 _) $ pick t' (λ zs'. split t' $ move t' (1 ∷ []) $ heard t' (res' ≡ value pool leaf) (λ e'.
       fsplit t' $ drop t' $ fsplit t' $ drop t' $ fsplit t' $ drop t' $ drop t' $
       move t' (0 ∷ []) $ split t' $ move t' (1 ∷ []) $ peeks t' u32 (Is u32) (shows 𝓛 u32) res' (w' ∷ []) (λ is'. drop t' $ split t' $ move t' (1 ∷ []) $ drop t' $
       move t' (0 ∷ 1 ∷ []) $ back t' tt u32 b-pool o-pool n-pool pool len-pool room-pool $

@@ -35,7 +35,7 @@ use Rattle.semantics.specs.declared.Head.{Head}
 use Rattle.engine.specs.contracts.Out as M-Out
 use Rattle.engine.proofs.Out.TheLaws as L-Out
 use Rattle.engine.specs.declared.Out.{Out}
-use Rattle.frames.proofs.Lent.{at-list, Mine, Yours, Lent, Shown, lend, home, show, back, give}
+use Rattle.frames.proofs.Lent.{at_list, Mine, Yours, Lent, Shown, lend, home, show, back, give}
 use Rattle.engine.specs.contracts.kinds.pool_full as callee'
 
 abbrev R-Head : RattleType

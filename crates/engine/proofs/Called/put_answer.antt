@@ -28,7 +28,7 @@ use denote.Triple.Statement.{Contract, Triple}
 use denote.Triple.Call.{calls_at, calls_at_last}
 use denote.Triple.Clauses.{ensured, lasts}
 use denote.Triple.Walked.{says}
-use Rattle.frames.proofs.Lent.{at-list, Mine, Yours, Lent, Shown, lend, home, show, back, give}
+use Rattle.frames.proofs.Lent.{at_list, Mine, Yours, Lent, Shown, lend, home, show, back, give}
 use Rattle.engine.specs.contracts.records.put_answer as callee'
 
 module _ {M : Type 1} {𝓤 : Ura M} (𝓛 : Logic 𝓤) (mem : Memory → SProp 𝓤) (run : Routine → Fun 𝓤) where
@@ -36,10 +36,10 @@ module _ {M : Type 1} {𝓤 : Ura M} (𝓛 : Logic 𝓤) (mem : Memory → SProp
   Asked = triple_of 𝓛 callee'.signature (callee'.spec 𝓛 mem run)
 
   abbrev pub to_step : (ν-answers : ℕ) (δ-answers : GName) (b-answers o-answers n-answers : ℕ) (answers : List ℕ) (to : ℕ) (first : ℕ) (second : ℕ) → Asked.Ghost
-  to_step ν-answers δ-answers b-answers o-answers n-answers answers to first second = ((((ν-answers ∷ []), tt), (full_share, tt), tt, (at-list b-answers o-answers δ-answers answers, (to, (first, (second, tt)))), (slice_val (b-answers, o-answers) n-answers ∷ [], (vint w64 to ∷ [], (vint w32 first ∷ [], (vint w32 second ∷ [], tt))))), tt)
+  to_step ν-answers δ-answers b-answers o-answers n-answers answers to first second = ((((ν-answers ∷ []), tt), (full_share, tt), tt, (at_list b-answers o-answers δ-answers answers, (to, (first, (second, tt)))), (slice_val (b-answers, o-answers) n-answers ∷ [], (vint w64 to ∷ [], (vint w32 first ∷ [], (vint w32 second ∷ [], tt))))), tt)
 
-  pub goes_step : (ν-answers : ℕ) (δ-answers : GName) (b-answers o-answers n-answers : ℕ) (answers : List ℕ) (to : ℕ) (first : ℕ) (second : ℕ) → (to-good : to < 2 ^ 64) (first_Good : first < 2 ^ 32) (second-good : second < 2 ^ 32) (ok' : to + 1 < length answers) → ent 𝓤 (⋆ 𝓛 (‵ (flft (ν-answers ∷ []) full_share) ∷ ‵ ((MutSlice (named 0) (ν-answers ∷ []) u32).own_val (at-list b-answers o-answers δ-answers answers) (slice_val (b-answers, o-answers) n-answers ∷ [])) ∷ [])) (Asked.pre (to_step ν-answers δ-answers b-answers o-answers n-answers answers to first second))
-  goes_step ν-answers δ-answers b-answers o-answers n-answers answers to first second to-good first_Good second-good ok' = qed 𝓛 (‵ (flft (ν-answers ∷ []) full_share) ∷ ‵ ((MutSlice (named 0) (ν-answers ∷ []) u32).own_val (at-list b-answers o-answers δ-answers answers) (slice_val (b-answers, o-answers) n-answers ∷ [])) ∷ []) ∵ says ! ok' $ nothing ! $ move ! (1 ∷ 0 ∷ []) $ group ! 2 $ frame ! $
+  pub goes_step : (ν-answers : ℕ) (δ-answers : GName) (b-answers o-answers n-answers : ℕ) (answers : List ℕ) (to : ℕ) (first : ℕ) (second : ℕ) → (to-good : to < 2 ^ 64) (first_Good : first < 2 ^ 32) (second-good : second < 2 ^ 32) (ok' : to + 1 < length answers) → ent 𝓤 (⋆ 𝓛 (‵ (flft (ν-answers ∷ []) full_share) ∷ ‵ ((MutSlice (named 0) (ν-answers ∷ []) u32).own_val (at_list b-answers o-answers δ-answers answers) (slice_val (b-answers, o-answers) n-answers ∷ [])) ∷ [])) (Asked.pre (to_step ν-answers δ-answers b-answers o-answers n-answers answers to first second))
+  goes_step ν-answers δ-answers b-answers o-answers n-answers answers to first second to-good first_Good second-good ok' = qed 𝓛 (‵ (flft (ν-answers ∷ []) full_share) ∷ ‵ ((MutSlice (named 0) (ν-answers ∷ []) u32).own_val (at_list b-answers o-answers δ-answers answers) (slice_val (b-answers, o-answers) n-answers ∷ [])) ∷ []) ∵ says ! ok' $ nothing ! $ move ! (1 ∷ 0 ∷ []) $ group ! 2 $ frame ! $
       nothing ! $ owned ! u32 (Is u32) (uint_Makes 𝓛 w32) second _ (refl, second-good) $ fjoin ! $ owned ! u32 (Is u32) (uint_Makes 𝓛 w32) first _ (refl, first_Good) $ fjoin ! $ owned ! usize (Is usize) (uint_Makes 𝓛 w64) to _ (refl, to-good) $ fjoin ! $ move ! (1 ∷ 0 ∷ []) $ fjoin ! $ done !
 
 module _ {M : Type 1} {𝓤 : Ura M} {𝓛 : Logic 𝓤} {K : Type 0} (mem : Memory → SProp 𝓤) (run : Routine → Fun 𝓤)
@@ -54,8 +54,8 @@ module _ {M : Type 1} {𝓤 : Ura M} {𝓛 : Logic 𝓤} {K : Type 0} (mem : Mem
       lend t' tt u32 b-answers o-answers n-answers answers len-answers (λ ν-answers δ-answers.
       move t' (0 ∷ 1 ∷ []) $ group t' 2 $ use1 𝓛 (raw ((Asked 𝓛 mem run).pre (to_step 𝓛 mem run ν-answers δ-answers b-answers o-answers n-answers answers to first second))) (goes_step 𝓛 mem run ν-answers δ-answers b-answers o-answers n-answers answers to first second to-good first_Good second-good ok') $
       calls_at t' fm' (Asked 𝓛 mem run) known' (to_step 𝓛 mem run ν-answers δ-answers b-answers o-answers n-answers answers to first second) (os' ν-answers δ-answers) (λ w'.
-      use1 𝓛 (later (some (λ (res' : Unit {0}). ((‵ (flft (ν-answers ∷ []) full_share) ⊛ ‵ ftrue) ⊛ ‵ (unit.own_val res' (w' ∷ []))) ⊛ raw (ensured 𝓛 callee'.ended (callee'.clauses 𝓛 mem run) ((ν-answers ∷ []), tt) (at-list b-answers o-answers δ-answers answers, (to, (first, (second, tt)))) tt res')))) (id⊢ 𝓤 _) $ await t' tt $ pick t' (λ res'. split t' $ move t' (1 ∷ []) $
-      use1 𝓛 (some (λ (zs' : List ℕ × (Unit {0} × (Unit {0} × (Unit {0} × Unit {0})))). ‵ (lasts callee'.ended ((ν-answers ∷ []), tt) (at-list b-answers o-answers δ-answers answers, (to, (first, (second, tt)))) zs') ⊛ raw (fact 𝓤 (zs'.0 ≡ set (set answers to first) (to + 1) second)))) (id⊢ 𝓤 _) $ pick t' (λ zs'. split t' $ move t' (1 ∷ []) $ heard t' (zs'.0 ≡ set (set answers to first) (to + 1) second) (λ e'.
+      use1 𝓛 (later (some (λ (res' : Unit {0}). ((‵ (flft (ν-answers ∷ []) full_share) ⊛ ‵ ftrue) ⊛ ‵ (unit.own_val res' (w' ∷ []))) ⊛ raw (ensured 𝓛 callee'.ended (callee'.clauses 𝓛 mem run) ((ν-answers ∷ []), tt) (at_list b-answers o-answers δ-answers answers, (to, (first, (second, tt)))) tt res')))) (id⊢ 𝓤 _) $ await t' tt $ pick t' (λ res'. split t' $ move t' (1 ∷ []) $
+      use1 𝓛 (some (λ (zs' : List ℕ × (Unit {0} × (Unit {0} × (Unit {0} × Unit {0})))). ‵ (lasts callee'.ended ((ν-answers ∷ []), tt) (at_list b-answers o-answers δ-answers answers, (to, (first, (second, tt)))) zs') ⊛ raw (fact 𝓤 (zs'.0 ≡ set (set answers to first) (to + 1) second)))) (id⊢ 𝓤 _) $ pick t' (λ zs'. split t' $ move t' (1 ∷ []) $ heard t' (zs'.0 ≡ set (set answers to first) (to + 1) second) (λ e'.
       fsplit t' $ fsplit t' $ move t' (1 ∷ []) $ feq_l t' (λ same-answers. move t' (1 ∷ []) $ fsplit t' $ drop t' $ fsplit t' $ drop t' $ fsplit t' $ drop t' $ drop t' $
       move t' (1 ∷ []) $ split t' $ move t' (1 ∷ []) $ peeks t' unit (Is unit) (shows 𝓛 unit) res' (w' ∷ []) (λ is'. drop t' $ split t' $ move t' (1 ∷ []) $ drop t' $
       move t' (0 ∷ 2 ∷ 1 ∷ []) $ home t' tt u32 b-answers o-answers n-answers answers zs'.0 len-answers room-answers same-answers $

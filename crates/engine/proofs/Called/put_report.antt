@@ -29,13 +29,13 @@ use denote.Triple.Call.{calls_at, calls_at_last}
 use denote.Triple.Clauses.{ensured, lasts}
 use denote.Triple.Walked.{says}
 use Rattle.semantics.specs.declared.Refusal.TheVariants.{Span}
-use Rattle.semantics.specs.Answers.{refusalNumber}
-use Rattle.semantics.specs.Report.{reportWords}
+use Rattle.semantics.specs.Answers.{refusal_number}
+use Rattle.semantics.specs.Report.{report_words}
 use Rattle.timing.specs.Turns.{timing}
 use Rattle.timing.specs.contracts.Tally as M-Tally
 use Rattle.timing.proofs.Tally.TheLaws as L-Tally
 use Rattle.timing.specs.declared.Tally.{Tally}
-use Rattle.frames.proofs.Lent.{at-list, Mine, Yours, Lent, Shown, lend, home, show, back, give}
+use Rattle.frames.proofs.Lent.{at_list, Mine, Yours, Lent, Shown, lend, home, show, back, give}
 use Rattle.timing.specs.contracts.put_report as callee'
 
 abbrev R-Tally : RattleType
@@ -49,10 +49,10 @@ module _ {M : Type 1} {𝓤 : Ura M} (𝓛 : Logic 𝓤) (mem : Memory → SProp
   Asked = triple_of 𝓛 callee'.signature (callee'.spec 𝓛 mem run)
 
   abbrev pub to_step : (ν-report : ℕ) (δ-report : GName) (b-report o-report n-report : ℕ) (report : List ℕ) (t : Tally) → Asked.Ghost
-  to_step ν-report δ-report b-report o-report n-report report t = ((((ν-report ∷ []), tt), (full_share, tt), tt, (at-list b-report o-report δ-report report, (t, tt)), (slice_val (b-report, o-report) n-report ∷ [], (val-Tally t ∷ [], tt))), tt)
+  to_step ν-report δ-report b-report o-report n-report report t = ((((ν-report ∷ []), tt), (full_share, tt), tt, (at_list b-report o-report δ-report report, (t, tt)), (slice_val (b-report, o-report) n-report ∷ [], (val-Tally t ∷ [], tt))), tt)
 
-  pub goes_step : (ν-report : ℕ) (δ-report : GName) (b-report o-report n-report : ℕ) (report : List ℕ) (t : Tally) → (t-good : Is R-Tally t (val-Tally t ∷ [])) (ok' : length report ≡ 4) → ent 𝓤 (⋆ 𝓛 (‵ (flft (ν-report ∷ []) full_share) ∷ ‵ ((MutSlice (named 0) (ν-report ∷ []) u64).own_val (at-list b-report o-report δ-report report) (slice_val (b-report, o-report) n-report ∷ [])) ∷ [])) (Asked.pre (to_step ν-report δ-report b-report o-report n-report report t))
-  goes_step ν-report δ-report b-report o-report n-report report t t-good ok' = qed 𝓛 (‵ (flft (ν-report ∷ []) full_share) ∷ ‵ ((MutSlice (named 0) (ν-report ∷ []) u64).own_val (at-list b-report o-report δ-report report) (slice_val (b-report, o-report) n-report ∷ [])) ∷ []) ∵ says ! ok' $ nothing ! $ move ! (1 ∷ 0 ∷ []) $ group ! 2 $ frame ! $
+  pub goes_step : (ν-report : ℕ) (δ-report : GName) (b-report o-report n-report : ℕ) (report : List ℕ) (t : Tally) → (t-good : Is R-Tally t (val-Tally t ∷ [])) (ok' : length report ≡ 4) → ent 𝓤 (⋆ 𝓛 (‵ (flft (ν-report ∷ []) full_share) ∷ ‵ ((MutSlice (named 0) (ν-report ∷ []) u64).own_val (at_list b-report o-report δ-report report) (slice_val (b-report, o-report) n-report ∷ [])) ∷ [])) (Asked.pre (to_step ν-report δ-report b-report o-report n-report report t))
+  goes_step ν-report δ-report b-report o-report n-report report t t-good ok' = qed 𝓛 (‵ (flft (ν-report ∷ []) full_share) ∷ ‵ ((MutSlice (named 0) (ν-report ∷ []) u64).own_val (at_list b-report o-report δ-report report) (slice_val (b-report, o-report) n-report ∷ [])) ∷ []) ∵ says ! ok' $ nothing ! $ move ! (1 ∷ 0 ∷ []) $ group ! 2 $ frame ! $
       nothing ! $ owned ! R-Tally (Is R-Tally) (LL.makes M-Tally.the_type L-Tally.the_plain 𝓛) t _ t-good $ fjoin ! $ move ! (1 ∷ 0 ∷ []) $ fjoin ! $ done !
 
 module _ {M : Type 1} {𝓤 : Ura M} {𝓛 : Logic 𝓤} {K : Type 0} (mem : Memory → SProp 𝓤) (run : Routine → Fun 𝓤)
@@ -61,15 +61,15 @@ module _ {M : Type 1} {𝓤 : Ura M} {𝓛 : Logic 𝓤} {K : Type 0} (mem : Mem
 
   pub step : K → FmC 𝓤 H 𝓛.laws C → Triple 𝓤 (C name') (Asked 𝓛 mem run) → {κ-report : Lft} {q-report : Share} {γ-report : GName} → (b-report o-report n-report : ℕ) (report : List ℕ) (t : Tally) → (t-good : Is R-Tally t (val-Tally t ∷ [])) → length report ≡ 4 → length report ≡ n-report → Room u64 n-report →
       ((ν-report : ℕ) (δ-report : GName) → Opds K 𝓛 (raw ((Asked 𝓛 mem run).pre (to_step 𝓛 mem run ν-report δ-report b-report o-report n-report report t)) ∷ ‵ (Lent u64 κ-report (ν-report ∷ []) q-report γ-report b-report o-report δ-report report) ∷ Γ) E opds' (slice_val (b-report, o-report) n-report ∷ val-Tally t ∷ [])) →
-      ((res' : ℕ) (zs-report : List ℕ) → res' < 2 ^ 32 → (zs-report ≡ cond (eqb t.span 0) report (reportWords (timing report t.work t.span))) × (res' ≡ cond (eqb t.span 0) (refusalNumber Span) 0) → length zs-report ≡ length report → Seq K 𝓛 (‵ (Mine u64 κ-report q-report γ-report b-report o-report n-report zs-report) ∷ Γ) (lands C Λ E dest' (vint w32 res') rest' post')) →
+      ((res' : ℕ) (zs-report : List ℕ) → res' < 2 ^ 32 → (zs-report ≡ cond (eqb t.span 0) report (report_words (timing report t.work t.span))) × (res' ≡ cond (eqb t.span 0) (refusal_number Span) 0) → length zs-report ≡ length report → Seq K 𝓛 (‵ (Mine u64 κ-report q-report γ-report b-report o-report n-report zs-report) ∷ Γ) (lands C Λ E dest' (vint w32 res') rest' post')) →
       Seq K 𝓛 (‵ (Mine u64 κ-report q-report γ-report b-report o-report n-report report) ∷ Γ) (runs C Λ E (seq (call name' opds' dest') rest') post')
   step t' fm' known' {κ-report} {q-report} {γ-report} b-report o-report n-report report t t-good ok' len-report room-report os' k' =
       lend t' tt u64 b-report o-report n-report report len-report (λ ν-report δ-report.
       move t' (0 ∷ 1 ∷ []) $ group t' 2 $ use1 𝓛 (raw ((Asked 𝓛 mem run).pre (to_step 𝓛 mem run ν-report δ-report b-report o-report n-report report t))) (goes_step 𝓛 mem run ν-report δ-report b-report o-report n-report report t t-good ok') $
       calls_at t' fm' (Asked 𝓛 mem run) known' (to_step 𝓛 mem run ν-report δ-report b-report o-report n-report report t) (os' ν-report δ-report) (λ w'.
-      use1 𝓛 (later (some (λ (res' : ℕ). ((‵ (flft (ν-report ∷ []) full_share) ⊛ ‵ ftrue) ⊛ ‵ (u32.own_val res' (w' ∷ []))) ⊛ raw (ensured 𝓛 callee'.ended (callee'.clauses 𝓛 mem run) ((ν-report ∷ []), tt) (at-list b-report o-report δ-report report, (t, tt)) tt res')))) (id⊢ 𝓤 _) $ await t' tt $ pick t' (λ res'. split t' $ move t' (1 ∷ []) $
-      use1 𝓛 (some (λ (zs' : List ℕ × (Unit {0} × Unit {0})). ‵ (lasts callee'.ended ((ν-report ∷ []), tt) (at-list b-report o-report δ-report report, (t, tt)) zs') ⊛ raw (fact 𝓤 ((zs'.0 ≡ cond (eqb t.span 0) report (reportWords (timing report t.work t.span))) × (res' ≡ cond (eqb t.span 0) (refusalNumber Span) 0))))) (id⊢ 𝓤 _) $ pick t' (λ zs'. split t' $ move t' (1 ∷ []) $ heard t' ((zs'.0 ≡ cond (eqb t.span 0) report (reportWords (timing report t.work t.span))) × (res' ≡ cond (eqb t.span 0) (refusalNumber Span) 0)) (λ e'.
-      fsplit t' $ fsplit t' $ move t' (1 ∷ []) $ feq_l t' (λ same-report. move t' (1 ∷ []) $ fsplit t' $ drop t' $ drop t' $
+      use1 𝓛 (later (some (λ (res' : ℕ). ((‵ (flft (ν-report ∷ []) full_share) ⊛ ‵ ftrue) ⊛ ‵ (u32.own_val res' (w' ∷ []))) ⊛ raw (ensured 𝓛 callee'.ended (callee'.clauses 𝓛 mem run) ((ν-report ∷ []), tt) (at_list b-report o-report δ-report report, (t, tt)) tt res')))) (id⊢ 𝓤 _) $ await t' tt $ pick t' (λ res'. split t' $ move t' (1 ∷ []) $
+      use1 𝓛 (some (λ (zs' : List ℕ × (Unit {0} × Unit {0})). ‵ (lasts callee'.ended ((ν-report ∷ []), tt) (at_list b-report o-report δ-report report, (t, tt)) zs') ⊛ raw (fact 𝓤 ((zs'.0 ≡ cond (eqb t.span 0) report (report_words (timing report t.work t.span))) × (res' ≡ cond (eqb t.span 0) (refusal_number Span) 0))))) (id⊢ 𝓤 _) $ pick t' (λ zs'. split t' $ move t' (1 ∷ []) $ heard t' ((zs'.0 ≡ cond (eqb t.span 0) report (report_words (timing report t.work t.span))) × (res' ≡ cond (eqb t.span 0) (refusal_number Span) 0)) (λ e'.
+      fsplit t' $ fsplit t' $ move t' (1 ∷ []) $ feq_l t' (λ same_report. move t' (1 ∷ []) $ fsplit t' $ drop t' $ drop t' $
       move t' (1 ∷ []) $ split t' $ move t' (1 ∷ []) $ peeks t' u32 (Is u32) (shows 𝓛 u32) res' (w' ∷ []) (λ is'. drop t' $ split t' $ move t' (1 ∷ []) $ drop t' $
-      move t' (0 ∷ 2 ∷ 1 ∷ []) $ home t' tt u64 b-report o-report n-report report zs'.0 len-report room-report same-report $
-      subst (λ (v' : Val). Seq K 𝓛 (‵ (Mine u64 κ-report q-report γ-report b-report o-report n-report zs'.0) ∷ Γ) (lands C Λ E dest' v' rest' post')) (sym (ap only (uint_Tells w32 res' _ is'))) (k' res' zs'.0 is'.1 e' same-report))))))))
+      move t' (0 ∷ 2 ∷ 1 ∷ []) $ home t' tt u64 b-report o-report n-report report zs'.0 len-report room-report same_report $
+      subst (λ (v' : Val). Seq K 𝓛 (‵ (Mine u64 κ-report q-report γ-report b-report o-report n-report zs'.0) ∷ Γ) (lands C Λ E dest' v' rest' post')) (sym (ap only (uint_Tells w32 res' _ is'))) (k' res' zs'.0 is'.1 e' same_report))))))))

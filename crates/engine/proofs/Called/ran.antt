@@ -34,7 +34,7 @@ use Rattle.semantics.specs.declared.Head.{Head}
 use Rattle.engine.specs.contracts.Ran as M-Ran
 use Rattle.engine.proofs.Ran.TheLaws as L-Ran
 use Rattle.engine.specs.declared.Ran.{Ran}
-use Rattle.frames.proofs.Lent.{at-list, Mine, Yours, Lent, Shown, lend, home, show, back, give}
+use Rattle.frames.proofs.Lent.{at_list, Mine, Yours, Lent, Shown, lend, home, show, back, give}
 use Rattle.engine.specs.contracts.records.ran as callee'
 
 abbrev R-Head : RattleType

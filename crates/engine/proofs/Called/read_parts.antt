@@ -28,15 +28,15 @@ use denote.Triple.Statement.{Contract, Triple}
 use denote.Triple.Call.{calls_at, calls_at_last}
 use denote.Triple.Clauses.{ensured, lasts}
 use denote.Triple.Walked.{says}
-use Rattle.soundness.specs.Numbers.{numberCount}
+use Rattle.soundness.specs.Numbers.{number_count}
 use Rattle.image.specs.declared.ImageCheck.TheVariants.{Good}
-use Rattle.image.specs.Widths.{nodeWords}
-use Rattle.image.specs.Image.{nodesIn, imageCheck, numberWordsIn, Lengths, IsRead}
+use Rattle.image.specs.Widths.{node_words}
+use Rattle.image.specs.Image.{nodes_in, image_check, number_words_in, Lengths, IsRead}
 use Rattle.soundness.specs.Layout.{two_words}
 use Rattle.frames.specs.contracts.Frame as M-Frame
 use Rattle.frames.proofs.Frame.TheLaws as L-Frame
 use Rattle.frames.specs.declared.Frame.{Frame}
-use Rattle.frames.proofs.Lent.{at-list, Mine, Yours, Lent, Shown, lend, home, show, back, give}
+use Rattle.frames.proofs.Lent.{at_list, Mine, Yours, Lent, Shown, lend, home, show, back, give}
 use Rattle.image.specs.contracts.read_parts as callee'
 
 abbrev R-Frame : RattleType
@@ -50,26 +50,26 @@ module _ {M : Type 1} {𝓤 : Ura M} (𝓛 : Logic 𝓤) (mem : Memory → SProp
   Asked = triple_of 𝓛 callee'.signature (callee'.spec 𝓛 mem run)
 
   abbrev pub to-step-g : (κ-image : Lft) (q-image : Share) (γ-image : GName) (ν-numbers : ℕ) (δ-numbers : GName) (ν-deques : ℕ) (δ-deques : GName) (ν-frames : ℕ) (δ-frames : GName) (ν-pool : ℕ) (δ-pool : GName) (b-image o-image n-image : ℕ) (image : List ℕ) (b-numbers o-numbers n-numbers : ℕ) (numbers : List ℕ) (b-deques o-deques n-deques : ℕ) (deques : List ℕ) (b-frames o-frames n-frames : ℕ) (frames : List Frame) (b-pool o-pool n-pool : ℕ) (pool : List ℕ) → Asked.Ghost
-  to-step-g κ-image q-image γ-image ν-numbers δ-numbers ν-deques δ-deques ν-frames δ-frames ν-pool δ-pool b-image o-image n-image image b-numbers o-numbers n-numbers numbers b-deques o-deques n-deques deques b-frames o-frames n-frames frames b-pool o-pool n-pool pool = (((κ-image, ((ν-numbers ∷ []), ((ν-deques ∷ []), ((ν-frames ∷ []), ((ν-pool ∷ []), tt))))), (q-image, (full_share, (full_share, (full_share, (full_share, tt))))), tt, (at-list b-image o-image γ-image image, (at-list b-numbers o-numbers δ-numbers numbers, (at-list b-deques o-deques δ-deques deques, (at-list b-frames o-frames δ-frames frames, (at-list b-pool o-pool δ-pool pool, tt))))), (slice_val (b-image, o-image) n-image ∷ [], (slice_val (b-numbers, o-numbers) n-numbers ∷ [], (slice_val (b-deques, o-deques) n-deques ∷ [], (slice_val (b-frames, o-frames) n-frames ∷ [], (slice_val (b-pool, o-pool) n-pool ∷ [], tt)))))), tt)
+  to-step-g κ-image q-image γ-image ν-numbers δ-numbers ν-deques δ-deques ν-frames δ-frames ν-pool δ-pool b-image o-image n-image image b-numbers o-numbers n-numbers numbers b-deques o-deques n-deques deques b-frames o-frames n-frames frames b-pool o-pool n-pool pool = (((κ-image, ((ν-numbers ∷ []), ((ν-deques ∷ []), ((ν-frames ∷ []), ((ν-pool ∷ []), tt))))), (q-image, (full_share, (full_share, (full_share, (full_share, tt))))), tt, (at_list b-image o-image γ-image image, (at_list b-numbers o-numbers δ-numbers numbers, (at_list b-deques o-deques δ-deques deques, (at_list b-frames o-frames δ-frames frames, (at_list b-pool o-pool δ-pool pool, tt))))), (slice_val (b-image, o-image) n-image ∷ [], (slice_val (b-numbers, o-numbers) n-numbers ∷ [], (slice_val (b-deques, o-deques) n-deques ∷ [], (slice_val (b-frames, o-frames) n-frames ∷ [], (slice_val (b-pool, o-pool) n-pool ∷ [], tt)))))), tt)
 
-  pub goes-step-g : (κ-image : Lft) (q-image : Share) (γ-image : GName) (ν-numbers : ℕ) (δ-numbers : GName) (ν-deques : ℕ) (δ-deques : GName) (ν-frames : ℕ) (δ-frames : GName) (ν-pool : ℕ) (δ-pool : GName) (b-image o-image n-image : ℕ) (image : List ℕ) (b-numbers o-numbers n-numbers : ℕ) (numbers : List ℕ) (b-deques o-deques n-deques : ℕ) (deques : List ℕ) (b-frames o-frames n-frames : ℕ) (frames : List Frame) (b-pool o-pool n-pool : ℕ) (pool : List ℕ) → (ok' : (imageCheck two_words image ≡ Good) × (length numbers ≡ numberCount) × Lengths (numberWordsIn two_words image) deques frames × (nodeWords * nodesIn image ≤ length pool)) → ent 𝓤 (⋆ 𝓛 (‵ (flft κ-image q-image) ∷ ‵ (flft (ν-numbers ∷ []) full_share) ∷ ‵ (flft (ν-deques ∷ []) full_share) ∷ ‵ (flft (ν-frames ∷ []) full_share) ∷ ‵ (flft (ν-pool ∷ []) full_share) ∷ ‵ ((ShrSlice (named 0) κ-image u8).own_val (at-list b-image o-image γ-image image) (slice_val (b-image, o-image) n-image ∷ [])) ∷ ‵ ((MutSlice (named 0) (ν-numbers ∷ []) u32).own_val (at-list b-numbers o-numbers δ-numbers numbers) (slice_val (b-numbers, o-numbers) n-numbers ∷ [])) ∷ ‵ ((MutSlice (named 0) (ν-deques ∷ []) u32).own_val (at-list b-deques o-deques δ-deques deques) (slice_val (b-deques, o-deques) n-deques ∷ [])) ∷ ‵ ((MutSlice (named 0) (ν-frames ∷ []) R-Frame).own_val (at-list b-frames o-frames δ-frames frames) (slice_val (b-frames, o-frames) n-frames ∷ [])) ∷ ‵ ((MutSlice (named 0) (ν-pool ∷ []) u32).own_val (at-list b-pool o-pool δ-pool pool) (slice_val (b-pool, o-pool) n-pool ∷ [])) ∷ [])) (Asked.pre (to-step-g κ-image q-image γ-image ν-numbers δ-numbers ν-deques δ-deques ν-frames δ-frames ν-pool δ-pool b-image o-image n-image image b-numbers o-numbers n-numbers numbers b-deques o-deques n-deques deques b-frames o-frames n-frames frames b-pool o-pool n-pool pool))
-  goes-step-g κ-image q-image γ-image ν-numbers δ-numbers ν-deques δ-deques ν-frames δ-frames ν-pool δ-pool b-image o-image n-image image b-numbers o-numbers n-numbers numbers b-deques o-deques n-deques deques b-frames o-frames n-frames frames b-pool o-pool n-pool pool ok' = qed 𝓛 (‵ (flft κ-image q-image) ∷ ‵ (flft (ν-numbers ∷ []) full_share) ∷ ‵ (flft (ν-deques ∷ []) full_share) ∷ ‵ (flft (ν-frames ∷ []) full_share) ∷ ‵ (flft (ν-pool ∷ []) full_share) ∷ ‵ ((ShrSlice (named 0) κ-image u8).own_val (at-list b-image o-image γ-image image) (slice_val (b-image, o-image) n-image ∷ [])) ∷ ‵ ((MutSlice (named 0) (ν-numbers ∷ []) u32).own_val (at-list b-numbers o-numbers δ-numbers numbers) (slice_val (b-numbers, o-numbers) n-numbers ∷ [])) ∷ ‵ ((MutSlice (named 0) (ν-deques ∷ []) u32).own_val (at-list b-deques o-deques δ-deques deques) (slice_val (b-deques, o-deques) n-deques ∷ [])) ∷ ‵ ((MutSlice (named 0) (ν-frames ∷ []) R-Frame).own_val (at-list b-frames o-frames δ-frames frames) (slice_val (b-frames, o-frames) n-frames ∷ [])) ∷ ‵ ((MutSlice (named 0) (ν-pool ∷ []) u32).own_val (at-list b-pool o-pool δ-pool pool) (slice_val (b-pool, o-pool) n-pool ∷ [])) ∷ []) ∵ says ! ok' $ nothing ! $ move ! (1 ∷ 2 ∷ 3 ∷ 4 ∷ 5 ∷ 0 ∷ []) $ group ! 6 $ frame ! $
+  pub goes-step-g : (κ-image : Lft) (q-image : Share) (γ-image : GName) (ν-numbers : ℕ) (δ-numbers : GName) (ν-deques : ℕ) (δ-deques : GName) (ν-frames : ℕ) (δ-frames : GName) (ν-pool : ℕ) (δ-pool : GName) (b-image o-image n-image : ℕ) (image : List ℕ) (b-numbers o-numbers n-numbers : ℕ) (numbers : List ℕ) (b-deques o-deques n-deques : ℕ) (deques : List ℕ) (b-frames o-frames n-frames : ℕ) (frames : List Frame) (b-pool o-pool n-pool : ℕ) (pool : List ℕ) → (ok' : (image_check two_words image ≡ Good) × (length numbers ≡ number_count) × Lengths (number_words_in two_words image) deques frames × (node_words * nodes_in image ≤ length pool)) → ent 𝓤 (⋆ 𝓛 (‵ (flft κ-image q-image) ∷ ‵ (flft (ν-numbers ∷ []) full_share) ∷ ‵ (flft (ν-deques ∷ []) full_share) ∷ ‵ (flft (ν-frames ∷ []) full_share) ∷ ‵ (flft (ν-pool ∷ []) full_share) ∷ ‵ ((ShrSlice (named 0) κ-image u8).own_val (at_list b-image o-image γ-image image) (slice_val (b-image, o-image) n-image ∷ [])) ∷ ‵ ((MutSlice (named 0) (ν-numbers ∷ []) u32).own_val (at_list b-numbers o-numbers δ-numbers numbers) (slice_val (b-numbers, o-numbers) n-numbers ∷ [])) ∷ ‵ ((MutSlice (named 0) (ν-deques ∷ []) u32).own_val (at_list b-deques o-deques δ-deques deques) (slice_val (b-deques, o-deques) n-deques ∷ [])) ∷ ‵ ((MutSlice (named 0) (ν-frames ∷ []) R-Frame).own_val (at_list b-frames o-frames δ-frames frames) (slice_val (b-frames, o-frames) n-frames ∷ [])) ∷ ‵ ((MutSlice (named 0) (ν-pool ∷ []) u32).own_val (at_list b-pool o-pool δ-pool pool) (slice_val (b-pool, o-pool) n-pool ∷ [])) ∷ [])) (Asked.pre (to-step-g κ-image q-image γ-image ν-numbers δ-numbers ν-deques δ-deques ν-frames δ-frames ν-pool δ-pool b-image o-image n-image image b-numbers o-numbers n-numbers numbers b-deques o-deques n-deques deques b-frames o-frames n-frames frames b-pool o-pool n-pool pool))
+  goes-step-g κ-image q-image γ-image ν-numbers δ-numbers ν-deques δ-deques ν-frames δ-frames ν-pool δ-pool b-image o-image n-image image b-numbers o-numbers n-numbers numbers b-deques o-deques n-deques deques b-frames o-frames n-frames frames b-pool o-pool n-pool pool ok' = qed 𝓛 (‵ (flft κ-image q-image) ∷ ‵ (flft (ν-numbers ∷ []) full_share) ∷ ‵ (flft (ν-deques ∷ []) full_share) ∷ ‵ (flft (ν-frames ∷ []) full_share) ∷ ‵ (flft (ν-pool ∷ []) full_share) ∷ ‵ ((ShrSlice (named 0) κ-image u8).own_val (at_list b-image o-image γ-image image) (slice_val (b-image, o-image) n-image ∷ [])) ∷ ‵ ((MutSlice (named 0) (ν-numbers ∷ []) u32).own_val (at_list b-numbers o-numbers δ-numbers numbers) (slice_val (b-numbers, o-numbers) n-numbers ∷ [])) ∷ ‵ ((MutSlice (named 0) (ν-deques ∷ []) u32).own_val (at_list b-deques o-deques δ-deques deques) (slice_val (b-deques, o-deques) n-deques ∷ [])) ∷ ‵ ((MutSlice (named 0) (ν-frames ∷ []) R-Frame).own_val (at_list b-frames o-frames δ-frames frames) (slice_val (b-frames, o-frames) n-frames ∷ [])) ∷ ‵ ((MutSlice (named 0) (ν-pool ∷ []) u32).own_val (at_list b-pool o-pool δ-pool pool) (slice_val (b-pool, o-pool) n-pool ∷ [])) ∷ []) ∵ says ! ok' $ nothing ! $ move ! (1 ∷ 2 ∷ 3 ∷ 4 ∷ 5 ∷ 0 ∷ []) $ group ! 6 $ frame ! $
       nothing ! $ move ! (5 ∷ 0 ∷ []) $ fjoin ! $ move ! (4 ∷ 0 ∷ []) $ fjoin ! $ move ! (3 ∷ 0 ∷ []) $ fjoin ! $ move ! (2 ∷ 0 ∷ []) $ fjoin ! $ move ! (1 ∷ 0 ∷ []) $ fjoin ! $ done !
 
 module _ {M : Type 1} {𝓤 : Ura M} {𝓛 : Logic 𝓤} {K : Type 0} (mem : Memory → SProp 𝓤) (run : Routine → Fun 𝓤)
     {Γ : List (Item 𝓤)} {E : Env 𝓤 𝓛.H} {C : Calls 𝓤 𝓛.H} {Λ : Loops 𝓤 𝓛.H} {post' : Post 𝓤 𝓛.H} {dest' : Place} {name' : Name} {opds' : List Operand} {rest' : Body} where
   open 𝓛 use {H}
 
-  pub step-g : K → FmC 𝓤 H 𝓛.laws C → Triple 𝓤 (C name') (Asked 𝓛 mem run) → {κ-image : Lft} {q-image : Share} {γ-image : GName} {κ-numbers : Lft} {q-numbers : Share} {γ-numbers : GName} {κ-deques : Lft} {q-deques : Share} {γ-deques : GName} {κ-frames : Lft} {q-frames : Share} {γ-frames : GName} {κ-pool : Lft} {q-pool : Share} {γ-pool : GName} → (b-image o-image n-image : ℕ) (image : List ℕ) (b-numbers o-numbers n-numbers : ℕ) (numbers : List ℕ) (b-deques o-deques n-deques : ℕ) (deques : List ℕ) (b-frames o-frames n-frames : ℕ) (frames : List Frame) (b-pool o-pool n-pool : ℕ) (pool : List ℕ) → (imageCheck two_words image ≡ Good) × (length numbers ≡ numberCount) × Lengths (numberWordsIn two_words image) deques frames × (nodeWords * nodesIn image ≤ length pool) → length numbers ≡ n-numbers → Room u32 n-numbers → length deques ≡ n-deques → Room u32 n-deques → length frames ≡ n-frames → Room R-Frame n-frames → length pool ≡ n-pool → Room u32 n-pool →
-      ((ν-numbers : ℕ) (δ-numbers : GName) (ν-deques : ℕ) (δ-deques : GName) (ν-frames : ℕ) (δ-frames : GName) (ν-pool : ℕ) (δ-pool : GName) → Opds K 𝓛 (raw ((Asked 𝓛 mem run).pre (to-step-g 𝓛 mem run κ-image q-image γ-image ν-numbers δ-numbers ν-deques δ-deques ν-frames δ-frames ν-pool δ-pool b-image o-image n-image image b-numbers o-numbers n-numbers numbers b-deques o-deques n-deques deques b-frames o-frames n-frames frames b-pool o-pool n-pool pool)) ∷ ‵ (Lent u32 κ-pool (ν-pool ∷ []) q-pool γ-pool b-pool o-pool δ-pool pool) ∷ ‵ (Lent R-Frame κ-frames (ν-frames ∷ []) q-frames γ-frames b-frames o-frames δ-frames frames) ∷ ‵ (Lent u32 κ-deques (ν-deques ∷ []) q-deques γ-deques b-deques o-deques δ-deques deques) ∷ ‵ (Lent u32 κ-numbers (ν-numbers ∷ []) q-numbers γ-numbers b-numbers o-numbers δ-numbers numbers) ∷ ‵ ((ShrSlice (named 0) κ-image u8).own_val (at-list b-image o-image γ-image image) (slice_val (b-image, o-image) n-image ∷ [])) ∷ Γ) E opds' (slice_val (b-image, o-image) n-image ∷ slice_val (b-numbers, o-numbers) n-numbers ∷ slice_val (b-deques, o-deques) n-deques ∷ slice_val (b-frames, o-frames) n-frames ∷ slice_val (b-pool, o-pool) n-pool ∷ [])) →
+  pub step-g : K → FmC 𝓤 H 𝓛.laws C → Triple 𝓤 (C name') (Asked 𝓛 mem run) → {κ-image : Lft} {q-image : Share} {γ-image : GName} {κ-numbers : Lft} {q-numbers : Share} {γ-numbers : GName} {κ-deques : Lft} {q-deques : Share} {γ-deques : GName} {κ-frames : Lft} {q-frames : Share} {γ-frames : GName} {κ-pool : Lft} {q-pool : Share} {γ-pool : GName} → (b-image o-image n-image : ℕ) (image : List ℕ) (b-numbers o-numbers n-numbers : ℕ) (numbers : List ℕ) (b-deques o-deques n-deques : ℕ) (deques : List ℕ) (b-frames o-frames n-frames : ℕ) (frames : List Frame) (b-pool o-pool n-pool : ℕ) (pool : List ℕ) → (image_check two_words image ≡ Good) × (length numbers ≡ number_count) × Lengths (number_words_in two_words image) deques frames × (node_words * nodes_in image ≤ length pool) → length numbers ≡ n-numbers → Room u32 n-numbers → length deques ≡ n-deques → Room u32 n-deques → length frames ≡ n-frames → Room R-Frame n-frames → length pool ≡ n-pool → Room u32 n-pool →
+      ((ν-numbers : ℕ) (δ-numbers : GName) (ν-deques : ℕ) (δ-deques : GName) (ν-frames : ℕ) (δ-frames : GName) (ν-pool : ℕ) (δ-pool : GName) → Opds K 𝓛 (raw ((Asked 𝓛 mem run).pre (to-step-g 𝓛 mem run κ-image q-image γ-image ν-numbers δ-numbers ν-deques δ-deques ν-frames δ-frames ν-pool δ-pool b-image o-image n-image image b-numbers o-numbers n-numbers numbers b-deques o-deques n-deques deques b-frames o-frames n-frames frames b-pool o-pool n-pool pool)) ∷ ‵ (Lent u32 κ-pool (ν-pool ∷ []) q-pool γ-pool b-pool o-pool δ-pool pool) ∷ ‵ (Lent R-Frame κ-frames (ν-frames ∷ []) q-frames γ-frames b-frames o-frames δ-frames frames) ∷ ‵ (Lent u32 κ-deques (ν-deques ∷ []) q-deques γ-deques b-deques o-deques δ-deques deques) ∷ ‵ (Lent u32 κ-numbers (ν-numbers ∷ []) q-numbers γ-numbers b-numbers o-numbers δ-numbers numbers) ∷ ‵ ((ShrSlice (named 0) κ-image u8).own_val (at_list b-image o-image γ-image image) (slice_val (b-image, o-image) n-image ∷ [])) ∷ Γ) E opds' (slice_val (b-image, o-image) n-image ∷ slice_val (b-numbers, o-numbers) n-numbers ∷ slice_val (b-deques, o-deques) n-deques ∷ slice_val (b-frames, o-frames) n-frames ∷ slice_val (b-pool, o-pool) n-pool ∷ [])) →
       ((zs-numbers : List ℕ) (zs-deques : List ℕ) (zs-frames : List Frame) (zs-pool : List ℕ) → IsRead two_words image zs-numbers zs-deques zs-frames pool zs-pool → length zs-numbers ≡ length numbers → length zs-deques ≡ length deques → length zs-frames ≡ length frames → length zs-pool ≡ length pool → Seq K 𝓛 (‵ (Yours u8 κ-image q-image γ-image b-image o-image n-image image) ∷ ‵ (Mine u32 κ-numbers q-numbers γ-numbers b-numbers o-numbers n-numbers zs-numbers) ∷ ‵ (Mine u32 κ-deques q-deques γ-deques b-deques o-deques n-deques zs-deques) ∷ ‵ (Mine R-Frame κ-frames q-frames γ-frames b-frames o-frames n-frames zs-frames) ∷ ‵ (Mine u32 κ-pool q-pool γ-pool b-pool o-pool n-pool zs-pool) ∷ Γ) (lands C Λ E dest' (vunit) rest' post')) →
       Seq K 𝓛 (‵ (Yours u8 κ-image q-image γ-image b-image o-image n-image image) ∷ ‵ (Mine u32 κ-numbers q-numbers γ-numbers b-numbers o-numbers n-numbers numbers) ∷ ‵ (Mine u32 κ-deques q-deques γ-deques b-deques o-deques n-deques deques) ∷ ‵ (Mine R-Frame κ-frames q-frames γ-frames b-frames o-frames n-frames frames) ∷ ‵ (Mine u32 κ-pool q-pool γ-pool b-pool o-pool n-pool pool) ∷ Γ) (runs C Λ E (seq (call name' opds' dest') rest') post')
   step-g t' fm' known' {κ-image} {q-image} {γ-image} {κ-numbers} {q-numbers} {γ-numbers} {κ-deques} {q-deques} {γ-deques} {κ-frames} {q-frames} {γ-frames} {κ-pool} {q-pool} {γ-pool} b-image o-image n-image image b-numbers o-numbers n-numbers numbers b-deques o-deques n-deques deques b-frames o-frames n-frames frames b-pool o-pool n-pool pool ok' len-numbers room-numbers len-deques room-deques len-frames room-frames len-pool room-pool os' k' =
       give t' u8 b-image o-image n-image image $ move t' (3 ∷ []) $ lend t' tt u32 b-numbers o-numbers n-numbers numbers len-numbers (λ ν-numbers δ-numbers. move t' (6 ∷ []) $ lend t' tt u32 b-deques o-deques n-deques deques len-deques (λ ν-deques δ-deques. move t' (9 ∷ []) $ lend t' tt R-Frame b-frames o-frames n-frames frames len-frames (λ ν-frames δ-frames. move t' (12 ∷ []) $ lend t' tt u32 b-pool o-pool n-pool pool len-pool (λ ν-pool δ-pool.
       move t' (12 ∷ 9 ∷ 6 ∷ 3 ∷ 0 ∷ 13 ∷ 10 ∷ 7 ∷ 4 ∷ 1 ∷ []) $ group t' 10 $ use1 𝓛 (raw ((Asked 𝓛 mem run).pre (to-step-g 𝓛 mem run κ-image q-image γ-image ν-numbers δ-numbers ν-deques δ-deques ν-frames δ-frames ν-pool δ-pool b-image o-image n-image image b-numbers o-numbers n-numbers numbers b-deques o-deques n-deques deques b-frames o-frames n-frames frames b-pool o-pool n-pool pool))) (goes-step-g 𝓛 mem run κ-image q-image γ-image ν-numbers δ-numbers ν-deques δ-deques ν-frames δ-frames ν-pool δ-pool b-image o-image n-image image b-numbers o-numbers n-numbers numbers b-deques o-deques n-deques deques b-frames o-frames n-frames frames b-pool o-pool n-pool pool ok') $
       calls_at t' fm' (Asked 𝓛 mem run) known' (to-step-g 𝓛 mem run κ-image q-image γ-image ν-numbers δ-numbers ν-deques δ-deques ν-frames δ-frames ν-pool δ-pool b-image o-image n-image image b-numbers o-numbers n-numbers numbers b-deques o-deques n-deques deques b-frames o-frames n-frames frames b-pool o-pool n-pool pool) (os' ν-numbers δ-numbers ν-deques δ-deques ν-frames δ-frames ν-pool δ-pool) (λ w'.
-      use1 𝓛 (later (some (λ (res' : Unit {0}). ((‵ (flft κ-image q-image) ⊛ (‵ (flft (ν-numbers ∷ []) full_share) ⊛ (‵ (flft (ν-deques ∷ []) full_share) ⊛ (‵ (flft (ν-frames ∷ []) full_share) ⊛ (‵ (flft (ν-pool ∷ []) full_share) ⊛ ‵ ftrue))))) ⊛ ‵ (unit.own_val res' (w' ∷ []))) ⊛ raw (ensured 𝓛 callee'.ended (callee'.clauses 𝓛 mem run) (κ-image, ((ν-numbers ∷ []), ((ν-deques ∷ []), ((ν-frames ∷ []), ((ν-pool ∷ []), tt))))) (at-list b-image o-image γ-image image, (at-list b-numbers o-numbers δ-numbers numbers, (at-list b-deques o-deques δ-deques deques, (at-list b-frames o-frames δ-frames frames, (at-list b-pool o-pool δ-pool pool, tt))))) tt res')))) (id⊢ 𝓤 _) $ await t' tt $ pick t' (λ res'. split t' $ move t' (1 ∷ []) $
-      use1 𝓛 (some (λ (zs' : Unit {0} × (List ℕ × (List ℕ × (List Frame × (List ℕ × Unit {0}))))). ‵ (lasts callee'.ended (κ-image, ((ν-numbers ∷ []), ((ν-deques ∷ []), ((ν-frames ∷ []), ((ν-pool ∷ []), tt))))) (at-list b-image o-image γ-image image, (at-list b-numbers o-numbers δ-numbers numbers, (at-list b-deques o-deques δ-deques deques, (at-list b-frames o-frames δ-frames frames, (at-list b-pool o-pool δ-pool pool, tt))))) zs') ⊛ raw (fact 𝓤 (IsRead two_words image zs'.1.0 zs'.1.1.0 zs'.1.1.1.0 pool zs'.1.1.1.1.0)))) (id⊢ 𝓤 _) $ pick t' (λ zs'. split t' $ move t' (1 ∷ []) $ heard t' (IsRead two_words image zs'.1.0 zs'.1.1.0 zs'.1.1.1.0 pool zs'.1.1.1.1.0) (λ e'.
+      use1 𝓛 (later (some (λ (res' : Unit {0}). ((‵ (flft κ-image q-image) ⊛ (‵ (flft (ν-numbers ∷ []) full_share) ⊛ (‵ (flft (ν-deques ∷ []) full_share) ⊛ (‵ (flft (ν-frames ∷ []) full_share) ⊛ (‵ (flft (ν-pool ∷ []) full_share) ⊛ ‵ ftrue))))) ⊛ ‵ (unit.own_val res' (w' ∷ []))) ⊛ raw (ensured 𝓛 callee'.ended (callee'.clauses 𝓛 mem run) (κ-image, ((ν-numbers ∷ []), ((ν-deques ∷ []), ((ν-frames ∷ []), ((ν-pool ∷ []), tt))))) (at_list b-image o-image γ-image image, (at_list b-numbers o-numbers δ-numbers numbers, (at_list b-deques o-deques δ-deques deques, (at_list b-frames o-frames δ-frames frames, (at_list b-pool o-pool δ-pool pool, tt))))) tt res')))) (id⊢ 𝓤 _) $ await t' tt $ pick t' (λ res'. split t' $ move t' (1 ∷ []) $
+      use1 𝓛 (some (λ (zs' : Unit {0} × (List ℕ × (List ℕ × (List Frame × (List ℕ × Unit {0}))))). ‵ (lasts callee'.ended (κ-image, ((ν-numbers ∷ []), ((ν-deques ∷ []), ((ν-frames ∷ []), ((ν-pool ∷ []), tt))))) (at_list b-image o-image γ-image image, (at_list b-numbers o-numbers δ-numbers numbers, (at_list b-deques o-deques δ-deques deques, (at_list b-frames o-frames δ-frames frames, (at_list b-pool o-pool δ-pool pool, tt))))) zs') ⊛ raw (fact 𝓤 (IsRead two_words image zs'.1.0 zs'.1.1.0 zs'.1.1.1.0 pool zs'.1.1.1.1.0)))) (id⊢ 𝓤 _) $ pick t' (λ zs'. split t' $ move t' (1 ∷ []) $ heard t' (IsRead two_words image zs'.1.0 zs'.1.1.0 zs'.1.1.1.0 pool zs'.1.1.1.1.0) (λ e'.
       fsplit t' $ drop t' $ fsplit t' $ fsplit t' $ move t' (1 ∷ []) $ feq_l t' (λ same_numbers. move t' (1 ∷ []) $ fsplit t' $ fsplit t' $ move t' (1 ∷ []) $ feq_l t' (λ same-deques. move t' (1 ∷ []) $ fsplit t' $ fsplit t' $ move t' (1 ∷ []) $ feq_l t' (λ same-frames. move t' (1 ∷ []) $ fsplit t' $ fsplit t' $ move t' (1 ∷ []) $ feq_l t' (λ same-pool. move t' (1 ∷ []) $ drop t' $
       move t' (4 ∷ []) $ split t' $ move t' (1 ∷ []) $ peeks t' unit (Is unit) (shows 𝓛 unit) res' (w' ∷ []) (λ is'. drop t' $ split t' $ move t' (1 ∷ []) $ split t' $ move t' (1 ∷ []) $ split t' $ move t' (1 ∷ []) $ split t' $ move t' (1 ∷ []) $ split t' $ move t' (1 ∷ []) $ drop t' $
       move t' (0 ∷ 9 ∷ 5 ∷ []) $ home t' tt u32 b-pool o-pool n-pool pool zs'.1.1.1.1.0 len-pool room-pool same-pool $ move t' (1 ∷ 8 ∷ 5 ∷ []) $ home t' tt R-Frame b-frames o-frames n-frames frames zs'.1.1.1.0 len-frames room-frames same-frames $ move t' (2 ∷ 7 ∷ 5 ∷ []) $ home t' tt u32 b-deques o-deques n-deques deques zs'.1.1.0 len-deques room-deques same-deques $ move t' (3 ∷ 6 ∷ 5 ∷ []) $ home t' tt u32 b-numbers o-numbers n-numbers numbers zs'.1.0 len-numbers room-numbers same_numbers $ move t' (5 ∷ 4 ∷ []) $ fjoin t' $

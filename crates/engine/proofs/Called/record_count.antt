@@ -28,7 +28,7 @@ use denote.Triple.Statement.{Contract, Triple}
 use denote.Triple.Call.{calls_at, calls_at_last}
 use denote.Triple.Clauses.{ensured, lasts}
 use denote.Triple.Walked.{says}
-use Rattle.frames.proofs.Lent.{at-list, Mine, Yours, Lent, Shown, lend, home, show, back, give}
+use Rattle.frames.proofs.Lent.{at_list, Mine, Yours, Lent, Shown, lend, home, show, back, give}
 use Rattle.engine.specs.contracts.records.record_count as callee'
 
 module _ {M : Type 1} {𝓤 : Ura M} (𝓛 : Logic 𝓤) (mem : Memory → SProp 𝓤) (run : Routine → Fun 𝓤) where
@@ -36,10 +36,10 @@ module _ {M : Type 1} {𝓤 : Ura M} (𝓛 : Logic 𝓤) (mem : Memory → SProp
   Asked = triple_of 𝓛 callee'.signature (callee'.spec 𝓛 mem run)
 
   abbrev pub to-step-g : (κ-tape : Lft) (q-tape : Share) (γ-tape : GName) (b-tape o-tape n-tape : ℕ) (tape : List ℕ) → Asked.Ghost
-  to-step-g κ-tape q-tape γ-tape b-tape o-tape n-tape tape = (((κ-tape, tt), (q-tape, tt), tt, (at-list b-tape o-tape γ-tape tape, tt), (slice_val (b-tape, o-tape) n-tape ∷ [], tt)), tt)
+  to-step-g κ-tape q-tape γ-tape b-tape o-tape n-tape tape = (((κ-tape, tt), (q-tape, tt), tt, (at_list b-tape o-tape γ-tape tape, tt), (slice_val (b-tape, o-tape) n-tape ∷ [], tt)), tt)
 
-  pub goes-step-g : (κ-tape : Lft) (q-tape : Share) (γ-tape : GName) (b-tape o-tape n-tape : ℕ) (tape : List ℕ) → ent 𝓤 (⋆ 𝓛 (‵ (flft κ-tape q-tape) ∷ ‵ ((ShrSlice (named 0) κ-tape u8).own_val (at-list b-tape o-tape γ-tape tape) (slice_val (b-tape, o-tape) n-tape ∷ [])) ∷ [])) (Asked.pre (to-step-g κ-tape q-tape γ-tape b-tape o-tape n-tape tape))
-  goes-step-g κ-tape q-tape γ-tape b-tape o-tape n-tape tape = qed 𝓛 (‵ (flft κ-tape q-tape) ∷ ‵ ((ShrSlice (named 0) κ-tape u8).own_val (at-list b-tape o-tape γ-tape tape) (slice_val (b-tape, o-tape) n-tape ∷ [])) ∷ []) ∵ nothing ! $ move ! (1 ∷ 0 ∷ []) $ group ! 2 $ move ! (1 ∷ 0 ∷ []) $
+  pub goes-step-g : (κ-tape : Lft) (q-tape : Share) (γ-tape : GName) (b-tape o-tape n-tape : ℕ) (tape : List ℕ) → ent 𝓤 (⋆ 𝓛 (‵ (flft κ-tape q-tape) ∷ ‵ ((ShrSlice (named 0) κ-tape u8).own_val (at_list b-tape o-tape γ-tape tape) (slice_val (b-tape, o-tape) n-tape ∷ [])) ∷ [])) (Asked.pre (to-step-g κ-tape q-tape γ-tape b-tape o-tape n-tape tape))
+  goes-step-g κ-tape q-tape γ-tape b-tape o-tape n-tape tape = qed 𝓛 (‵ (flft κ-tape q-tape) ∷ ‵ ((ShrSlice (named 0) κ-tape u8).own_val (at_list b-tape o-tape γ-tape tape) (slice_val (b-tape, o-tape) n-tape ∷ [])) ∷ []) ∵ nothing ! $ move ! (1 ∷ 0 ∷ []) $ group ! 2 $ move ! (1 ∷ 0 ∷ []) $
       nothing ! $ move ! (1 ∷ 0 ∷ []) $ fjoin ! $ move ! (1 ∷ 0 ∷ []) $ join ! $ frame ! $ done !
 
 module _ {M : Type 1} {𝓤 : Ura M} {𝓛 : Logic 𝓤} {K : Type 0} (mem : Memory → SProp 𝓤) (run : Routine → Fun 𝓤)
@@ -47,15 +47,15 @@ module _ {M : Type 1} {𝓤 : Ura M} {𝓛 : Logic 𝓤} {K : Type 0} (mem : Mem
   open 𝓛 use {H}
 
   pub step-g : K → FmC 𝓤 H 𝓛.laws C → Triple 𝓤 (C name') (Asked 𝓛 mem run) → {κ-tape : Lft} {q-tape : Share} {γ-tape : GName} → (b-tape o-tape n-tape : ℕ) (tape : List ℕ) →
-      (Opds K 𝓛 (raw ((Asked 𝓛 mem run).pre (to-step-g 𝓛 mem run κ-tape q-tape γ-tape b-tape o-tape n-tape tape)) ∷ ‵ ((ShrSlice (named 0) κ-tape u8).own_val (at-list b-tape o-tape γ-tape tape) (slice_val (b-tape, o-tape) n-tape ∷ [])) ∷ Γ) E opds' (slice_val (b-tape, o-tape) n-tape ∷ [])) →
+      (Opds K 𝓛 (raw ((Asked 𝓛 mem run).pre (to-step-g 𝓛 mem run κ-tape q-tape γ-tape b-tape o-tape n-tape tape)) ∷ ‵ ((ShrSlice (named 0) κ-tape u8).own_val (at_list b-tape o-tape γ-tape tape) (slice_val (b-tape, o-tape) n-tape ∷ [])) ∷ Γ) E opds' (slice_val (b-tape, o-tape) n-tape ∷ [])) →
       ((res' : ℕ) → res' < 2 ^ 64 → res' ≡ length tape / 8 → Seq K 𝓛 (‵ (Yours u8 κ-tape q-tape γ-tape b-tape o-tape n-tape tape) ∷ Γ) (lands C Λ E dest' (vint w64 res') rest' post')) →
       Seq K 𝓛 (‵ (Yours u8 κ-tape q-tape γ-tape b-tape o-tape n-tape tape) ∷ Γ) (runs C Λ E (seq (call name' opds' dest') rest') post')
   step-g t' fm' known' {κ-tape} {q-tape} {γ-tape} b-tape o-tape n-tape tape os' k' =
       give t' u8 b-tape o-tape n-tape tape $
       move t' (0 ∷ 1 ∷ []) $ group t' 2 $ use1 𝓛 (raw ((Asked 𝓛 mem run).pre (to-step-g 𝓛 mem run κ-tape q-tape γ-tape b-tape o-tape n-tape tape))) (goes-step-g 𝓛 mem run κ-tape q-tape γ-tape b-tape o-tape n-tape tape) $
       calls_at t' fm' (Asked 𝓛 mem run) known' (to-step-g 𝓛 mem run κ-tape q-tape γ-tape b-tape o-tape n-tape tape) (os') (λ w'.
-      use1 𝓛 (later (some (λ (res' : ℕ). ((‵ (flft κ-tape q-tape) ⊛ ‵ ftrue) ⊛ ‵ (usize.own_val res' (w' ∷ []))) ⊛ raw (ensured 𝓛 callee'.ended (callee'.clauses 𝓛 mem run) (κ-tape, tt) (at-list b-tape o-tape γ-tape tape, tt) tt res')))) (id⊢ 𝓤 _) $ await t' tt $ pick t' (λ res'. split t' $ move t' (1 ∷ []) $
-      use1 𝓛 (some (λ (zs' : Unit {0} × Unit {0}). ‵ (lasts callee'.ended (κ-tape, tt) (at-list b-tape o-tape γ-tape tape, tt) zs') ⊛ raw (fact 𝓤 (res' ≡ length tape / 8)))) (id⊢ 𝓤 _) $ pick t' (λ zs'. split t' $ move t' (1 ∷ []) $ heard t' (res' ≡ length tape / 8) (λ e'.
+      use1 𝓛 (later (some (λ (res' : ℕ). ((‵ (flft κ-tape q-tape) ⊛ ‵ ftrue) ⊛ ‵ (usize.own_val res' (w' ∷ []))) ⊛ raw (ensured 𝓛 callee'.ended (callee'.clauses 𝓛 mem run) (κ-tape, tt) (at_list b-tape o-tape γ-tape tape, tt) tt res')))) (id⊢ 𝓤 _) $ await t' tt $ pick t' (λ res'. split t' $ move t' (1 ∷ []) $
+      use1 𝓛 (some (λ (zs' : Unit {0} × Unit {0}). ‵ (lasts callee'.ended (κ-tape, tt) (at_list b-tape o-tape γ-tape tape, tt) zs') ⊛ raw (fact 𝓤 (res' ≡ length tape / 8)))) (id⊢ 𝓤 _) $ pick t' (λ zs'. split t' $ move t' (1 ∷ []) $ heard t' (res' ≡ length tape / 8) (λ e'.
       fsplit t' $ drop t' $ drop t' $
       move t' (0 ∷ []) $ split t' $ move t' (1 ∷ []) $ peeks t' usize (Is usize) (shows 𝓛 usize) res' (w' ∷ []) (λ is'. drop t' $ split t' $ move t' (1 ∷ []) $ drop t' $
       move t' (1 ∷ 0 ∷ []) $ fjoin t' $

@@ -28,11 +28,11 @@ use denote.Triple.Statement.{Contract, Triple}
 use denote.Triple.Call.{calls_at, calls_at_last}
 use denote.Triple.Clauses.{ensured, lasts}
 use denote.Triple.Walked.{says}
-use Rattle.semantics.specs.Answers.{refusalNumber}
+use Rattle.semantics.specs.Answers.{refusal_number}
 use Rattle.semantics.specs.contracts.Refusal as M-Refusal
 use Rattle.semantics.proofs.Refusal.TheLaws as L-Refusal
 use Rattle.semantics.specs.declared.Refusal.{Refusal}
-use Rattle.frames.proofs.Lent.{at-list, Mine, Yours, Lent, Shown, lend, home, show, back, give}
+use Rattle.frames.proofs.Lent.{at_list, Mine, Yours, Lent, Shown, lend, home, show, back, give}
 use Rattle.engine.specs.contracts.answers.refusal_number as callee'
 
 abbrev R-Refusal : RattleType
@@ -58,13 +58,13 @@ module _ {M : Type 1} {𝓤 : Ura M} {𝓛 : Logic 𝓤} {K : Type 0} (mem : Mem
 
   pub step : K → FmC 𝓤 H 𝓛.laws C → Triple 𝓤 (C name') (Asked 𝓛 mem run) → (refusal : Refusal) → (refusal-good : Is R-Refusal refusal (val-Refusal refusal ∷ [])) →
       (Opds K 𝓛 (raw ((Asked 𝓛 mem run).pre (to_step 𝓛 mem run refusal)) ∷ Γ) E opds' (val-Refusal refusal ∷ [])) →
-      ((res' : ℕ) → res' < 2 ^ 32 → res' ≡ refusalNumber refusal → Seq K 𝓛 (Γ) (lands C Λ E dest' (vint w32 res') rest' post')) →
+      ((res' : ℕ) → res' < 2 ^ 32 → res' ≡ refusal_number refusal → Seq K 𝓛 (Γ) (lands C Λ E dest' (vint w32 res') rest' post')) →
       Seq K 𝓛 (Γ) (runs C Λ E (seq (call name' opds' dest') rest') post')
   step t' fm' known' refusal refusal-good os' k' =
       nothing t' $ use1 𝓛 (raw ((Asked 𝓛 mem run).pre (to_step 𝓛 mem run refusal))) (goes_step 𝓛 mem run refusal refusal-good) $
       calls_at t' fm' (Asked 𝓛 mem run) known' (to_step 𝓛 mem run refusal) (os') (λ w'.
       use1 𝓛 (later (some (λ (res' : ℕ). (‵ ftrue ⊛ ‵ (u32.own_val res' (w' ∷ []))) ⊛ raw (ensured 𝓛 callee'.ended (callee'.clauses 𝓛 mem run) tt (refusal, tt) tt res')))) (id⊢ 𝓤 _) $ await t' tt $ pick t' (λ res'. split t' $ move t' (1 ∷ []) $
-      use1 𝓛 (some (λ (zs' : Unit {0} × Unit {0}). ‵ (lasts callee'.ended tt (refusal, tt) zs') ⊛ raw (fact 𝓤 (res' ≡ refusalNumber refusal)))) (id⊢ 𝓤 _) $ pick t' (λ zs'. split t' $ move t' (1 ∷ []) $ heard t' (res' ≡ refusalNumber refusal) (λ e'.
+      use1 𝓛 (some (λ (zs' : Unit {0} × Unit {0}). ‵ (lasts callee'.ended tt (refusal, tt) zs') ⊛ raw (fact 𝓤 (res' ≡ refusal_number refusal)))) (id⊢ 𝓤 _) $ pick t' (λ zs'. split t' $ move t' (1 ∷ []) $ heard t' (res' ≡ refusal_number refusal) (λ e'.
       fsplit t' $ drop t' $ drop t' $
       move t' (0 ∷ []) $ split t' $ move t' (1 ∷ []) $ peeks t' u32 (Is u32) (shows 𝓛 u32) res' (w' ∷ []) (λ is'. drop t' $ drop t' $
       subst (λ (v' : Val). Seq K 𝓛 (Γ) (lands C Λ E dest' v' rest' post')) (sym (ap only (uint_Tells w32 res' _ is'))) (k' res' is'.1 e'))))))

@@ -28,12 +28,12 @@ use denote.Triple.Statement.{Contract, Triple}
 use denote.Triple.Call.{calls_at, calls_at_last}
 use denote.Triple.Clauses.{ensured, lasts}
 use denote.Triple.Walked.{says}
-use Rattle.semantics.specs.Images.{recordsZero, nodesZero}
+use Rattle.semantics.specs.Images.{records_zero, nodes_zero}
 use Rattle.soundness.specs.Layout.{two_words}
 use Rattle.frames.specs.contracts.Frame as M-Frame
 use Rattle.frames.proofs.Frame.TheLaws as L-Frame
 use Rattle.frames.specs.declared.Frame.{Frame}
-use Rattle.frames.proofs.Lent.{at-list, Mine, Yours, Lent, Shown, lend, home, show, back, give}
+use Rattle.frames.proofs.Lent.{at_list, Mine, Yours, Lent, Shown, lend, home, show, back, give}
 use Rattle.engine.specs.contracts.images.refuse_read as callee'
 
 abbrev R-Frame : RattleType
@@ -47,10 +47,10 @@ module _ {M : Type 1} {𝓤 : Ura M} (𝓛 : Logic 𝓤) (mem : Memory → SProp
   Asked = triple_of 𝓛 callee'.signature (callee'.spec 𝓛 mem run)
 
   abbrev pub to_step : (ν-frames : ℕ) (δ-frames : GName) (ν-pool : ℕ) (δ-pool : GName) (b-frames o-frames n-frames : ℕ) (frames : List Frame) (b-pool o-pool n-pool : ℕ) (pool : List ℕ) → Asked.Ghost
-  to_step ν-frames δ-frames ν-pool δ-pool b-frames o-frames n-frames frames b-pool o-pool n-pool pool = ((((ν-frames ∷ []), ((ν-pool ∷ []), tt)), (full_share, (full_share, tt)), tt, (at-list b-frames o-frames δ-frames frames, (at-list b-pool o-pool δ-pool pool, tt)), (slice_val (b-frames, o-frames) n-frames ∷ [], (slice_val (b-pool, o-pool) n-pool ∷ [], tt))), tt)
+  to_step ν-frames δ-frames ν-pool δ-pool b-frames o-frames n-frames frames b-pool o-pool n-pool pool = ((((ν-frames ∷ []), ((ν-pool ∷ []), tt)), (full_share, (full_share, tt)), tt, (at_list b-frames o-frames δ-frames frames, (at_list b-pool o-pool δ-pool pool, tt)), (slice_val (b-frames, o-frames) n-frames ∷ [], (slice_val (b-pool, o-pool) n-pool ∷ [], tt))), tt)
 
-  pub goes_step : (ν-frames : ℕ) (δ-frames : GName) (ν-pool : ℕ) (δ-pool : GName) (b-frames o-frames n-frames : ℕ) (frames : List Frame) (b-pool o-pool n-pool : ℕ) (pool : List ℕ) → ent 𝓤 (⋆ 𝓛 (‵ (flft (ν-frames ∷ []) full_share) ∷ ‵ (flft (ν-pool ∷ []) full_share) ∷ ‵ ((MutSlice (named 0) (ν-frames ∷ []) R-Frame).own_val (at-list b-frames o-frames δ-frames frames) (slice_val (b-frames, o-frames) n-frames ∷ [])) ∷ ‵ ((MutSlice (named 0) (ν-pool ∷ []) u32).own_val (at-list b-pool o-pool δ-pool pool) (slice_val (b-pool, o-pool) n-pool ∷ [])) ∷ [])) (Asked.pre (to_step ν-frames δ-frames ν-pool δ-pool b-frames o-frames n-frames frames b-pool o-pool n-pool pool))
-  goes_step ν-frames δ-frames ν-pool δ-pool b-frames o-frames n-frames frames b-pool o-pool n-pool pool = qed 𝓛 (‵ (flft (ν-frames ∷ []) full_share) ∷ ‵ (flft (ν-pool ∷ []) full_share) ∷ ‵ ((MutSlice (named 0) (ν-frames ∷ []) R-Frame).own_val (at-list b-frames o-frames δ-frames frames) (slice_val (b-frames, o-frames) n-frames ∷ [])) ∷ ‵ ((MutSlice (named 0) (ν-pool ∷ []) u32).own_val (at-list b-pool o-pool δ-pool pool) (slice_val (b-pool, o-pool) n-pool ∷ [])) ∷ []) ∵ nothing ! $ move ! (1 ∷ 2 ∷ 0 ∷ []) $ group ! 3 $ move ! (1 ∷ 2 ∷ 0 ∷ []) $
+  pub goes_step : (ν-frames : ℕ) (δ-frames : GName) (ν-pool : ℕ) (δ-pool : GName) (b-frames o-frames n-frames : ℕ) (frames : List Frame) (b-pool o-pool n-pool : ℕ) (pool : List ℕ) → ent 𝓤 (⋆ 𝓛 (‵ (flft (ν-frames ∷ []) full_share) ∷ ‵ (flft (ν-pool ∷ []) full_share) ∷ ‵ ((MutSlice (named 0) (ν-frames ∷ []) R-Frame).own_val (at_list b-frames o-frames δ-frames frames) (slice_val (b-frames, o-frames) n-frames ∷ [])) ∷ ‵ ((MutSlice (named 0) (ν-pool ∷ []) u32).own_val (at_list b-pool o-pool δ-pool pool) (slice_val (b-pool, o-pool) n-pool ∷ [])) ∷ [])) (Asked.pre (to_step ν-frames δ-frames ν-pool δ-pool b-frames o-frames n-frames frames b-pool o-pool n-pool pool))
+  goes_step ν-frames δ-frames ν-pool δ-pool b-frames o-frames n-frames frames b-pool o-pool n-pool pool = qed 𝓛 (‵ (flft (ν-frames ∷ []) full_share) ∷ ‵ (flft (ν-pool ∷ []) full_share) ∷ ‵ ((MutSlice (named 0) (ν-frames ∷ []) R-Frame).own_val (at_list b-frames o-frames δ-frames frames) (slice_val (b-frames, o-frames) n-frames ∷ [])) ∷ ‵ ((MutSlice (named 0) (ν-pool ∷ []) u32).own_val (at_list b-pool o-pool δ-pool pool) (slice_val (b-pool, o-pool) n-pool ∷ [])) ∷ []) ∵ nothing ! $ move ! (1 ∷ 2 ∷ 0 ∷ []) $ group ! 3 $ move ! (1 ∷ 2 ∷ 0 ∷ []) $
       nothing ! $ move ! (2 ∷ 0 ∷ []) $ fjoin ! $ move ! (1 ∷ 0 ∷ []) $ fjoin ! $ move ! (1 ∷ 0 ∷ []) $ join ! $ frame ! $ done !
 
 module _ {M : Type 1} {𝓤 : Ura M} {𝓛 : Logic 𝓤} {K : Type 0} (mem : Memory → SProp 𝓤) (run : Routine → Fun 𝓤)
@@ -59,14 +59,14 @@ module _ {M : Type 1} {𝓤 : Ura M} {𝓛 : Logic 𝓤} {K : Type 0} (mem : Mem
 
   pub step : K → FmC 𝓤 H 𝓛.laws C → Triple 𝓤 (C name') (Asked 𝓛 mem run) → {κ-frames : Lft} {q-frames : Share} {γ-frames : GName} {κ-pool : Lft} {q-pool : Share} {γ-pool : GName} → (b-frames o-frames n-frames : ℕ) (frames : List Frame) (b-pool o-pool n-pool : ℕ) (pool : List ℕ) → length frames ≡ n-frames → Room R-Frame n-frames → length pool ≡ n-pool → Room u32 n-pool →
       ((ν-frames : ℕ) (δ-frames : GName) (ν-pool : ℕ) (δ-pool : GName) → Opds K 𝓛 (raw ((Asked 𝓛 mem run).pre (to_step 𝓛 mem run ν-frames δ-frames ν-pool δ-pool b-frames o-frames n-frames frames b-pool o-pool n-pool pool)) ∷ ‵ (Lent u32 κ-pool (ν-pool ∷ []) q-pool γ-pool b-pool o-pool δ-pool pool) ∷ ‵ (Lent R-Frame κ-frames (ν-frames ∷ []) q-frames γ-frames b-frames o-frames δ-frames frames) ∷ Γ) E opds' (slice_val (b-frames, o-frames) n-frames ∷ slice_val (b-pool, o-pool) n-pool ∷ [])) →
-      ((res' : ℕ) (zs-frames : List Frame) (zs-pool : List ℕ) → res' < 2 ^ 32 → (res' ≡ 6) × (zs-frames ≡ recordsZero frames) × (zs-pool ≡ nodesZero two_words pool) → length zs-frames ≡ length frames → length zs-pool ≡ length pool → Seq K 𝓛 (‵ (Mine R-Frame κ-frames q-frames γ-frames b-frames o-frames n-frames zs-frames) ∷ ‵ (Mine u32 κ-pool q-pool γ-pool b-pool o-pool n-pool zs-pool) ∷ Γ) (lands C Λ E dest' (vint w32 res') rest' post')) →
+      ((res' : ℕ) (zs-frames : List Frame) (zs-pool : List ℕ) → res' < 2 ^ 32 → (res' ≡ 6) × (zs-frames ≡ records_zero frames) × (zs-pool ≡ nodes_zero two_words pool) → length zs-frames ≡ length frames → length zs-pool ≡ length pool → Seq K 𝓛 (‵ (Mine R-Frame κ-frames q-frames γ-frames b-frames o-frames n-frames zs-frames) ∷ ‵ (Mine u32 κ-pool q-pool γ-pool b-pool o-pool n-pool zs-pool) ∷ Γ) (lands C Λ E dest' (vint w32 res') rest' post')) →
       Seq K 𝓛 (‵ (Mine R-Frame κ-frames q-frames γ-frames b-frames o-frames n-frames frames) ∷ ‵ (Mine u32 κ-pool q-pool γ-pool b-pool o-pool n-pool pool) ∷ Γ) (runs C Λ E (seq (call name' opds' dest') rest') post')
   step t' fm' known' {κ-frames} {q-frames} {γ-frames} {κ-pool} {q-pool} {γ-pool} b-frames o-frames n-frames frames b-pool o-pool n-pool pool len-frames room-frames len-pool room-pool os' k' =
       lend t' tt R-Frame b-frames o-frames n-frames frames len-frames (λ ν-frames δ-frames. move t' (3 ∷ []) $ lend t' tt u32 b-pool o-pool n-pool pool len-pool (λ ν-pool δ-pool.
       move t' (3 ∷ 0 ∷ 4 ∷ 1 ∷ []) $ group t' 4 $ use1 𝓛 (raw ((Asked 𝓛 mem run).pre (to_step 𝓛 mem run ν-frames δ-frames ν-pool δ-pool b-frames o-frames n-frames frames b-pool o-pool n-pool pool))) (goes_step 𝓛 mem run ν-frames δ-frames ν-pool δ-pool b-frames o-frames n-frames frames b-pool o-pool n-pool pool) $
       calls_at t' fm' (Asked 𝓛 mem run) known' (to_step 𝓛 mem run ν-frames δ-frames ν-pool δ-pool b-frames o-frames n-frames frames b-pool o-pool n-pool pool) (os' ν-frames δ-frames ν-pool δ-pool) (λ w'.
-      use1 𝓛 (later (some (λ (res' : ℕ). ((‵ (flft (ν-frames ∷ []) full_share) ⊛ (‵ (flft (ν-pool ∷ []) full_share) ⊛ ‵ ftrue)) ⊛ ‵ (u32.own_val res' (w' ∷ []))) ⊛ raw (ensured 𝓛 callee'.ended (callee'.clauses 𝓛 mem run) ((ν-frames ∷ []), ((ν-pool ∷ []), tt)) (at-list b-frames o-frames δ-frames frames, (at-list b-pool o-pool δ-pool pool, tt)) tt res')))) (id⊢ 𝓤 _) $ await t' tt $ pick t' (λ res'. split t' $ move t' (1 ∷ []) $
-      use1 𝓛 (some (λ (zs' : List Frame × (List ℕ × Unit {0})). ‵ (lasts callee'.ended ((ν-frames ∷ []), ((ν-pool ∷ []), tt)) (at-list b-frames o-frames δ-frames frames, (at-list b-pool o-pool δ-pool pool, tt)) zs') ⊛ raw (fact 𝓤 ((res' ≡ 6) × (zs'.0 ≡ recordsZero frames) × (zs'.1.0 ≡ nodesZero two_words pool))))) (id⊢ 𝓤 _) $ pick t' (λ zs'. split t' $ move t' (1 ∷ []) $ heard t' ((res' ≡ 6) × (zs'.0 ≡ recordsZero frames) × (zs'.1.0 ≡ nodesZero two_words pool)) (λ e'.
+      use1 𝓛 (later (some (λ (res' : ℕ). ((‵ (flft (ν-frames ∷ []) full_share) ⊛ (‵ (flft (ν-pool ∷ []) full_share) ⊛ ‵ ftrue)) ⊛ ‵ (u32.own_val res' (w' ∷ []))) ⊛ raw (ensured 𝓛 callee'.ended (callee'.clauses 𝓛 mem run) ((ν-frames ∷ []), ((ν-pool ∷ []), tt)) (at_list b-frames o-frames δ-frames frames, (at_list b-pool o-pool δ-pool pool, tt)) tt res')))) (id⊢ 𝓤 _) $ await t' tt $ pick t' (λ res'. split t' $ move t' (1 ∷ []) $
+      use1 𝓛 (some (λ (zs' : List Frame × (List ℕ × Unit {0})). ‵ (lasts callee'.ended ((ν-frames ∷ []), ((ν-pool ∷ []), tt)) (at_list b-frames o-frames δ-frames frames, (at_list b-pool o-pool δ-pool pool, tt)) zs') ⊛ raw (fact 𝓤 ((res' ≡ 6) × (zs'.0 ≡ records_zero frames) × (zs'.1.0 ≡ nodes_zero two_words pool))))) (id⊢ 𝓤 _) $ pick t' (λ zs'. split t' $ move t' (1 ∷ []) $ heard t' ((res' ≡ 6) × (zs'.0 ≡ records_zero frames) × (zs'.1.0 ≡ nodes_zero two_words pool)) (λ e'.
       fsplit t' $ fsplit t' $ move t' (1 ∷ []) $ feq_l t' (λ same-frames. move t' (1 ∷ []) $ fsplit t' $ fsplit t' $ move t' (1 ∷ []) $ feq_l t' (λ same-pool. move t' (1 ∷ []) $ drop t' $
       move t' (2 ∷ []) $ split t' $ move t' (1 ∷ []) $ peeks t' u32 (Is u32) (shows 𝓛 u32) res' (w' ∷ []) (λ is'. drop t' $ split t' $ move t' (1 ∷ []) $ split t' $ move t' (1 ∷ []) $ drop t' $
       move t' (0 ∷ 4 ∷ 2 ∷ []) $ home t' tt u32 b-pool o-pool n-pool pool zs'.1.0 len-pool room-pool same-pool $ move t' (1 ∷ 3 ∷ 2 ∷ []) $ home t' tt R-Frame b-frames o-frames n-frames frames zs'.0 len-frames room-frames same-frames $

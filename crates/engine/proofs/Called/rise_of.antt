@@ -28,16 +28,16 @@ use denote.Triple.Statement.{Contract, Triple}
 use denote.Triple.Call.{calls_at, calls_at_last}
 use denote.Triple.Clauses.{ensured, lasts}
 use denote.Triple.Walked.{says}
-use Rattle.frames.specs.Frames.{frameAt}
+use Rattle.frames.specs.Frames.{frame_at}
 use Rattle.semantics.specs.Timing.{latest, rise}
-use Rattle.timing.specs.Turns.{kindAt}
+use Rattle.timing.specs.Turns.{kind_at}
 use Rattle.frames.specs.contracts.Frame as M-Frame
 use Rattle.frames.proofs.Frame.TheLaws as L-Frame
 use Rattle.frames.specs.declared.Frame.{Frame}
 use Rattle.semantics.specs.contracts.Rise as M-Rise
 use Rattle.semantics.proofs.Rise.TheLaws as L-Rise
 use Rattle.semantics.specs.declared.Rise.{Rise}
-use Rattle.frames.proofs.Lent.{at-list, Mine, Yours, Lent, Shown, lend, home, show, back, give}
+use Rattle.frames.proofs.Lent.{at_list, Mine, Yours, Lent, Shown, lend, home, show, back, give}
 use Rattle.timing.specs.contracts.rise_of as callee'
 
 abbrev R-Frame : RattleType
@@ -57,10 +57,10 @@ module _ {M : Type 1} {𝓤 : Ura M} (𝓛 : Logic 𝓤) (mem : Memory → SProp
   Asked = triple_of 𝓛 callee'.signature (callee'.spec 𝓛 mem run)
 
   abbrev pub to-step-ssg : (ν-clocks : ℕ) (δ-clocks : GName) (ν-frames : ℕ) (δ-frames : GName) (κ-tape : Lft) (q-tape : Share) (γ-tape : GName) (b-clocks o-clocks n-clocks : ℕ) (clocks : List ℕ) (b-frames o-frames n-frames : ℕ) (frames : List Frame) (b-tape o-tape n-tape : ℕ) (tape : List ℕ) (i : ℕ) (p : ℕ) → Asked.Ghost
-  to-step-ssg ν-clocks δ-clocks ν-frames δ-frames κ-tape q-tape γ-tape b-clocks o-clocks n-clocks clocks b-frames o-frames n-frames frames b-tape o-tape n-tape tape i p = ((((ν-clocks ∷ []), ((ν-frames ∷ []), (κ-tape, tt))), (full_share, (full_share, (q-tape, tt))), tt, (at-list b-clocks o-clocks δ-clocks clocks, (at-list b-frames o-frames δ-frames frames, (at-list b-tape o-tape γ-tape tape, (i, (p, tt))))), (slice_val (b-clocks, o-clocks) n-clocks ∷ [], (slice_val (b-frames, o-frames) n-frames ∷ [], (slice_val (b-tape, o-tape) n-tape ∷ [], (vint w64 i ∷ [], (vint w32 p ∷ [], tt)))))), tt)
+  to-step-ssg ν-clocks δ-clocks ν-frames δ-frames κ-tape q-tape γ-tape b-clocks o-clocks n-clocks clocks b-frames o-frames n-frames frames b-tape o-tape n-tape tape i p = ((((ν-clocks ∷ []), ((ν-frames ∷ []), (κ-tape, tt))), (full_share, (full_share, (q-tape, tt))), tt, (at_list b-clocks o-clocks δ-clocks clocks, (at_list b-frames o-frames δ-frames frames, (at_list b-tape o-tape γ-tape tape, (i, (p, tt))))), (slice_val (b-clocks, o-clocks) n-clocks ∷ [], (slice_val (b-frames, o-frames) n-frames ∷ [], (slice_val (b-tape, o-tape) n-tape ∷ [], (vint w64 i ∷ [], (vint w32 p ∷ [], tt)))))), tt)
 
-  pub goes-step-ssg : (ν-clocks : ℕ) (δ-clocks : GName) (ν-frames : ℕ) (δ-frames : GName) (κ-tape : Lft) (q-tape : Share) (γ-tape : GName) (b-clocks o-clocks n-clocks : ℕ) (clocks : List ℕ) (b-frames o-frames n-frames : ℕ) (frames : List Frame) (b-tape o-tape n-tape : ℕ) (tape : List ℕ) (i : ℕ) (p : ℕ) → (i-good : i < 2 ^ 64) (p-good : p < 2 ^ 32) (ok' : 8 * i + 8 ≤ length tape) → ent 𝓤 (⋆ 𝓛 (‵ (flft (ν-clocks ∷ []) full_share) ∷ ‵ (flft (ν-frames ∷ []) full_share) ∷ ‵ (flft κ-tape q-tape) ∷ ‵ ((ShrSlice (named 0) (ν-clocks ∷ []) u64).own_val (at-list b-clocks o-clocks δ-clocks clocks) (slice_val (b-clocks, o-clocks) n-clocks ∷ [])) ∷ ‵ ((ShrSlice (named 0) (ν-frames ∷ []) R-Frame).own_val (at-list b-frames o-frames δ-frames frames) (slice_val (b-frames, o-frames) n-frames ∷ [])) ∷ ‵ ((ShrSlice (named 0) κ-tape u8).own_val (at-list b-tape o-tape γ-tape tape) (slice_val (b-tape, o-tape) n-tape ∷ [])) ∷ [])) (Asked.pre (to-step-ssg ν-clocks δ-clocks ν-frames δ-frames κ-tape q-tape γ-tape b-clocks o-clocks n-clocks clocks b-frames o-frames n-frames frames b-tape o-tape n-tape tape i p))
-  goes-step-ssg ν-clocks δ-clocks ν-frames δ-frames κ-tape q-tape γ-tape b-clocks o-clocks n-clocks clocks b-frames o-frames n-frames frames b-tape o-tape n-tape tape i p i-good p-good ok' = qed 𝓛 (‵ (flft (ν-clocks ∷ []) full_share) ∷ ‵ (flft (ν-frames ∷ []) full_share) ∷ ‵ (flft κ-tape q-tape) ∷ ‵ ((ShrSlice (named 0) (ν-clocks ∷ []) u64).own_val (at-list b-clocks o-clocks δ-clocks clocks) (slice_val (b-clocks, o-clocks) n-clocks ∷ [])) ∷ ‵ ((ShrSlice (named 0) (ν-frames ∷ []) R-Frame).own_val (at-list b-frames o-frames δ-frames frames) (slice_val (b-frames, o-frames) n-frames ∷ [])) ∷ ‵ ((ShrSlice (named 0) κ-tape u8).own_val (at-list b-tape o-tape γ-tape tape) (slice_val (b-tape, o-tape) n-tape ∷ [])) ∷ []) ∵ says ! ok' $ nothing ! $ move ! (1 ∷ 2 ∷ 3 ∷ 0 ∷ []) $ group ! 4 $ frame ! $
+  pub goes-step-ssg : (ν-clocks : ℕ) (δ-clocks : GName) (ν-frames : ℕ) (δ-frames : GName) (κ-tape : Lft) (q-tape : Share) (γ-tape : GName) (b-clocks o-clocks n-clocks : ℕ) (clocks : List ℕ) (b-frames o-frames n-frames : ℕ) (frames : List Frame) (b-tape o-tape n-tape : ℕ) (tape : List ℕ) (i : ℕ) (p : ℕ) → (i-good : i < 2 ^ 64) (p-good : p < 2 ^ 32) (ok' : 8 * i + 8 ≤ length tape) → ent 𝓤 (⋆ 𝓛 (‵ (flft (ν-clocks ∷ []) full_share) ∷ ‵ (flft (ν-frames ∷ []) full_share) ∷ ‵ (flft κ-tape q-tape) ∷ ‵ ((ShrSlice (named 0) (ν-clocks ∷ []) u64).own_val (at_list b-clocks o-clocks δ-clocks clocks) (slice_val (b-clocks, o-clocks) n-clocks ∷ [])) ∷ ‵ ((ShrSlice (named 0) (ν-frames ∷ []) R-Frame).own_val (at_list b-frames o-frames δ-frames frames) (slice_val (b-frames, o-frames) n-frames ∷ [])) ∷ ‵ ((ShrSlice (named 0) κ-tape u8).own_val (at_list b-tape o-tape γ-tape tape) (slice_val (b-tape, o-tape) n-tape ∷ [])) ∷ [])) (Asked.pre (to-step-ssg ν-clocks δ-clocks ν-frames δ-frames κ-tape q-tape γ-tape b-clocks o-clocks n-clocks clocks b-frames o-frames n-frames frames b-tape o-tape n-tape tape i p))
+  goes-step-ssg ν-clocks δ-clocks ν-frames δ-frames κ-tape q-tape γ-tape b-clocks o-clocks n-clocks clocks b-frames o-frames n-frames frames b-tape o-tape n-tape tape i p i-good p-good ok' = qed 𝓛 (‵ (flft (ν-clocks ∷ []) full_share) ∷ ‵ (flft (ν-frames ∷ []) full_share) ∷ ‵ (flft κ-tape q-tape) ∷ ‵ ((ShrSlice (named 0) (ν-clocks ∷ []) u64).own_val (at_list b-clocks o-clocks δ-clocks clocks) (slice_val (b-clocks, o-clocks) n-clocks ∷ [])) ∷ ‵ ((ShrSlice (named 0) (ν-frames ∷ []) R-Frame).own_val (at_list b-frames o-frames δ-frames frames) (slice_val (b-frames, o-frames) n-frames ∷ [])) ∷ ‵ ((ShrSlice (named 0) κ-tape u8).own_val (at_list b-tape o-tape γ-tape tape) (slice_val (b-tape, o-tape) n-tape ∷ [])) ∷ []) ∵ says ! ok' $ nothing ! $ move ! (1 ∷ 2 ∷ 3 ∷ 0 ∷ []) $ group ! 4 $ frame ! $
       nothing ! $ owned ! u32 (Is u32) (uint_Makes 𝓛 w32) p _ (refl, p-good) $ fjoin ! $ owned ! usize (Is usize) (uint_Makes 𝓛 w64) i _ (refl, i-good) $ fjoin ! $ move ! (3 ∷ 0 ∷ []) $ fjoin ! $ move ! (2 ∷ 0 ∷ []) $ fjoin ! $ move ! (1 ∷ 0 ∷ []) $ fjoin ! $ done !
 
 module _ {M : Type 1} {𝓤 : Ura M} {𝓛 : Logic 𝓤} {K : Type 0} (mem : Memory → SProp 𝓤) (run : Routine → Fun 𝓤)
@@ -68,15 +68,15 @@ module _ {M : Type 1} {𝓤 : Ura M} {𝓛 : Logic 𝓤} {K : Type 0} (mem : Mem
   open 𝓛 use {H}
 
   pub step-ssg : K → FmC 𝓤 H 𝓛.laws C → Triple 𝓤 (C name') (Asked 𝓛 mem run) → {κ-clocks : Lft} {q-clocks : Share} {γ-clocks : GName} {κ-frames : Lft} {q-frames : Share} {γ-frames : GName} {κ-tape : Lft} {q-tape : Share} {γ-tape : GName} → (b-clocks o-clocks n-clocks : ℕ) (clocks : List ℕ) (b-frames o-frames n-frames : ℕ) (frames : List Frame) (b-tape o-tape n-tape : ℕ) (tape : List ℕ) (i : ℕ) (p : ℕ) → (i-good : i < 2 ^ 64) → (p-good : p < 2 ^ 32) → 8 * i + 8 ≤ length tape → length clocks ≡ n-clocks → Room u64 n-clocks → length frames ≡ n-frames → Room R-Frame n-frames →
-      ((ν-clocks : ℕ) (δ-clocks : GName) (ν-frames : ℕ) (δ-frames : GName) → Opds K 𝓛 (raw ((Asked 𝓛 mem run).pre (to-step-ssg 𝓛 mem run ν-clocks δ-clocks ν-frames δ-frames κ-tape q-tape γ-tape b-clocks o-clocks n-clocks clocks b-frames o-frames n-frames frames b-tape o-tape n-tape tape i p)) ∷ ‵ ((ShrSlice (named 0) κ-tape u8).own_val (at-list b-tape o-tape γ-tape tape) (slice_val (b-tape, o-tape) n-tape ∷ [])) ∷ ‵ (Shown R-Frame κ-frames (ν-frames ∷ []) q-frames γ-frames b-frames o-frames frames) ∷ ‵ (Shown u64 κ-clocks (ν-clocks ∷ []) q-clocks γ-clocks b-clocks o-clocks clocks) ∷ Γ) E opds' (slice_val (b-clocks, o-clocks) n-clocks ∷ slice_val (b-frames, o-frames) n-frames ∷ slice_val (b-tape, o-tape) n-tape ∷ vint w64 i ∷ vint w32 p ∷ [])) →
-      ((res' : Rise) → Is R-Rise res' (val-Rise res' ∷ []) → (kindAt tape i ≡ 2 → res' ≡ rise (frameAt frames p).depth frames clocks p (latest clocks p)) → Seq K 𝓛 (‵ (Mine u64 κ-clocks q-clocks γ-clocks b-clocks o-clocks n-clocks clocks) ∷ ‵ (Mine R-Frame κ-frames q-frames γ-frames b-frames o-frames n-frames frames) ∷ ‵ (Yours u8 κ-tape q-tape γ-tape b-tape o-tape n-tape tape) ∷ Γ) (lands C Λ E dest' (val-Rise res') rest' post')) →
+      ((ν-clocks : ℕ) (δ-clocks : GName) (ν-frames : ℕ) (δ-frames : GName) → Opds K 𝓛 (raw ((Asked 𝓛 mem run).pre (to-step-ssg 𝓛 mem run ν-clocks δ-clocks ν-frames δ-frames κ-tape q-tape γ-tape b-clocks o-clocks n-clocks clocks b-frames o-frames n-frames frames b-tape o-tape n-tape tape i p)) ∷ ‵ ((ShrSlice (named 0) κ-tape u8).own_val (at_list b-tape o-tape γ-tape tape) (slice_val (b-tape, o-tape) n-tape ∷ [])) ∷ ‵ (Shown R-Frame κ-frames (ν-frames ∷ []) q-frames γ-frames b-frames o-frames frames) ∷ ‵ (Shown u64 κ-clocks (ν-clocks ∷ []) q-clocks γ-clocks b-clocks o-clocks clocks) ∷ Γ) E opds' (slice_val (b-clocks, o-clocks) n-clocks ∷ slice_val (b-frames, o-frames) n-frames ∷ slice_val (b-tape, o-tape) n-tape ∷ vint w64 i ∷ vint w32 p ∷ [])) →
+      ((res' : Rise) → Is R-Rise res' (val-Rise res' ∷ []) → (kind_at tape i ≡ 2 → res' ≡ rise (frame_at frames p).depth frames clocks p (latest clocks p)) → Seq K 𝓛 (‵ (Mine u64 κ-clocks q-clocks γ-clocks b-clocks o-clocks n-clocks clocks) ∷ ‵ (Mine R-Frame κ-frames q-frames γ-frames b-frames o-frames n-frames frames) ∷ ‵ (Yours u8 κ-tape q-tape γ-tape b-tape o-tape n-tape tape) ∷ Γ) (lands C Λ E dest' (val-Rise res') rest' post')) →
       Seq K 𝓛 (‵ (Mine u64 κ-clocks q-clocks γ-clocks b-clocks o-clocks n-clocks clocks) ∷ ‵ (Mine R-Frame κ-frames q-frames γ-frames b-frames o-frames n-frames frames) ∷ ‵ (Yours u8 κ-tape q-tape γ-tape b-tape o-tape n-tape tape) ∷ Γ) (runs C Λ E (seq (call name' opds' dest') rest') post')
   step-ssg t' fm' known' {κ-clocks} {q-clocks} {γ-clocks} {κ-frames} {q-frames} {γ-frames} {κ-tape} {q-tape} {γ-tape} b-clocks o-clocks n-clocks clocks b-frames o-frames n-frames frames b-tape o-tape n-tape tape i p i-good p-good ok' len-clocks room-clocks len-frames room-frames os' k' =
       show t' tt u64 b-clocks o-clocks n-clocks clocks len-clocks (λ ν-clocks δ-clocks. move t' (3 ∷ []) $ show t' tt R-Frame b-frames o-frames n-frames frames len-frames (λ ν-frames δ-frames. move t' (6 ∷ []) $ give t' u8 b-tape o-tape n-tape tape $
       move t' (6 ∷ 3 ∷ 0 ∷ 7 ∷ 4 ∷ 1 ∷ []) $ group t' 6 $ use1 𝓛 (raw ((Asked 𝓛 mem run).pre (to-step-ssg 𝓛 mem run ν-clocks δ-clocks ν-frames δ-frames κ-tape q-tape γ-tape b-clocks o-clocks n-clocks clocks b-frames o-frames n-frames frames b-tape o-tape n-tape tape i p))) (goes-step-ssg 𝓛 mem run ν-clocks δ-clocks ν-frames δ-frames κ-tape q-tape γ-tape b-clocks o-clocks n-clocks clocks b-frames o-frames n-frames frames b-tape o-tape n-tape tape i p i-good p-good ok') $
       calls_at t' fm' (Asked 𝓛 mem run) known' (to-step-ssg 𝓛 mem run ν-clocks δ-clocks ν-frames δ-frames κ-tape q-tape γ-tape b-clocks o-clocks n-clocks clocks b-frames o-frames n-frames frames b-tape o-tape n-tape tape i p) (os' ν-clocks δ-clocks ν-frames δ-frames) (λ w'.
-      use1 𝓛 (later (some (λ (res' : Rise). ((‵ (flft (ν-clocks ∷ []) full_share) ⊛ (‵ (flft (ν-frames ∷ []) full_share) ⊛ (‵ (flft κ-tape q-tape) ⊛ ‵ ftrue))) ⊛ ‵ (R-Rise.own res' (w' ∷ []))) ⊛ raw (ensured 𝓛 callee'.ended (callee'.clauses 𝓛 mem run) ((ν-clocks ∷ []), ((ν-frames ∷ []), (κ-tape, tt))) (at-list b-clocks o-clocks δ-clocks clocks, (at-list b-frames o-frames δ-frames frames, (at-list b-tape o-tape γ-tape tape, (i, (p, tt))))) tt res')))) (id⊢ 𝓤 _) $ await t' tt $ pick t' (λ res'. split t' $ move t' (1 ∷ []) $
-      use1 𝓛 (some (λ (zs' : Unit {0} × (Unit {0} × (Unit {0} × (Unit {0} × (Unit {0} × Unit {0}))))). ‵ (lasts callee'.ended ((ν-clocks ∷ []), ((ν-frames ∷ []), (κ-tape, tt))) (at-list b-clocks o-clocks δ-clocks clocks, (at-list b-frames o-frames δ-frames frames, (at-list b-tape o-tape γ-tape tape, (i, (p, tt))))) zs') ⊛ raw (fact 𝓤 ((kindAt tape i ≡ 2 → res' ≡ rise (frameAt frames p).depth frames clocks p (latest clocks p)))))) (id⊢ 𝓤 _) $ pick t' (λ zs'. split t' $ move t' (1 ∷ []) $ heard t' ((kindAt tape i ≡ 2 → res' ≡ rise (frameAt frames p).depth frames clocks p (latest clocks p))) (λ e'.
+      use1 𝓛 (later (some (λ (res' : Rise). ((‵ (flft (ν-clocks ∷ []) full_share) ⊛ (‵ (flft (ν-frames ∷ []) full_share) ⊛ (‵ (flft κ-tape q-tape) ⊛ ‵ ftrue))) ⊛ ‵ (R-Rise.own res' (w' ∷ []))) ⊛ raw (ensured 𝓛 callee'.ended (callee'.clauses 𝓛 mem run) ((ν-clocks ∷ []), ((ν-frames ∷ []), (κ-tape, tt))) (at_list b-clocks o-clocks δ-clocks clocks, (at_list b-frames o-frames δ-frames frames, (at_list b-tape o-tape γ-tape tape, (i, (p, tt))))) tt res')))) (id⊢ 𝓤 _) $ await t' tt $ pick t' (λ res'. split t' $ move t' (1 ∷ []) $
+      use1 𝓛 (some (λ (zs' : Unit {0} × (Unit {0} × (Unit {0} × (Unit {0} × (Unit {0} × Unit {0}))))). ‵ (lasts callee'.ended ((ν-clocks ∷ []), ((ν-frames ∷ []), (κ-tape, tt))) (at_list b-clocks o-clocks δ-clocks clocks, (at_list b-frames o-frames δ-frames frames, (at_list b-tape o-tape γ-tape tape, (i, (p, tt))))) zs') ⊛ raw (fact 𝓤 ((kind_at tape i ≡ 2 → res' ≡ rise (frame_at frames p).depth frames clocks p (latest clocks p)))))) (id⊢ 𝓤 _) $ pick t' (λ zs'. split t' $ move t' (1 ∷ []) $ heard t' ((kind_at tape i ≡ 2 → res' ≡ rise (frame_at frames p).depth frames clocks p (latest clocks p))) (λ e'.
       fsplit t' $ drop t' $ fsplit t' $ drop t' $ fsplit t' $ drop t' $ fsplit t' $ drop t' $ fsplit t' $ drop t' $ drop t' $
       move t' (0 ∷ []) $ split t' $ move t' (1 ∷ []) $ peeks t' R-Rise (Is R-Rise) (shows 𝓛 R-Rise) res' (w' ∷ []) (λ is'. drop t' $ split t' $ move t' (1 ∷ []) $ split t' $ move t' (1 ∷ []) $ split t' $ move t' (1 ∷ []) $ drop t' $
       move t' (3 ∷ 0 ∷ []) $ fjoin t' $ move t' (1 ∷ 3 ∷ []) $ back t' tt R-Frame b-frames o-frames n-frames frames len-frames room-frames $ move t' (2 ∷ 3 ∷ []) $ back t' tt u64 b-clocks o-clocks n-clocks clocks len-clocks room-clocks $

@@ -28,8 +28,8 @@ use denote.Triple.Statement.{Contract, Triple}
 use denote.Triple.Call.{calls_at, calls_at_last}
 use denote.Triple.Clauses.{ensured, lasts}
 use denote.Triple.Walked.{says}
-use Rattle.engine.specs.Promises.{refusalBy, startTests}
-use Rattle.frames.proofs.Lent.{at-list, Mine, Yours, Lent, Shown, lend, home, show, back, give}
+use Rattle.engine.specs.Promises.{refusal_by, start_tests}
+use Rattle.frames.proofs.Lent.{at_list, Mine, Yours, Lent, Shown, lend, home, show, back, give}
 use Rattle.engine.specs.contracts.begin.start_refusal as callee'
 
 module _ {M : Type 1} {𝓤 : Ura M} (𝓛 : Logic 𝓤) (mem : Memory → SProp 𝓤) (run : Routine → Fun 𝓤) where
@@ -49,13 +49,13 @@ module _ {M : Type 1} {𝓤 : Ura M} {𝓛 : Logic 𝓤} {K : Type 0} (mem : Mem
 
   pub step : K → FmC 𝓤 H 𝓛.laws C → Triple 𝓤 (C name') (Asked 𝓛 mem run) → (workers : ℕ) (n : ℕ) (places : ℕ) (nodes : ℕ) → (workers-good : workers < 2 ^ 32) → (n-good : n < 2 ^ 64) → (places-good : places < 2 ^ 64) → (nodes-good : nodes < 2 ^ 64) →
       (Opds K 𝓛 (raw ((Asked 𝓛 mem run).pre (to_step 𝓛 mem run workers n places nodes)) ∷ Γ) E opds' (vint w32 workers ∷ vint w64 n ∷ vint w64 places ∷ vint w64 nodes ∷ [])) →
-      ((res' : ℕ) → res' < 2 ^ 32 → res' ≡ refusalBy (startTests workers n places nodes) → Seq K 𝓛 (Γ) (lands C Λ E dest' (vint w32 res') rest' post')) →
+      ((res' : ℕ) → res' < 2 ^ 32 → res' ≡ refusal_by (start_tests workers n places nodes) → Seq K 𝓛 (Γ) (lands C Λ E dest' (vint w32 res') rest' post')) →
       Seq K 𝓛 (Γ) (runs C Λ E (seq (call name' opds' dest') rest') post')
   step t' fm' known' workers n places nodes workers-good n-good places-good nodes-good os' k' =
       nothing t' $ use1 𝓛 (raw ((Asked 𝓛 mem run).pre (to_step 𝓛 mem run workers n places nodes))) (goes_step 𝓛 mem run workers n places nodes workers-good n-good places-good nodes-good) $
       calls_at t' fm' (Asked 𝓛 mem run) known' (to_step 𝓛 mem run workers n places nodes) (os') (λ w'.
       use1 𝓛 (later (some (λ (res' : ℕ). (‵ ftrue ⊛ ‵ (u32.own_val res' (w' ∷ []))) ⊛ raw (ensured 𝓛 callee'.ended (callee'.clauses 𝓛 mem run) tt (workers, (n, (places, (nodes, tt)))) tt res')))) (id⊢ 𝓤 _) $ await t' tt $ pick t' (λ res'. split t' $ move t' (1 ∷ []) $
-      use1 𝓛 (some (λ (zs' : Unit {0} × (Unit {0} × (Unit {0} × (Unit {0} × Unit {0})))). ‵ (lasts callee'.ended tt (workers, (n, (places, (nodes, tt)))) zs') ⊛ raw (fact 𝓤 (res' ≡ refusalBy (startTests workers n places nodes))))) (id⊢ 𝓤 _) $ pick t' (λ zs'. split t' $ move t' (1 ∷ []) $ heard t' (res' ≡ refusalBy (startTests workers n places nodes)) (λ e'.
+      use1 𝓛 (some (λ (zs' : Unit {0} × (Unit {0} × (Unit {0} × (Unit {0} × Unit {0})))). ‵ (lasts callee'.ended tt (workers, (n, (places, (nodes, tt)))) zs') ⊛ raw (fact 𝓤 (res' ≡ refusal_by (start_tests workers n places nodes))))) (id⊢ 𝓤 _) $ pick t' (λ zs'. split t' $ move t' (1 ∷ []) $ heard t' (res' ≡ refusal_by (start_tests workers n places nodes)) (λ e'.
       fsplit t' $ drop t' $ fsplit t' $ drop t' $ fsplit t' $ drop t' $ fsplit t' $ drop t' $ drop t' $
       move t' (0 ∷ []) $ split t' $ move t' (1 ∷ []) $ peeks t' u32 (Is u32) (shows 𝓛 u32) res' (w' ∷ []) (λ is'. drop t' $ drop t' $
       subst (λ (v' : Val). Seq K 𝓛 (Γ) (lands C Λ E dest' v' rest' post')) (sym (ap only (uint_Tells w32 res' _ is'))) (k' res' is'.1 e'))))))

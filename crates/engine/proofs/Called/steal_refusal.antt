@@ -28,12 +28,12 @@ use denote.Triple.Statement.{Contract, Triple}
 use denote.Triple.Call.{calls_at, calls_at_last}
 use denote.Triple.Clauses.{ensured, lasts}
 use denote.Triple.Walked.{says}
-use Rattle.semantics.specs.Core.{stealTests}
-use Rattle.engine.specs.Promises.{core, refusalBy, SizesIn}
+use Rattle.semantics.specs.Core.{steal_tests}
+use Rattle.engine.specs.Promises.{core, refusal_by, SizesIn}
 use Rattle.semantics.specs.contracts.Head as M-Head
 use Rattle.semantics.proofs.Head.TheLaws as L-Head
 use Rattle.semantics.specs.declared.Head.{Head}
-use Rattle.frames.proofs.Lent.{at-list, Mine, Yours, Lent, Shown, lend, home, show, back, give}
+use Rattle.frames.proofs.Lent.{at_list, Mine, Yours, Lent, Shown, lend, home, show, back, give}
 use Rattle.engine.specs.contracts.refusals.steal_refusal as callee'
 
 abbrev R-Head : RattleType
@@ -47,10 +47,10 @@ module _ {M : Type 1} {𝓤 : Ura M} (𝓛 : Logic 𝓤) (mem : Memory → SProp
   Asked = triple_of 𝓛 callee'.signature (callee'.spec 𝓛 mem run)
 
   abbrev pub to-step-s : (ν-deques : ℕ) (δ-deques : GName) (b-deques o-deques n-deques : ℕ) (deques : List ℕ) (h : Head) (w : ℕ) (v : ℕ) → Asked.Ghost
-  to-step-s ν-deques δ-deques b-deques o-deques n-deques deques h w v = ((((ν-deques ∷ []), tt), (full_share, tt), tt, (h, (at-list b-deques o-deques δ-deques deques, (w, (v, tt)))), (val-Head h ∷ [], (slice_val (b-deques, o-deques) n-deques ∷ [], (vint w32 w ∷ [], (vint w32 v ∷ [], tt))))), tt)
+  to-step-s ν-deques δ-deques b-deques o-deques n-deques deques h w v = ((((ν-deques ∷ []), tt), (full_share, tt), tt, (h, (at_list b-deques o-deques δ-deques deques, (w, (v, tt)))), (val-Head h ∷ [], (slice_val (b-deques, o-deques) n-deques ∷ [], (vint w32 w ∷ [], (vint w32 v ∷ [], tt))))), tt)
 
-  pub goes-step-s : (ν-deques : ℕ) (δ-deques : GName) (b-deques o-deques n-deques : ℕ) (deques : List ℕ) (h : Head) (w : ℕ) (v : ℕ) → (h-good : Is R-Head h (val-Head h ∷ [])) (w-good : w < 2 ^ 32) (v-good : v < 2 ^ 32) (ok' : SizesIn h.numbers.workers deques) → ent 𝓤 (⋆ 𝓛 (‵ (flft (ν-deques ∷ []) full_share) ∷ ‵ ((ShrSlice (named 0) (ν-deques ∷ []) u32).own_val (at-list b-deques o-deques δ-deques deques) (slice_val (b-deques, o-deques) n-deques ∷ [])) ∷ [])) (Asked.pre (to-step-s ν-deques δ-deques b-deques o-deques n-deques deques h w v))
-  goes-step-s ν-deques δ-deques b-deques o-deques n-deques deques h w v h-good w-good v-good ok' = qed 𝓛 (‵ (flft (ν-deques ∷ []) full_share) ∷ ‵ ((ShrSlice (named 0) (ν-deques ∷ []) u32).own_val (at-list b-deques o-deques δ-deques deques) (slice_val (b-deques, o-deques) n-deques ∷ [])) ∷ []) ∵ says ! ok' $ nothing ! $ move ! (1 ∷ 0 ∷ []) $ group ! 2 $ frame ! $
+  pub goes-step-s : (ν-deques : ℕ) (δ-deques : GName) (b-deques o-deques n-deques : ℕ) (deques : List ℕ) (h : Head) (w : ℕ) (v : ℕ) → (h-good : Is R-Head h (val-Head h ∷ [])) (w-good : w < 2 ^ 32) (v-good : v < 2 ^ 32) (ok' : SizesIn h.numbers.workers deques) → ent 𝓤 (⋆ 𝓛 (‵ (flft (ν-deques ∷ []) full_share) ∷ ‵ ((ShrSlice (named 0) (ν-deques ∷ []) u32).own_val (at_list b-deques o-deques δ-deques deques) (slice_val (b-deques, o-deques) n-deques ∷ [])) ∷ [])) (Asked.pre (to-step-s ν-deques δ-deques b-deques o-deques n-deques deques h w v))
+  goes-step-s ν-deques δ-deques b-deques o-deques n-deques deques h w v h-good w-good v-good ok' = qed 𝓛 (‵ (flft (ν-deques ∷ []) full_share) ∷ ‵ ((ShrSlice (named 0) (ν-deques ∷ []) u32).own_val (at_list b-deques o-deques δ-deques deques) (slice_val (b-deques, o-deques) n-deques ∷ [])) ∷ []) ∵ says ! ok' $ nothing ! $ move ! (1 ∷ 0 ∷ []) $ group ! 2 $ frame ! $
       nothing ! $ owned ! u32 (Is u32) (uint_Makes 𝓛 w32) v _ (refl, v-good) $ fjoin ! $ owned ! u32 (Is u32) (uint_Makes 𝓛 w32) w _ (refl, w-good) $ fjoin ! $ move ! (1 ∷ 0 ∷ []) $ fjoin ! $ owned ! R-Head (Is R-Head) (LL.makes M-Head.the_type L-Head.the_plain 𝓛) h _ h-good $ fjoin ! $ done !
 
 module _ {M : Type 1} {𝓤 : Ura M} {𝓛 : Logic 𝓤} {K : Type 0} (mem : Memory → SProp 𝓤) (run : Routine → Fun 𝓤)
@@ -59,14 +59,14 @@ module _ {M : Type 1} {𝓤 : Ura M} {𝓛 : Logic 𝓤} {K : Type 0} (mem : Mem
 
   pub step-s : K → FmC 𝓤 H 𝓛.laws C → Triple 𝓤 (C name') (Asked 𝓛 mem run) → {κ-deques : Lft} {q-deques : Share} {γ-deques : GName} → (b-deques o-deques n-deques : ℕ) (deques : List ℕ) (h : Head) (w : ℕ) (v : ℕ) → (h-good : Is R-Head h (val-Head h ∷ [])) → (w-good : w < 2 ^ 32) → (v-good : v < 2 ^ 32) → SizesIn h.numbers.workers deques → length deques ≡ n-deques → Room u32 n-deques →
       ((ν-deques : ℕ) (δ-deques : GName) → Opds K 𝓛 (raw ((Asked 𝓛 mem run).pre (to-step-s 𝓛 mem run ν-deques δ-deques b-deques o-deques n-deques deques h w v)) ∷ ‵ (Shown u32 κ-deques (ν-deques ∷ []) q-deques γ-deques b-deques o-deques deques) ∷ Γ) E opds' (val-Head h ∷ slice_val (b-deques, o-deques) n-deques ∷ vint w32 w ∷ vint w32 v ∷ [])) →
-      ((res' : ℕ) → res' < 2 ^ 32 → res' ≡ refusalBy (stealTests (core h [] deques [] []) w v) → Seq K 𝓛 (‵ (Mine u32 κ-deques q-deques γ-deques b-deques o-deques n-deques deques) ∷ Γ) (lands C Λ E dest' (vint w32 res') rest' post')) →
+      ((res' : ℕ) → res' < 2 ^ 32 → res' ≡ refusal_by (steal_tests (core h [] deques [] []) w v) → Seq K 𝓛 (‵ (Mine u32 κ-deques q-deques γ-deques b-deques o-deques n-deques deques) ∷ Γ) (lands C Λ E dest' (vint w32 res') rest' post')) →
       Seq K 𝓛 (‵ (Mine u32 κ-deques q-deques γ-deques b-deques o-deques n-deques deques) ∷ Γ) (runs C Λ E (seq (call name' opds' dest') rest') post')
   step-s t' fm' known' {κ-deques} {q-deques} {γ-deques} b-deques o-deques n-deques deques h w v h-good w-good v-good ok' len-deques room-deques os' k' =
       show t' tt u32 b-deques o-deques n-deques deques len-deques (λ ν-deques δ-deques.
       move t' (0 ∷ 1 ∷ []) $ group t' 2 $ use1 𝓛 (raw ((Asked 𝓛 mem run).pre (to-step-s 𝓛 mem run ν-deques δ-deques b-deques o-deques n-deques deques h w v))) (goes-step-s 𝓛 mem run ν-deques δ-deques b-deques o-deques n-deques deques h w v h-good w-good v-good ok') $
       calls_at t' fm' (Asked 𝓛 mem run) known' (to-step-s 𝓛 mem run ν-deques δ-deques b-deques o-deques n-deques deques h w v) (os' ν-deques δ-deques) (λ w'.
-      use1 𝓛 (later (some (λ (res' : ℕ). ((‵ (flft (ν-deques ∷ []) full_share) ⊛ ‵ ftrue) ⊛ ‵ (u32.own_val res' (w' ∷ []))) ⊛ raw (ensured 𝓛 callee'.ended (callee'.clauses 𝓛 mem run) ((ν-deques ∷ []), tt) (h, (at-list b-deques o-deques δ-deques deques, (w, (v, tt)))) tt res')))) (id⊢ 𝓤 _) $ await t' tt $ pick t' (λ res'. split t' $ move t' (1 ∷ []) $
-      use1 𝓛 (some (λ (zs' : Unit {0} × (Unit {0} × (Unit {0} × (Unit {0} × Unit {0})))). ‵ (lasts callee'.ended ((ν-deques ∷ []), tt) (h, (at-list b-deques o-deques δ-deques deques, (w, (v, tt)))) zs') ⊛ raw (fact 𝓤 (res' ≡ refusalBy (stealTests (core h [] deques [] []) w v))))) (id⊢ 𝓤 _) $ pick t' (λ zs'. split t' $ move t' (1 ∷ []) $ heard t' (res' ≡ refusalBy (stealTests (core h [] deques [] []) w v)) (λ e'.
+      use1 𝓛 (later (some (λ (res' : ℕ). ((‵ (flft (ν-deques ∷ []) full_share) ⊛ ‵ ftrue) ⊛ ‵ (u32.own_val res' (w' ∷ []))) ⊛ raw (ensured 𝓛 callee'.ended (callee'.clauses 𝓛 mem run) ((ν-deques ∷ []), tt) (h, (at_list b-deques o-deques δ-deques deques, (w, (v, tt)))) tt res')))) (id⊢ 𝓤 _) $ await t' tt $ pick t' (λ res'. split t' $ move t' (1 ∷ []) $
+      use1 𝓛 (some (λ (zs' : Unit {0} × (Unit {0} × (Unit {0} × (Unit {0} × Unit {0})))). ‵ (lasts callee'.ended ((ν-deques ∷ []), tt) (h, (at_list b-deques o-deques δ-deques deques, (w, (v, tt)))) zs') ⊛ raw (fact 𝓤 (res' ≡ refusal_by (steal_tests (core h [] deques [] []) w v))))) (id⊢ 𝓤 _) $ pick t' (λ zs'. split t' $ move t' (1 ∷ []) $ heard t' (res' ≡ refusal_by (steal_tests (core h [] deques [] []) w v)) (λ e'.
       fsplit t' $ drop t' $ fsplit t' $ drop t' $ fsplit t' $ drop t' $ fsplit t' $ drop t' $ drop t' $
       move t' (0 ∷ []) $ split t' $ move t' (1 ∷ []) $ peeks t' u32 (Is u32) (shows 𝓛 u32) res' (w' ∷ []) (λ is'. drop t' $ split t' $ move t' (1 ∷ []) $ drop t' $
       move t' (0 ∷ 1 ∷ []) $ back t' tt u32 b-deques o-deques n-deques deques len-deques room-deques $

@@ -36,7 +36,7 @@ use Rattle.frames.specs.declared.Frame.{Frame}
 use Rattle.frames.specs.contracts.Synced as M-Synced
 use Rattle.frames.proofs.Synced.TheLaws as L-Synced
 use Rattle.frames.specs.declared.Synced.{Synced}
-use Rattle.frames.proofs.Lent.{at-list, Mine, Yours, Lent, Shown, lend, home, show, back, give}
+use Rattle.frames.proofs.Lent.{at_list, Mine, Yours, Lent, Shown, lend, home, show, back, give}
 use Rattle.frames.specs.contracts.sync_frame as callee'
 
 abbrev R-Frame : RattleType
@@ -56,10 +56,10 @@ module _ {M : Type 1} {𝓤 : Ura M} (𝓛 : Logic 𝓤) (mem : Memory → SProp
   Asked = triple_of 𝓛 callee'.signature (callee'.spec 𝓛 mem run)
 
   abbrev pub to_step : (ν-deques : ℕ) (δ-deques : GName) (ν-frames : ℕ) (δ-frames : GName) (b-deques o-deques n-deques : ℕ) (deques : List ℕ) (b-frames o-frames n-frames : ℕ) (frames : List Frame) (w : ℕ) (n : ℕ) (p : ℕ) (f : Frame) → Asked.Ghost
-  to_step ν-deques δ-deques ν-frames δ-frames b-deques o-deques n-deques deques b-frames o-frames n-frames frames w n p f = ((((ν-deques ∷ []), ((ν-frames ∷ []), tt)), (full_share, (full_share, tt)), tt, (at-list b-deques o-deques δ-deques deques, (at-list b-frames o-frames δ-frames frames, (w, (n, (p, (f, tt)))))), (slice_val (b-deques, o-deques) n-deques ∷ [], (slice_val (b-frames, o-frames) n-frames ∷ [], (vint w32 w ∷ [], (vint w32 n ∷ [], (vint w32 p ∷ [], (val-Frame f ∷ [], tt))))))), tt)
+  to_step ν-deques δ-deques ν-frames δ-frames b-deques o-deques n-deques deques b-frames o-frames n-frames frames w n p f = ((((ν-deques ∷ []), ((ν-frames ∷ []), tt)), (full_share, (full_share, tt)), tt, (at_list b-deques o-deques δ-deques deques, (at_list b-frames o-frames δ-frames frames, (w, (n, (p, (f, tt)))))), (slice_val (b-deques, o-deques) n-deques ∷ [], (slice_val (b-frames, o-frames) n-frames ∷ [], (vint w32 w ∷ [], (vint w32 n ∷ [], (vint w32 p ∷ [], (val-Frame f ∷ [], tt))))))), tt)
 
-  pub goes_step : (ν-deques : ℕ) (δ-deques : GName) (ν-frames : ℕ) (δ-frames : GName) (b-deques o-deques n-deques : ℕ) (deques : List ℕ) (b-frames o-frames n-frames : ℕ) (frames : List Frame) (w : ℕ) (n : ℕ) (p : ℕ) (f : Frame) → (w-good : w < 2 ^ 32) (n-good : n < 2 ^ 32) (p-good : p < 2 ^ 32) (f-good : Is R-Frame f (val-Frame f ∷ [])) (ok' : Acts deques frames w n p f) → ent 𝓤 (⋆ 𝓛 (‵ (flft (ν-deques ∷ []) full_share) ∷ ‵ (flft (ν-frames ∷ []) full_share) ∷ ‵ ((MutSlice (named 0) (ν-deques ∷ []) u32).own_val (at-list b-deques o-deques δ-deques deques) (slice_val (b-deques, o-deques) n-deques ∷ [])) ∷ ‵ ((MutSlice (named 0) (ν-frames ∷ []) R-Frame).own_val (at-list b-frames o-frames δ-frames frames) (slice_val (b-frames, o-frames) n-frames ∷ [])) ∷ [])) (Asked.pre (to_step ν-deques δ-deques ν-frames δ-frames b-deques o-deques n-deques deques b-frames o-frames n-frames frames w n p f))
-  goes_step ν-deques δ-deques ν-frames δ-frames b-deques o-deques n-deques deques b-frames o-frames n-frames frames w n p f w-good n-good p-good f-good ok' = qed 𝓛 (‵ (flft (ν-deques ∷ []) full_share) ∷ ‵ (flft (ν-frames ∷ []) full_share) ∷ ‵ ((MutSlice (named 0) (ν-deques ∷ []) u32).own_val (at-list b-deques o-deques δ-deques deques) (slice_val (b-deques, o-deques) n-deques ∷ [])) ∷ ‵ ((MutSlice (named 0) (ν-frames ∷ []) R-Frame).own_val (at-list b-frames o-frames δ-frames frames) (slice_val (b-frames, o-frames) n-frames ∷ [])) ∷ []) ∵ says ! ok' $ nothing ! $ move ! (1 ∷ 2 ∷ 0 ∷ []) $ group ! 3 $ frame ! $
+  pub goes_step : (ν-deques : ℕ) (δ-deques : GName) (ν-frames : ℕ) (δ-frames : GName) (b-deques o-deques n-deques : ℕ) (deques : List ℕ) (b-frames o-frames n-frames : ℕ) (frames : List Frame) (w : ℕ) (n : ℕ) (p : ℕ) (f : Frame) → (w-good : w < 2 ^ 32) (n-good : n < 2 ^ 32) (p-good : p < 2 ^ 32) (f-good : Is R-Frame f (val-Frame f ∷ [])) (ok' : Acts deques frames w n p f) → ent 𝓤 (⋆ 𝓛 (‵ (flft (ν-deques ∷ []) full_share) ∷ ‵ (flft (ν-frames ∷ []) full_share) ∷ ‵ ((MutSlice (named 0) (ν-deques ∷ []) u32).own_val (at_list b-deques o-deques δ-deques deques) (slice_val (b-deques, o-deques) n-deques ∷ [])) ∷ ‵ ((MutSlice (named 0) (ν-frames ∷ []) R-Frame).own_val (at_list b-frames o-frames δ-frames frames) (slice_val (b-frames, o-frames) n-frames ∷ [])) ∷ [])) (Asked.pre (to_step ν-deques δ-deques ν-frames δ-frames b-deques o-deques n-deques deques b-frames o-frames n-frames frames w n p f))
+  goes_step ν-deques δ-deques ν-frames δ-frames b-deques o-deques n-deques deques b-frames o-frames n-frames frames w n p f w-good n-good p-good f-good ok' = qed 𝓛 (‵ (flft (ν-deques ∷ []) full_share) ∷ ‵ (flft (ν-frames ∷ []) full_share) ∷ ‵ ((MutSlice (named 0) (ν-deques ∷ []) u32).own_val (at_list b-deques o-deques δ-deques deques) (slice_val (b-deques, o-deques) n-deques ∷ [])) ∷ ‵ ((MutSlice (named 0) (ν-frames ∷ []) R-Frame).own_val (at_list b-frames o-frames δ-frames frames) (slice_val (b-frames, o-frames) n-frames ∷ [])) ∷ []) ∵ says ! ok' $ nothing ! $ move ! (1 ∷ 2 ∷ 0 ∷ []) $ group ! 3 $ frame ! $
       nothing ! $ owned ! R-Frame (Is R-Frame) (LL.makes M-Frame.the_type L-Frame.the_plain 𝓛) f _ f-good $ fjoin ! $ owned ! u32 (Is u32) (uint_Makes 𝓛 w32) p _ (refl, p-good) $ fjoin ! $ owned ! u32 (Is u32) (uint_Makes 𝓛 w32) n _ (refl, n-good) $ fjoin ! $ owned ! u32 (Is u32) (uint_Makes 𝓛 w32) w _ (refl, w-good) $ fjoin ! $ move ! (2 ∷ 0 ∷ []) $ fjoin ! $ move ! (1 ∷ 0 ∷ []) $ fjoin ! $ done !
 
 module _ {M : Type 1} {𝓤 : Ura M} {𝓛 : Logic 𝓤} {K : Type 0} (mem : Memory → SProp 𝓤) (run : Routine → Fun 𝓤)
@@ -74,8 +74,8 @@ module _ {M : Type 1} {𝓤 : Ura M} {𝓛 : Logic 𝓤} {K : Type 0} (mem : Mem
       lend t' tt u32 b-deques o-deques n-deques deques len-deques (λ ν-deques δ-deques. move t' (3 ∷ []) $ lend t' tt R-Frame b-frames o-frames n-frames frames len-frames (λ ν-frames δ-frames.
       move t' (3 ∷ 0 ∷ 4 ∷ 1 ∷ []) $ group t' 4 $ use1 𝓛 (raw ((Asked 𝓛 mem run).pre (to_step 𝓛 mem run ν-deques δ-deques ν-frames δ-frames b-deques o-deques n-deques deques b-frames o-frames n-frames frames w n p f))) (goes_step 𝓛 mem run ν-deques δ-deques ν-frames δ-frames b-deques o-deques n-deques deques b-frames o-frames n-frames frames w n p f w-good n-good p-good f-good ok') $
       calls_at t' fm' (Asked 𝓛 mem run) known' (to_step 𝓛 mem run ν-deques δ-deques ν-frames δ-frames b-deques o-deques n-deques deques b-frames o-frames n-frames frames w n p f) (os' ν-deques δ-deques ν-frames δ-frames) (λ w'.
-      use1 𝓛 (later (some (λ (res' : Synced). ((‵ (flft (ν-deques ∷ []) full_share) ⊛ (‵ (flft (ν-frames ∷ []) full_share) ⊛ ‵ ftrue)) ⊛ ‵ (R-Synced.own res' (w' ∷ []))) ⊛ raw (ensured 𝓛 callee'.ended (callee'.clauses 𝓛 mem run) ((ν-deques ∷ []), ((ν-frames ∷ []), tt)) (at-list b-deques o-deques δ-deques deques, (at-list b-frames o-frames δ-frames frames, (w, (n, (p, (f, tt)))))) tt res')))) (id⊢ 𝓤 _) $ await t' tt $ pick t' (λ res'. split t' $ move t' (1 ∷ []) $
-      use1 𝓛 (some (λ (zs' : List ℕ × (List Frame × (Unit {0} × (Unit {0} × (Unit {0} × (Unit {0} × Unit {0})))))). ‵ (lasts callee'.ended ((ν-deques ∷ []), ((ν-frames ∷ []), tt)) (at-list b-deques o-deques δ-deques deques, (at-list b-frames o-frames δ-frames frames, (w, (n, (p, (f, tt)))))) zs') ⊛ raw (fact 𝓤 (IsSync deques frames w zs'.0 zs'.1.0 res')))) (id⊢ 𝓤 _) $ pick t' (λ zs'. split t' $ move t' (1 ∷ []) $ heard t' (IsSync deques frames w zs'.0 zs'.1.0 res') (λ e'.
+      use1 𝓛 (later (some (λ (res' : Synced). ((‵ (flft (ν-deques ∷ []) full_share) ⊛ (‵ (flft (ν-frames ∷ []) full_share) ⊛ ‵ ftrue)) ⊛ ‵ (R-Synced.own res' (w' ∷ []))) ⊛ raw (ensured 𝓛 callee'.ended (callee'.clauses 𝓛 mem run) ((ν-deques ∷ []), ((ν-frames ∷ []), tt)) (at_list b-deques o-deques δ-deques deques, (at_list b-frames o-frames δ-frames frames, (w, (n, (p, (f, tt)))))) tt res')))) (id⊢ 𝓤 _) $ await t' tt $ pick t' (λ res'. split t' $ move t' (1 ∷ []) $
+      use1 𝓛 (some (λ (zs' : List ℕ × (List Frame × (Unit {0} × (Unit {0} × (Unit {0} × (Unit {0} × Unit {0})))))). ‵ (lasts callee'.ended ((ν-deques ∷ []), ((ν-frames ∷ []), tt)) (at_list b-deques o-deques δ-deques deques, (at_list b-frames o-frames δ-frames frames, (w, (n, (p, (f, tt)))))) zs') ⊛ raw (fact 𝓤 (IsSync deques frames w zs'.0 zs'.1.0 res')))) (id⊢ 𝓤 _) $ pick t' (λ zs'. split t' $ move t' (1 ∷ []) $ heard t' (IsSync deques frames w zs'.0 zs'.1.0 res') (λ e'.
       fsplit t' $ fsplit t' $ move t' (1 ∷ []) $ feq_l t' (λ same-deques. move t' (1 ∷ []) $ fsplit t' $ fsplit t' $ move t' (1 ∷ []) $ feq_l t' (λ same-frames. move t' (1 ∷ []) $ fsplit t' $ drop t' $ fsplit t' $ drop t' $ fsplit t' $ drop t' $ fsplit t' $ drop t' $ drop t' $
       move t' (2 ∷ []) $ split t' $ move t' (1 ∷ []) $ peeks t' R-Synced (Is R-Synced) (shows 𝓛 R-Synced) res' (w' ∷ []) (λ is'. drop t' $ split t' $ move t' (1 ∷ []) $ split t' $ move t' (1 ∷ []) $ drop t' $
       move t' (0 ∷ 4 ∷ 2 ∷ []) $ home t' tt R-Frame b-frames o-frames n-frames frames zs'.1.0 len-frames room-frames same-frames $ move t' (1 ∷ 3 ∷ 2 ∷ []) $ home t' tt u32 b-deques o-deques n-deques deques zs'.0 len-deques room-deques same-deques $

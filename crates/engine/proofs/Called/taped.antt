@@ -31,7 +31,7 @@ use denote.Triple.Walked.{says}
 use Rattle.engine.specs.contracts.Taped as M-Taped
 use Rattle.engine.proofs.Taped.TheLaws as L-Taped
 use Rattle.engine.specs.declared.Taped.{Taped}
-use Rattle.frames.proofs.Lent.{at-list, Mine, Yours, Lent, Shown, lend, home, show, back, give}
+use Rattle.frames.proofs.Lent.{at_list, Mine, Yours, Lent, Shown, lend, home, show, back, give}
 use Rattle.engine.specs.contracts.tapes.taped as callee'
 
 abbrev R-Taped : RattleType

@@ -28,9 +28,9 @@ use denote.Triple.Statement.{Contract, Triple}
 use denote.Triple.Call.{calls_at, calls_at_last}
 use denote.Triple.Clauses.{ensured, lasts}
 use denote.Triple.Walked.{says}
-use Rattle.frames.specs.Widths.{maxWorkers, dequeWords}
+use Rattle.frames.specs.Widths.{max_workers, deque_words}
 use Rattle.frames.specs.Deques.{top}
-use Rattle.frames.proofs.Lent.{at-list, Mine, Yours, Lent, Shown, lend, home, show, back, give}
+use Rattle.frames.proofs.Lent.{at_list, Mine, Yours, Lent, Shown, lend, home, show, back, give}
 use Rattle.frames.specs.contracts.top_at as callee'
 
 module _ {M : Type 1} {𝓤 : Ura M} (𝓛 : Logic 𝓤) (mem : Memory → SProp 𝓤) (run : Routine → Fun 𝓤) where
@@ -38,17 +38,17 @@ module _ {M : Type 1} {𝓤 : Ura M} (𝓛 : Logic 𝓤) (mem : Memory → SProp
   Asked = triple_of 𝓛 callee'.signature (callee'.spec 𝓛 mem run)
 
   abbrev pub to-step-s : (ν-deques : ℕ) (δ-deques : GName) (b-deques o-deques n-deques : ℕ) (deques : List ℕ) (w : ℕ) → Asked.Ghost
-  to-step-s ν-deques δ-deques b-deques o-deques n-deques deques w = ((((ν-deques ∷ []), tt), (full_share, tt), tt, (at-list b-deques o-deques δ-deques deques, (w, tt)), (slice_val (b-deques, o-deques) n-deques ∷ [], (vint w32 w ∷ [], tt))), tt)
+  to-step-s ν-deques δ-deques b-deques o-deques n-deques deques w = ((((ν-deques ∷ []), tt), (full_share, tt), tt, (at_list b-deques o-deques δ-deques deques, (w, tt)), (slice_val (b-deques, o-deques) n-deques ∷ [], (vint w32 w ∷ [], tt))), tt)
 
-  pub goes-step-s : (ν-deques : ℕ) (δ-deques : GName) (b-deques o-deques n-deques : ℕ) (deques : List ℕ) (w : ℕ) → (w-good : w < 2 ^ 32) (ok' : (length deques ≡ dequeWords) × (w < maxWorkers)) → ent 𝓤 (⋆ 𝓛 (‵ (flft (ν-deques ∷ []) full_share) ∷ ‵ ((ShrSlice (named 0) (ν-deques ∷ []) u32).own_val (at-list b-deques o-deques δ-deques deques) (slice_val (b-deques, o-deques) n-deques ∷ [])) ∷ [])) (Asked.pre (to-step-s ν-deques δ-deques b-deques o-deques n-deques deques w))
-  goes-step-s ν-deques δ-deques b-deques o-deques n-deques deques w w-good ok' = qed 𝓛 (‵ (flft (ν-deques ∷ []) full_share) ∷ ‵ ((ShrSlice (named 0) (ν-deques ∷ []) u32).own_val (at-list b-deques o-deques δ-deques deques) (slice_val (b-deques, o-deques) n-deques ∷ [])) ∷ []) ∵ says ! ok' $ nothing ! $ move ! (1 ∷ 0 ∷ []) $ group ! 2 $ frame ! $
+  pub goes-step-s : (ν-deques : ℕ) (δ-deques : GName) (b-deques o-deques n-deques : ℕ) (deques : List ℕ) (w : ℕ) → (w-good : w < 2 ^ 32) (ok' : (length deques ≡ deque_words) × (w < max_workers)) → ent 𝓤 (⋆ 𝓛 (‵ (flft (ν-deques ∷ []) full_share) ∷ ‵ ((ShrSlice (named 0) (ν-deques ∷ []) u32).own_val (at_list b-deques o-deques δ-deques deques) (slice_val (b-deques, o-deques) n-deques ∷ [])) ∷ [])) (Asked.pre (to-step-s ν-deques δ-deques b-deques o-deques n-deques deques w))
+  goes-step-s ν-deques δ-deques b-deques o-deques n-deques deques w w-good ok' = qed 𝓛 (‵ (flft (ν-deques ∷ []) full_share) ∷ ‵ ((ShrSlice (named 0) (ν-deques ∷ []) u32).own_val (at_list b-deques o-deques δ-deques deques) (slice_val (b-deques, o-deques) n-deques ∷ [])) ∷ []) ∵ says ! ok' $ nothing ! $ move ! (1 ∷ 0 ∷ []) $ group ! 2 $ frame ! $
       nothing ! $ owned ! u32 (Is u32) (uint_Makes 𝓛 w32) w _ (refl, w-good) $ fjoin ! $ move ! (1 ∷ 0 ∷ []) $ fjoin ! $ done !
 
 module _ {M : Type 1} {𝓤 : Ura M} {𝓛 : Logic 𝓤} {K : Type 0} (mem : Memory → SProp 𝓤) (run : Routine → Fun 𝓤)
     {Γ : List (Item 𝓤)} {E : Env 𝓤 𝓛.H} {C : Calls 𝓤 𝓛.H} {Λ : Loops 𝓤 𝓛.H} {post' : Post 𝓤 𝓛.H} {dest' : Place} {name' : Name} {opds' : List Operand} {rest' : Body} where
   open 𝓛 use {H}
 
-  pub step-s : K → FmC 𝓤 H 𝓛.laws C → Triple 𝓤 (C name') (Asked 𝓛 mem run) → {κ-deques : Lft} {q-deques : Share} {γ-deques : GName} → (b-deques o-deques n-deques : ℕ) (deques : List ℕ) (w : ℕ) → (w-good : w < 2 ^ 32) → (length deques ≡ dequeWords) × (w < maxWorkers) → length deques ≡ n-deques → Room u32 n-deques →
+  pub step-s : K → FmC 𝓤 H 𝓛.laws C → Triple 𝓤 (C name') (Asked 𝓛 mem run) → {κ-deques : Lft} {q-deques : Share} {γ-deques : GName} → (b-deques o-deques n-deques : ℕ) (deques : List ℕ) (w : ℕ) → (w-good : w < 2 ^ 32) → (length deques ≡ deque_words) × (w < max_workers) → length deques ≡ n-deques → Room u32 n-deques →
       ((ν-deques : ℕ) (δ-deques : GName) → Opds K 𝓛 (raw ((Asked 𝓛 mem run).pre (to-step-s 𝓛 mem run ν-deques δ-deques b-deques o-deques n-deques deques w)) ∷ ‵ (Shown u32 κ-deques (ν-deques ∷ []) q-deques γ-deques b-deques o-deques deques) ∷ Γ) E opds' (slice_val (b-deques, o-deques) n-deques ∷ vint w32 w ∷ [])) →
       ((res' : ℕ) → res' < 2 ^ 32 → res' ≡ top deques w → Seq K 𝓛 (‵ (Mine u32 κ-deques q-deques γ-deques b-deques o-deques n-deques deques) ∷ Γ) (lands C Λ E dest' (vint w32 res') rest' post')) →
       Seq K 𝓛 (‵ (Mine u32 κ-deques q-deques γ-deques b-deques o-deques n-deques deques) ∷ Γ) (runs C Λ E (seq (call name' opds' dest') rest') post')
@@ -56,8 +56,8 @@ module _ {M : Type 1} {𝓤 : Ura M} {𝓛 : Logic 𝓤} {K : Type 0} (mem : Mem
       show t' tt u32 b-deques o-deques n-deques deques len-deques (λ ν-deques δ-deques.
       move t' (0 ∷ 1 ∷ []) $ group t' 2 $ use1 𝓛 (raw ((Asked 𝓛 mem run).pre (to-step-s 𝓛 mem run ν-deques δ-deques b-deques o-deques n-deques deques w))) (goes-step-s 𝓛 mem run ν-deques δ-deques b-deques o-deques n-deques deques w w-good ok') $
       calls_at t' fm' (Asked 𝓛 mem run) known' (to-step-s 𝓛 mem run ν-deques δ-deques b-deques o-deques n-deques deques w) (os' ν-deques δ-deques) (λ w'.
-      use1 𝓛 (later (some (λ (res' : ℕ). ((‵ (flft (ν-deques ∷ []) full_share) ⊛ ‵ ftrue) ⊛ ‵ (u32.own_val res' (w' ∷ []))) ⊛ raw (ensured 𝓛 callee'.ended (callee'.clauses 𝓛 mem run) ((ν-deques ∷ []), tt) (at-list b-deques o-deques δ-deques deques, (w, tt)) tt res')))) (id⊢ 𝓤 _) $ await t' tt $ pick t' (λ res'. split t' $ move t' (1 ∷ []) $
-      use1 𝓛 (some (λ (zs' : Unit {0} × (Unit {0} × Unit {0})). ‵ (lasts callee'.ended ((ν-deques ∷ []), tt) (at-list b-deques o-deques δ-deques deques, (w, tt)) zs') ⊛ raw (fact 𝓤 (res' ≡ top deques w)))) (id⊢ 𝓤 _) $ pick t' (λ zs'. split t' $ move t' (1 ∷ []) $ heard t' (res' ≡ top deques w) (λ e'.
+      use1 𝓛 (later (some (λ (res' : ℕ). ((‵ (flft (ν-deques ∷ []) full_share) ⊛ ‵ ftrue) ⊛ ‵ (u32.own_val res' (w' ∷ []))) ⊛ raw (ensured 𝓛 callee'.ended (callee'.clauses 𝓛 mem run) ((ν-deques ∷ []), tt) (at_list b-deques o-deques δ-deques deques, (w, tt)) tt res')))) (id⊢ 𝓤 _) $ await t' tt $ pick t' (λ res'. split t' $ move t' (1 ∷ []) $
+      use1 𝓛 (some (λ (zs' : Unit {0} × (Unit {0} × Unit {0})). ‵ (lasts callee'.ended ((ν-deques ∷ []), tt) (at_list b-deques o-deques δ-deques deques, (w, tt)) zs') ⊛ raw (fact 𝓤 (res' ≡ top deques w)))) (id⊢ 𝓤 _) $ pick t' (λ zs'. split t' $ move t' (1 ∷ []) $ heard t' (res' ≡ top deques w) (λ e'.
       fsplit t' $ drop t' $ fsplit t' $ drop t' $ drop t' $
       move t' (0 ∷ []) $ split t' $ move t' (1 ∷ []) $ peeks t' u32 (Is u32) (shows 𝓛 u32) res' (w' ∷ []) (λ is'. drop t' $ split t' $ move t' (1 ∷ []) $ drop t' $
       move t' (0 ∷ 1 ∷ []) $ back t' tt u32 b-deques o-deques n-deques deques len-deques room-deques $

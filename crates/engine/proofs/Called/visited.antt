@@ -34,7 +34,7 @@ use Rattle.engine.specs.declared.Out.{Out}
 use Rattle.engine.specs.contracts.Visited as M-Visited
 use Rattle.engine.proofs.Visited.TheLaws as L-Visited
 use Rattle.engine.specs.declared.Visited.{Visited}
-use Rattle.frames.proofs.Lent.{at-list, Mine, Yours, Lent, Shown, lend, home, show, back, give}
+use Rattle.frames.proofs.Lent.{at_list, Mine, Yours, Lent, Shown, lend, home, show, back, give}
 use Rattle.engine.specs.contracts.kinds.visited as callee'
 
 abbrev R-Out : RattleType

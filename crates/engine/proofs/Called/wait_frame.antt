@@ -28,13 +28,13 @@ use denote.Triple.Statement.{Contract, Triple}
 use denote.Triple.Call.{calls_at, calls_at_last}
 use denote.Triple.Clauses.{ensured, lasts}
 use denote.Triple.Walked.{says}
-use Rattle.frames.specs.Frames.{frameAt}
+use Rattle.frames.specs.Frames.{frame_at}
 use Rattle.frames.specs.Promises.{Waits}
 use Rattle.frames.specs.Ranges.{Acts}
 use Rattle.frames.specs.contracts.Frame as M-Frame
 use Rattle.frames.proofs.Frame.TheLaws as L-Frame
 use Rattle.frames.specs.declared.Frame.{Frame}
-use Rattle.frames.proofs.Lent.{at-list, Mine, Yours, Lent, Shown, lend, home, show, back, give}
+use Rattle.frames.proofs.Lent.{at_list, Mine, Yours, Lent, Shown, lend, home, show, back, give}
 use Rattle.frames.specs.contracts.wait_frame as callee'
 
 abbrev R-Frame : RattleType
@@ -48,17 +48,17 @@ module _ {M : Type 1} {𝓤 : Ura M} (𝓛 : Logic 𝓤) (mem : Memory → SProp
   Asked = triple_of 𝓛 callee'.signature (callee'.spec 𝓛 mem run)
 
   abbrev pub to_step : (ν-deques : ℕ) (δ-deques : GName) (ν-frames : ℕ) (δ-frames : GName) (b-deques o-deques n-deques : ℕ) (deques : List ℕ) (b-frames o-frames n-frames : ℕ) (frames : List Frame) (w : ℕ) (n : ℕ) (p : ℕ) → Asked.Ghost
-  to_step ν-deques δ-deques ν-frames δ-frames b-deques o-deques n-deques deques b-frames o-frames n-frames frames w n p = ((((ν-deques ∷ []), ((ν-frames ∷ []), tt)), (full_share, (full_share, tt)), tt, (at-list b-deques o-deques δ-deques deques, (at-list b-frames o-frames δ-frames frames, (w, (n, (p, tt))))), (slice_val (b-deques, o-deques) n-deques ∷ [], (slice_val (b-frames, o-frames) n-frames ∷ [], (vint w32 w ∷ [], (vint w32 n ∷ [], (vint w32 p ∷ [], tt)))))), tt)
+  to_step ν-deques δ-deques ν-frames δ-frames b-deques o-deques n-deques deques b-frames o-frames n-frames frames w n p = ((((ν-deques ∷ []), ((ν-frames ∷ []), tt)), (full_share, (full_share, tt)), tt, (at_list b-deques o-deques δ-deques deques, (at_list b-frames o-frames δ-frames frames, (w, (n, (p, tt))))), (slice_val (b-deques, o-deques) n-deques ∷ [], (slice_val (b-frames, o-frames) n-frames ∷ [], (vint w32 w ∷ [], (vint w32 n ∷ [], (vint w32 p ∷ [], tt)))))), tt)
 
-  pub goes_step : (ν-deques : ℕ) (δ-deques : GName) (ν-frames : ℕ) (δ-frames : GName) (b-deques o-deques n-deques : ℕ) (deques : List ℕ) (b-frames o-frames n-frames : ℕ) (frames : List Frame) (w : ℕ) (n : ℕ) (p : ℕ) → (w-good : w < 2 ^ 32) (n-good : n < 2 ^ 32) (p-good : p < 2 ^ 32) (ok' : Acts deques frames w n p (frameAt frames p)) → ent 𝓤 (⋆ 𝓛 (‵ (flft (ν-deques ∷ []) full_share) ∷ ‵ (flft (ν-frames ∷ []) full_share) ∷ ‵ ((MutSlice (named 0) (ν-deques ∷ []) u32).own_val (at-list b-deques o-deques δ-deques deques) (slice_val (b-deques, o-deques) n-deques ∷ [])) ∷ ‵ ((MutSlice (named 0) (ν-frames ∷ []) R-Frame).own_val (at-list b-frames o-frames δ-frames frames) (slice_val (b-frames, o-frames) n-frames ∷ [])) ∷ [])) (Asked.pre (to_step ν-deques δ-deques ν-frames δ-frames b-deques o-deques n-deques deques b-frames o-frames n-frames frames w n p))
-  goes_step ν-deques δ-deques ν-frames δ-frames b-deques o-deques n-deques deques b-frames o-frames n-frames frames w n p w-good n-good p-good ok' = qed 𝓛 (‵ (flft (ν-deques ∷ []) full_share) ∷ ‵ (flft (ν-frames ∷ []) full_share) ∷ ‵ ((MutSlice (named 0) (ν-deques ∷ []) u32).own_val (at-list b-deques o-deques δ-deques deques) (slice_val (b-deques, o-deques) n-deques ∷ [])) ∷ ‵ ((MutSlice (named 0) (ν-frames ∷ []) R-Frame).own_val (at-list b-frames o-frames δ-frames frames) (slice_val (b-frames, o-frames) n-frames ∷ [])) ∷ []) ∵ says ! ok' $ nothing ! $ move ! (1 ∷ 2 ∷ 0 ∷ []) $ group ! 3 $ frame ! $
+  pub goes_step : (ν-deques : ℕ) (δ-deques : GName) (ν-frames : ℕ) (δ-frames : GName) (b-deques o-deques n-deques : ℕ) (deques : List ℕ) (b-frames o-frames n-frames : ℕ) (frames : List Frame) (w : ℕ) (n : ℕ) (p : ℕ) → (w-good : w < 2 ^ 32) (n-good : n < 2 ^ 32) (p-good : p < 2 ^ 32) (ok' : Acts deques frames w n p (frame_at frames p)) → ent 𝓤 (⋆ 𝓛 (‵ (flft (ν-deques ∷ []) full_share) ∷ ‵ (flft (ν-frames ∷ []) full_share) ∷ ‵ ((MutSlice (named 0) (ν-deques ∷ []) u32).own_val (at_list b-deques o-deques δ-deques deques) (slice_val (b-deques, o-deques) n-deques ∷ [])) ∷ ‵ ((MutSlice (named 0) (ν-frames ∷ []) R-Frame).own_val (at_list b-frames o-frames δ-frames frames) (slice_val (b-frames, o-frames) n-frames ∷ [])) ∷ [])) (Asked.pre (to_step ν-deques δ-deques ν-frames δ-frames b-deques o-deques n-deques deques b-frames o-frames n-frames frames w n p))
+  goes_step ν-deques δ-deques ν-frames δ-frames b-deques o-deques n-deques deques b-frames o-frames n-frames frames w n p w-good n-good p-good ok' = qed 𝓛 (‵ (flft (ν-deques ∷ []) full_share) ∷ ‵ (flft (ν-frames ∷ []) full_share) ∷ ‵ ((MutSlice (named 0) (ν-deques ∷ []) u32).own_val (at_list b-deques o-deques δ-deques deques) (slice_val (b-deques, o-deques) n-deques ∷ [])) ∷ ‵ ((MutSlice (named 0) (ν-frames ∷ []) R-Frame).own_val (at_list b-frames o-frames δ-frames frames) (slice_val (b-frames, o-frames) n-frames ∷ [])) ∷ []) ∵ says ! ok' $ nothing ! $ move ! (1 ∷ 2 ∷ 0 ∷ []) $ group ! 3 $ frame ! $
       nothing ! $ owned ! u32 (Is u32) (uint_Makes 𝓛 w32) p _ (refl, p-good) $ fjoin ! $ owned ! u32 (Is u32) (uint_Makes 𝓛 w32) n _ (refl, n-good) $ fjoin ! $ owned ! u32 (Is u32) (uint_Makes 𝓛 w32) w _ (refl, w-good) $ fjoin ! $ move ! (2 ∷ 0 ∷ []) $ fjoin ! $ move ! (1 ∷ 0 ∷ []) $ fjoin ! $ done !
 
 module _ {M : Type 1} {𝓤 : Ura M} {𝓛 : Logic 𝓤} {K : Type 0} (mem : Memory → SProp 𝓤) (run : Routine → Fun 𝓤)
     {Γ : List (Item 𝓤)} {E : Env 𝓤 𝓛.H} {C : Calls 𝓤 𝓛.H} {Λ : Loops 𝓤 𝓛.H} {post' : Post 𝓤 𝓛.H} {dest' : Place} {name' : Name} {opds' : List Operand} {rest' : Body} where
   open 𝓛 use {H}
 
-  pub step : K → FmC 𝓤 H 𝓛.laws C → Triple 𝓤 (C name') (Asked 𝓛 mem run) → {κ-deques : Lft} {q-deques : Share} {γ-deques : GName} {κ-frames : Lft} {q-frames : Share} {γ-frames : GName} → (b-deques o-deques n-deques : ℕ) (deques : List ℕ) (b-frames o-frames n-frames : ℕ) (frames : List Frame) (w : ℕ) (n : ℕ) (p : ℕ) → (w-good : w < 2 ^ 32) → (n-good : n < 2 ^ 32) → (p-good : p < 2 ^ 32) → Acts deques frames w n p (frameAt frames p) → length deques ≡ n-deques → Room u32 n-deques → length frames ≡ n-frames → Room R-Frame n-frames →
+  pub step : K → FmC 𝓤 H 𝓛.laws C → Triple 𝓤 (C name') (Asked 𝓛 mem run) → {κ-deques : Lft} {q-deques : Share} {γ-deques : GName} {κ-frames : Lft} {q-frames : Share} {γ-frames : GName} → (b-deques o-deques n-deques : ℕ) (deques : List ℕ) (b-frames o-frames n-frames : ℕ) (frames : List Frame) (w : ℕ) (n : ℕ) (p : ℕ) → (w-good : w < 2 ^ 32) → (n-good : n < 2 ^ 32) → (p-good : p < 2 ^ 32) → Acts deques frames w n p (frame_at frames p) → length deques ≡ n-deques → Room u32 n-deques → length frames ≡ n-frames → Room R-Frame n-frames →
       ((ν-deques : ℕ) (δ-deques : GName) (ν-frames : ℕ) (δ-frames : GName) → Opds K 𝓛 (raw ((Asked 𝓛 mem run).pre (to_step 𝓛 mem run ν-deques δ-deques ν-frames δ-frames b-deques o-deques n-deques deques b-frames o-frames n-frames frames w n p)) ∷ ‵ (Lent R-Frame κ-frames (ν-frames ∷ []) q-frames γ-frames b-frames o-frames δ-frames frames) ∷ ‵ (Lent u32 κ-deques (ν-deques ∷ []) q-deques γ-deques b-deques o-deques δ-deques deques) ∷ Γ) E opds' (slice_val (b-deques, o-deques) n-deques ∷ slice_val (b-frames, o-frames) n-frames ∷ vint w32 w ∷ vint w32 n ∷ vint w32 p ∷ [])) →
       ((zs-deques : List ℕ) (zs-frames : List Frame) → Waits deques frames w zs-deques zs-frames → length zs-deques ≡ length deques → length zs-frames ≡ length frames → Seq K 𝓛 (‵ (Mine u32 κ-deques q-deques γ-deques b-deques o-deques n-deques zs-deques) ∷ ‵ (Mine R-Frame κ-frames q-frames γ-frames b-frames o-frames n-frames zs-frames) ∷ Γ) (lands C Λ E dest' (vunit) rest' post')) →
       Seq K 𝓛 (‵ (Mine u32 κ-deques q-deques γ-deques b-deques o-deques n-deques deques) ∷ ‵ (Mine R-Frame κ-frames q-frames γ-frames b-frames o-frames n-frames frames) ∷ Γ) (runs C Λ E (seq (call name' opds' dest') rest') post')
@@ -66,8 +66,8 @@ module _ {M : Type 1} {𝓤 : Ura M} {𝓛 : Logic 𝓤} {K : Type 0} (mem : Mem
       lend t' tt u32 b-deques o-deques n-deques deques len-deques (λ ν-deques δ-deques. move t' (3 ∷ []) $ lend t' tt R-Frame b-frames o-frames n-frames frames len-frames (λ ν-frames δ-frames.
       move t' (3 ∷ 0 ∷ 4 ∷ 1 ∷ []) $ group t' 4 $ use1 𝓛 (raw ((Asked 𝓛 mem run).pre (to_step 𝓛 mem run ν-deques δ-deques ν-frames δ-frames b-deques o-deques n-deques deques b-frames o-frames n-frames frames w n p))) (goes_step 𝓛 mem run ν-deques δ-deques ν-frames δ-frames b-deques o-deques n-deques deques b-frames o-frames n-frames frames w n p w-good n-good p-good ok') $
       calls_at t' fm' (Asked 𝓛 mem run) known' (to_step 𝓛 mem run ν-deques δ-deques ν-frames δ-frames b-deques o-deques n-deques deques b-frames o-frames n-frames frames w n p) (os' ν-deques δ-deques ν-frames δ-frames) (λ w'.
-      use1 𝓛 (later (some (λ (res' : Unit {0}). ((‵ (flft (ν-deques ∷ []) full_share) ⊛ (‵ (flft (ν-frames ∷ []) full_share) ⊛ ‵ ftrue)) ⊛ ‵ (unit.own_val res' (w' ∷ []))) ⊛ raw (ensured 𝓛 callee'.ended (callee'.clauses 𝓛 mem run) ((ν-deques ∷ []), ((ν-frames ∷ []), tt)) (at-list b-deques o-deques δ-deques deques, (at-list b-frames o-frames δ-frames frames, (w, (n, (p, tt))))) tt res')))) (id⊢ 𝓤 _) $ await t' tt $ pick t' (λ res'. split t' $ move t' (1 ∷ []) $
-      use1 𝓛 (some (λ (zs' : List ℕ × (List Frame × (Unit {0} × (Unit {0} × (Unit {0} × Unit {0}))))). ‵ (lasts callee'.ended ((ν-deques ∷ []), ((ν-frames ∷ []), tt)) (at-list b-deques o-deques δ-deques deques, (at-list b-frames o-frames δ-frames frames, (w, (n, (p, tt))))) zs') ⊛ raw (fact 𝓤 (Waits deques frames w zs'.0 zs'.1.0)))) (id⊢ 𝓤 _) $ pick t' (λ zs'. split t' $ move t' (1 ∷ []) $ heard t' (Waits deques frames w zs'.0 zs'.1.0) (λ e'.
+      use1 𝓛 (later (some (λ (res' : Unit {0}). ((‵ (flft (ν-deques ∷ []) full_share) ⊛ (‵ (flft (ν-frames ∷ []) full_share) ⊛ ‵ ftrue)) ⊛ ‵ (unit.own_val res' (w' ∷ []))) ⊛ raw (ensured 𝓛 callee'.ended (callee'.clauses 𝓛 mem run) ((ν-deques ∷ []), ((ν-frames ∷ []), tt)) (at_list b-deques o-deques δ-deques deques, (at_list b-frames o-frames δ-frames frames, (w, (n, (p, tt))))) tt res')))) (id⊢ 𝓤 _) $ await t' tt $ pick t' (λ res'. split t' $ move t' (1 ∷ []) $
+      use1 𝓛 (some (λ (zs' : List ℕ × (List Frame × (Unit {0} × (Unit {0} × (Unit {0} × Unit {0}))))). ‵ (lasts callee'.ended ((ν-deques ∷ []), ((ν-frames ∷ []), tt)) (at_list b-deques o-deques δ-deques deques, (at_list b-frames o-frames δ-frames frames, (w, (n, (p, tt))))) zs') ⊛ raw (fact 𝓤 (Waits deques frames w zs'.0 zs'.1.0)))) (id⊢ 𝓤 _) $ pick t' (λ zs'. split t' $ move t' (1 ∷ []) $ heard t' (Waits deques frames w zs'.0 zs'.1.0) (λ e'.
       fsplit t' $ fsplit t' $ move t' (1 ∷ []) $ feq_l t' (λ same-deques. move t' (1 ∷ []) $ fsplit t' $ fsplit t' $ move t' (1 ∷ []) $ feq_l t' (λ same-frames. move t' (1 ∷ []) $ fsplit t' $ drop t' $ fsplit t' $ drop t' $ fsplit t' $ drop t' $ drop t' $
       move t' (2 ∷ []) $ split t' $ move t' (1 ∷ []) $ peeks t' unit (Is unit) (shows 𝓛 unit) res' (w' ∷ []) (λ is'. drop t' $ split t' $ move t' (1 ∷ []) $ split t' $ move t' (1 ∷ []) $ drop t' $
       move t' (0 ∷ 4 ∷ 2 ∷ []) $ home t' tt R-Frame b-frames o-frames n-frames frames zs'.1.0 len-frames room-frames same-frames $ move t' (1 ∷ 3 ∷ 2 ∷ []) $ home t' tt u32 b-deques o-deques n-deques deques zs'.0 len-deques room-deques same-deques $

@@ -28,7 +28,7 @@ use denote.Triple.Statement.{Contract, Triple}
 use denote.Triple.Call.{calls_at, calls_at_last}
 use denote.Triple.Clauses.{ensured, lasts}
 use denote.Triple.Walked.{says}
-use Rattle.frames.specs.Steps.{syncedNumber}
+use Rattle.frames.specs.Steps.{synced_number}
 use Rattle.engine.specs.Promises.{Answers}
 use Rattle.semantics.specs.contracts.Head as M-Head
 use Rattle.semantics.proofs.Head.TheLaws as L-Head
@@ -39,7 +39,7 @@ use Rattle.frames.specs.declared.Synced.{Synced}
 use Rattle.engine.specs.contracts.Out as M-Out
 use Rattle.engine.proofs.Out.TheLaws as L-Out
 use Rattle.engine.specs.declared.Out.{Out}
-use Rattle.frames.proofs.Lent.{at-list, Mine, Yours, Lent, Shown, lend, home, show, back, give}
+use Rattle.frames.proofs.Lent.{at_list, Mine, Yours, Lent, Shown, lend, home, show, back, give}
 use Rattle.engine.specs.contracts.kinds.waited as callee'
 
 abbrev R-Head : RattleType
@@ -77,13 +77,13 @@ module _ {M : Type 1} {𝓤 : Ura M} {𝓛 : Logic 𝓤} {K : Type 0} (mem : Mem
 
   pub step : K → FmC 𝓤 H 𝓛.laws C → Triple 𝓤 (C name') (Asked 𝓛 mem run) → (h : Head) (outcome : Synced) → (h-good : Is R-Head h (val-Head h ∷ [])) → (outcome-good : Is R-Synced outcome (val-Synced outcome ∷ [])) →
       (Opds K 𝓛 (raw ((Asked 𝓛 mem run).pre (to_step 𝓛 mem run h outcome)) ∷ Γ) E opds' (val-Head h ∷ val-Synced outcome ∷ [])) →
-      ((res' : Out) → Is R-Out res' (val-Out res' ∷ []) → Answers h res' 104 (syncedNumber outcome) → Seq K 𝓛 (Γ) (lands C Λ E dest' (val-Out res') rest' post')) →
+      ((res' : Out) → Is R-Out res' (val-Out res' ∷ []) → Answers h res' 104 (synced_number outcome) → Seq K 𝓛 (Γ) (lands C Λ E dest' (val-Out res') rest' post')) →
       Seq K 𝓛 (Γ) (runs C Λ E (seq (call name' opds' dest') rest') post')
   step t' fm' known' h outcome h-good outcome-good os' k' =
       nothing t' $ use1 𝓛 (raw ((Asked 𝓛 mem run).pre (to_step 𝓛 mem run h outcome))) (goes_step 𝓛 mem run h outcome h-good outcome-good) $
       calls_at t' fm' (Asked 𝓛 mem run) known' (to_step 𝓛 mem run h outcome) (os') (λ w'.
       use1 𝓛 (later (some (λ (res' : Out). (‵ ftrue ⊛ ‵ (R-Out.own res' (w' ∷ []))) ⊛ raw (ensured 𝓛 callee'.ended (callee'.clauses 𝓛 mem run) tt (h, (outcome, tt)) tt res')))) (id⊢ 𝓤 _) $ await t' tt $ pick t' (λ res'. split t' $ move t' (1 ∷ []) $
-      use1 𝓛 (some (λ (zs' : Unit {0} × (Unit {0} × Unit {0})). ‵ (lasts callee'.ended tt (h, (outcome, tt)) zs') ⊛ raw (fact 𝓤 (Answers h res' 104 (syncedNumber outcome))))) (id⊢ 𝓤 _) $ pick t' (λ zs'. split t' $ move t' (1 ∷ []) $ heard t' (Answers h res' 104 (syncedNumber outcome)) (λ e'.
+      use1 𝓛 (some (λ (zs' : Unit {0} × (Unit {0} × Unit {0})). ‵ (lasts callee'.ended tt (h, (outcome, tt)) zs') ⊛ raw (fact 𝓤 (Answers h res' 104 (synced_number outcome))))) (id⊢ 𝓤 _) $ pick t' (λ zs'. split t' $ move t' (1 ∷ []) $ heard t' (Answers h res' 104 (synced_number outcome)) (λ e'.
       fsplit t' $ drop t' $ fsplit t' $ drop t' $ drop t' $
       move t' (0 ∷ []) $ split t' $ move t' (1 ∷ []) $ peeks t' R-Out (Is R-Out) (shows 𝓛 R-Out) res' (w' ∷ []) (λ is'. drop t' $ drop t' $
       subst (λ (v' : Val). Seq K 𝓛 (Γ) (lands C Λ E dest' v' rest' post')) (sym (ap only (LL.tells M-Out.the_type L-Out.the_laws res' _ is'))) (k' res' (subst (Is R-Out res') (LL.tells M-Out.the_type L-Out.the_laws res' _ is') is') e'))))))

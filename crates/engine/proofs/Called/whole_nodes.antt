@@ -28,9 +28,9 @@ use denote.Triple.Statement.{Contract, Triple}
 use denote.Triple.Call.{calls_at, calls_at_last}
 use denote.Triple.Clauses.{ensured, lasts}
 use denote.Triple.Walked.{says}
-use Rattle.semantics.specs.Entries.{wholeNodes}
+use Rattle.semantics.specs.Entries.{whole_nodes}
 use Rattle.soundness.specs.Layout.{two_words}
-use Rattle.frames.proofs.Lent.{at-list, Mine, Yours, Lent, Shown, lend, home, show, back, give}
+use Rattle.frames.proofs.Lent.{at_list, Mine, Yours, Lent, Shown, lend, home, show, back, give}
 use Rattle.engine.specs.contracts.begin.whole_nodes as callee'
 
 module _ {M : Type 1} {𝓤 : Ura M} (𝓛 : Logic 𝓤) (mem : Memory → SProp 𝓤) (run : Routine → Fun 𝓤) where
@@ -38,10 +38,10 @@ module _ {M : Type 1} {𝓤 : Ura M} (𝓛 : Logic 𝓤) (mem : Memory → SProp
   Asked = triple_of 𝓛 callee'.signature (callee'.spec 𝓛 mem run)
 
   abbrev pub to-step-s : (ν-pool : ℕ) (δ-pool : GName) (b-pool o-pool n-pool : ℕ) (pool : List ℕ) → Asked.Ghost
-  to-step-s ν-pool δ-pool b-pool o-pool n-pool pool = ((((ν-pool ∷ []), tt), (full_share, tt), tt, (at-list b-pool o-pool δ-pool pool, tt), (slice_val (b-pool, o-pool) n-pool ∷ [], tt)), tt)
+  to-step-s ν-pool δ-pool b-pool o-pool n-pool pool = ((((ν-pool ∷ []), tt), (full_share, tt), tt, (at_list b-pool o-pool δ-pool pool, tt), (slice_val (b-pool, o-pool) n-pool ∷ [], tt)), tt)
 
-  pub goes-step-s : (ν-pool : ℕ) (δ-pool : GName) (b-pool o-pool n-pool : ℕ) (pool : List ℕ) → ent 𝓤 (⋆ 𝓛 (‵ (flft (ν-pool ∷ []) full_share) ∷ ‵ ((ShrSlice (named 0) (ν-pool ∷ []) u32).own_val (at-list b-pool o-pool δ-pool pool) (slice_val (b-pool, o-pool) n-pool ∷ [])) ∷ [])) (Asked.pre (to-step-s ν-pool δ-pool b-pool o-pool n-pool pool))
-  goes-step-s ν-pool δ-pool b-pool o-pool n-pool pool = qed 𝓛 (‵ (flft (ν-pool ∷ []) full_share) ∷ ‵ ((ShrSlice (named 0) (ν-pool ∷ []) u32).own_val (at-list b-pool o-pool δ-pool pool) (slice_val (b-pool, o-pool) n-pool ∷ [])) ∷ []) ∵ nothing ! $ move ! (1 ∷ 0 ∷ []) $ group ! 2 $ move ! (1 ∷ 0 ∷ []) $
+  pub goes-step-s : (ν-pool : ℕ) (δ-pool : GName) (b-pool o-pool n-pool : ℕ) (pool : List ℕ) → ent 𝓤 (⋆ 𝓛 (‵ (flft (ν-pool ∷ []) full_share) ∷ ‵ ((ShrSlice (named 0) (ν-pool ∷ []) u32).own_val (at_list b-pool o-pool δ-pool pool) (slice_val (b-pool, o-pool) n-pool ∷ [])) ∷ [])) (Asked.pre (to-step-s ν-pool δ-pool b-pool o-pool n-pool pool))
+  goes-step-s ν-pool δ-pool b-pool o-pool n-pool pool = qed 𝓛 (‵ (flft (ν-pool ∷ []) full_share) ∷ ‵ ((ShrSlice (named 0) (ν-pool ∷ []) u32).own_val (at_list b-pool o-pool δ-pool pool) (slice_val (b-pool, o-pool) n-pool ∷ [])) ∷ []) ∵ nothing ! $ move ! (1 ∷ 0 ∷ []) $ group ! 2 $ move ! (1 ∷ 0 ∷ []) $
       nothing ! $ move ! (1 ∷ 0 ∷ []) $ fjoin ! $ move ! (1 ∷ 0 ∷ []) $ join ! $ frame ! $ done !
 
 module _ {M : Type 1} {𝓤 : Ura M} {𝓛 : Logic 𝓤} {K : Type 0} (mem : Memory → SProp 𝓤) (run : Routine → Fun 𝓤)
@@ -50,14 +50,14 @@ module _ {M : Type 1} {𝓤 : Ura M} {𝓛 : Logic 𝓤} {K : Type 0} (mem : Mem
 
   pub step-s : K → FmC 𝓤 H 𝓛.laws C → Triple 𝓤 (C name') (Asked 𝓛 mem run) → {κ-pool : Lft} {q-pool : Share} {γ-pool : GName} → (b-pool o-pool n-pool : ℕ) (pool : List ℕ) → length pool ≡ n-pool → Room u32 n-pool →
       ((ν-pool : ℕ) (δ-pool : GName) → Opds K 𝓛 (raw ((Asked 𝓛 mem run).pre (to-step-s 𝓛 mem run ν-pool δ-pool b-pool o-pool n-pool pool)) ∷ ‵ (Shown u32 κ-pool (ν-pool ∷ []) q-pool γ-pool b-pool o-pool pool) ∷ Γ) E opds' (slice_val (b-pool, o-pool) n-pool ∷ [])) →
-      ((res' : ℕ) → res' < 2 ^ 64 → res' ≡ wholeNodes two_words pool → Seq K 𝓛 (‵ (Mine u32 κ-pool q-pool γ-pool b-pool o-pool n-pool pool) ∷ Γ) (lands C Λ E dest' (vint w64 res') rest' post')) →
+      ((res' : ℕ) → res' < 2 ^ 64 → res' ≡ whole_nodes two_words pool → Seq K 𝓛 (‵ (Mine u32 κ-pool q-pool γ-pool b-pool o-pool n-pool pool) ∷ Γ) (lands C Λ E dest' (vint w64 res') rest' post')) →
       Seq K 𝓛 (‵ (Mine u32 κ-pool q-pool γ-pool b-pool o-pool n-pool pool) ∷ Γ) (runs C Λ E (seq (call name' opds' dest') rest') post')
   step-s t' fm' known' {κ-pool} {q-pool} {γ-pool} b-pool o-pool n-pool pool len-pool room-pool os' k' =
       show t' tt u32 b-pool o-pool n-pool pool len-pool (λ ν-pool δ-pool.
       move t' (0 ∷ 1 ∷ []) $ group t' 2 $ use1 𝓛 (raw ((Asked 𝓛 mem run).pre (to-step-s 𝓛 mem run ν-pool δ-pool b-pool o-pool n-pool pool))) (goes-step-s 𝓛 mem run ν-pool δ-pool b-pool o-pool n-pool pool) $
       calls_at t' fm' (Asked 𝓛 mem run) known' (to-step-s 𝓛 mem run ν-pool δ-pool b-pool o-pool n-pool pool) (os' ν-pool δ-pool) (λ w'.
-      use1 𝓛 (later (some (λ (res' : ℕ). ((‵ (flft (ν-pool ∷ []) full_share) ⊛ ‵ ftrue) ⊛ ‵ (usize.own_val res' (w' ∷ []))) ⊛ raw (ensured 𝓛 callee'.ended (callee'.clauses 𝓛 mem run) ((ν-pool ∷ []), tt) (at-list b-pool o-pool δ-pool pool, tt) tt res')))) (id⊢ 𝓤 _) $ await t' tt $ pick t' (λ res'. split t' $ move t' (1 ∷ []) $
-      use1 𝓛 (some (λ (zs' : Unit {0} × Unit {0}). ‵ (lasts callee'.ended ((ν-pool ∷ []), tt) (at-list b-pool o-pool δ-pool pool, tt) zs') ⊛ raw (fact 𝓤 (res' ≡ wholeNodes two_words pool)))) (id⊢ 𝓤 _) $ pick t' (λ zs'. split t' $ move t' (1 ∷ []) $ heard t' (res' ≡ wholeNodes two_words pool) (λ e'.
+      use1 𝓛 (later (some (λ (res' : ℕ). ((‵ (flft (ν-pool ∷ []) full_share) ⊛ ‵ ftrue) ⊛ ‵ (usize.own_val res' (w' ∷ []))) ⊛ raw (ensured 𝓛 callee'.ended (callee'.clauses 𝓛 mem run) ((ν-pool ∷ []), tt) (at_list b-pool o-pool δ-pool pool, tt) tt res')))) (id⊢ 𝓤 _) $ await t' tt $ pick t' (λ res'. split t' $ move t' (1 ∷ []) $
+      use1 𝓛 (some (λ (zs' : Unit {0} × Unit {0}). ‵ (lasts callee'.ended ((ν-pool ∷ []), tt) (at_list b-pool o-pool δ-pool pool, tt) zs') ⊛ raw (fact 𝓤 (res' ≡ whole_nodes two_words pool)))) (id⊢ 𝓤 _) $ pick t' (λ zs'. split t' $ move t' (1 ∷ []) $ heard t' (res' ≡ whole_nodes two_words pool) (λ e'.
       fsplit t' $ drop t' $ drop t' $
       move t' (0 ∷ []) $ split t' $ move t' (1 ∷ []) $ peeks t' usize (Is usize) (shows 𝓛 usize) res' (w' ∷ []) (λ is'. drop t' $ split t' $ move t' (1 ∷ []) $ drop t' $
       move t' (0 ∷ 1 ∷ []) $ back t' tt u32 b-pool o-pool n-pool pool len-pool room-pool $

@@ -28,11 +28,11 @@ use denote.Triple.Statement.{Contract, Triple}
 use denote.Triple.Call.{calls_at, calls_at_last}
 use denote.Triple.Clauses.{ensured, lasts}
 use denote.Triple.Walked.{says}
-use Rattle.frames.specs.Frames.{withRoot}
+use Rattle.frames.specs.Frames.{with_root}
 use Rattle.frames.specs.contracts.Frame as M-Frame
 use Rattle.frames.proofs.Frame.TheLaws as L-Frame
 use Rattle.frames.specs.declared.Frame.{Frame}
-use Rattle.frames.proofs.Lent.{at-list, Mine, Yours, Lent, Shown, lend, home, show, back, give}
+use Rattle.frames.proofs.Lent.{at_list, Mine, Yours, Lent, Shown, lend, home, show, back, give}
 use Rattle.frames.specs.contracts.with_root as callee'
 
 abbrev R-Frame : RattleType
@@ -58,13 +58,13 @@ module _ {M : Type 1} {𝓤 : Ura M} {𝓛 : Logic 𝓤} {K : Type 0} (mem : Mem
 
   pub step : K → FmC 𝓤 H 𝓛.laws C → Triple 𝓤 (C name') (Asked 𝓛 mem run) → (f : Frame) (root : ℕ) → (f-good : Is R-Frame f (val-Frame f ∷ [])) → (root-good : root < 2 ^ 32) →
       (Opds K 𝓛 (raw ((Asked 𝓛 mem run).pre (to_step 𝓛 mem run f root)) ∷ Γ) E opds' (val-Frame f ∷ vint w32 root ∷ [])) →
-      ((res' : Frame) → Is R-Frame res' (val-Frame res' ∷ []) → res' ≡ withRoot f root → Seq K 𝓛 (Γ) (lands C Λ E dest' (val-Frame res') rest' post')) →
+      ((res' : Frame) → Is R-Frame res' (val-Frame res' ∷ []) → res' ≡ with_root f root → Seq K 𝓛 (Γ) (lands C Λ E dest' (val-Frame res') rest' post')) →
       Seq K 𝓛 (Γ) (runs C Λ E (seq (call name' opds' dest') rest') post')
   step t' fm' known' f root f-good root-good os' k' =
       nothing t' $ use1 𝓛 (raw ((Asked 𝓛 mem run).pre (to_step 𝓛 mem run f root))) (goes_step 𝓛 mem run f root f-good root-good) $
       calls_at t' fm' (Asked 𝓛 mem run) known' (to_step 𝓛 mem run f root) (os') (λ w'.
       use1 𝓛 (later (some (λ (res' : Frame). (‵ ftrue ⊛ ‵ (R-Frame.own res' (w' ∷ []))) ⊛ raw (ensured 𝓛 callee'.ended (callee'.clauses 𝓛 mem run) tt (f, (root, tt)) tt res')))) (id⊢ 𝓤 _) $ await t' tt $ pick t' (λ res'. split t' $ move t' (1 ∷ []) $
-      use1 𝓛 (some (λ (zs' : Unit {0} × (Unit {0} × Unit {0})). ‵ (lasts callee'.ended tt (f, (root, tt)) zs') ⊛ raw (fact 𝓤 (res' ≡ withRoot f root)))) (id⊢ 𝓤 _) $ pick t' (λ zs'. split t' $ move t' (1 ∷ []) $ heard t' (res' ≡ withRoot f root) (λ e'.
+      use1 𝓛 (some (λ (zs' : Unit {0} × (Unit {0} × Unit {0})). ‵ (lasts callee'.ended tt (f, (root, tt)) zs') ⊛ raw (fact 𝓤 (res' ≡ with_root f root)))) (id⊢ 𝓤 _) $ pick t' (λ zs'. split t' $ move t' (1 ∷ []) $ heard t' (res' ≡ with_root f root) (λ e'.
       fsplit t' $ drop t' $ fsplit t' $ drop t' $ drop t' $
       move t' (0 ∷ []) $ split t' $ move t' (1 ∷ []) $ peeks t' R-Frame (Is R-Frame) (shows 𝓛 R-Frame) res' (w' ∷ []) (λ is'. drop t' $ drop t' $
       subst (λ (v' : Val). Seq K 𝓛 (Γ) (lands C Λ E dest' v' rest' post')) (sym (ap only (LL.tells M-Frame.the_type L-Frame.the_laws res' _ is'))) (k' res' (subst (Is R-Frame res') (LL.tells M-Frame.the_type L-Frame.the_laws res' _ is') is') e'))))))

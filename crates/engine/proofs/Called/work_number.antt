@@ -29,8 +29,8 @@ use denote.Triple.Call.{calls_at, calls_at_last}
 use denote.Triple.Clauses.{ensured, lasts}
 use denote.Triple.Walked.{says}
 use Rattle.semantics.specs.declared.Refusal.TheVariants.{Work}
-use Rattle.semantics.specs.Answers.{refusalNumber}
-use Rattle.frames.proofs.Lent.{at-list, Mine, Yours, Lent, Shown, lend, home, show, back, give}
+use Rattle.semantics.specs.Answers.{refusal_number}
+use Rattle.frames.proofs.Lent.{at_list, Mine, Yours, Lent, Shown, lend, home, show, back, give}
 use Rattle.engine.specs.contracts.images.work_number as callee'
 
 module _ {M : Type 1} {𝓤 : Ura M} (𝓛 : Logic 𝓤) (mem : Memory → SProp 𝓤) (run : Routine → Fun 𝓤) where
@@ -38,10 +38,10 @@ module _ {M : Type 1} {𝓤 : Ura M} (𝓛 : Logic 𝓤) (mem : Memory → SProp
   Asked = triple_of 𝓛 callee'.signature (callee'.spec 𝓛 mem run)
 
   abbrev pub to-step-s : (ν-work : ℕ) (δ-work : GName) (b-work o-work n-work : ℕ) (work : List ℕ) (nodes : ℕ) → Asked.Ghost
-  to-step-s ν-work δ-work b-work o-work n-work work nodes = ((((ν-work ∷ []), tt), (full_share, tt), tt, (nodes, (at-list b-work o-work δ-work work, tt)), (vint w32 nodes ∷ [], (slice_val (b-work, o-work) n-work ∷ [], tt))), tt)
+  to-step-s ν-work δ-work b-work o-work n-work work nodes = ((((ν-work ∷ []), tt), (full_share, tt), tt, (nodes, (at_list b-work o-work δ-work work, tt)), (vint w32 nodes ∷ [], (slice_val (b-work, o-work) n-work ∷ [], tt))), tt)
 
-  pub goes-step-s : (ν-work : ℕ) (δ-work : GName) (b-work o-work n-work : ℕ) (work : List ℕ) (nodes : ℕ) → (nodes-good : nodes < 2 ^ 32) → ent 𝓤 (⋆ 𝓛 (‵ (flft (ν-work ∷ []) full_share) ∷ ‵ ((ShrSlice (named 0) (ν-work ∷ []) u32).own_val (at-list b-work o-work δ-work work) (slice_val (b-work, o-work) n-work ∷ [])) ∷ [])) (Asked.pre (to-step-s ν-work δ-work b-work o-work n-work work nodes))
-  goes-step-s ν-work δ-work b-work o-work n-work work nodes nodes-good = qed 𝓛 (‵ (flft (ν-work ∷ []) full_share) ∷ ‵ ((ShrSlice (named 0) (ν-work ∷ []) u32).own_val (at-list b-work o-work δ-work work) (slice_val (b-work, o-work) n-work ∷ [])) ∷ []) ∵ nothing ! $ move ! (1 ∷ 0 ∷ []) $ group ! 2 $ move ! (1 ∷ 0 ∷ []) $
+  pub goes-step-s : (ν-work : ℕ) (δ-work : GName) (b-work o-work n-work : ℕ) (work : List ℕ) (nodes : ℕ) → (nodes-good : nodes < 2 ^ 32) → ent 𝓤 (⋆ 𝓛 (‵ (flft (ν-work ∷ []) full_share) ∷ ‵ ((ShrSlice (named 0) (ν-work ∷ []) u32).own_val (at_list b-work o-work δ-work work) (slice_val (b-work, o-work) n-work ∷ [])) ∷ [])) (Asked.pre (to-step-s ν-work δ-work b-work o-work n-work work nodes))
+  goes-step-s ν-work δ-work b-work o-work n-work work nodes nodes-good = qed 𝓛 (‵ (flft (ν-work ∷ []) full_share) ∷ ‵ ((ShrSlice (named 0) (ν-work ∷ []) u32).own_val (at_list b-work o-work δ-work work) (slice_val (b-work, o-work) n-work ∷ [])) ∷ []) ∵ nothing ! $ move ! (1 ∷ 0 ∷ []) $ group ! 2 $ move ! (1 ∷ 0 ∷ []) $
       nothing ! $ move ! (1 ∷ 0 ∷ []) $ fjoin ! $ owned ! u32 (Is u32) (uint_Makes 𝓛 w32) nodes _ (refl, nodes-good) $ fjoin ! $ move ! (1 ∷ 0 ∷ []) $ join ! $ frame ! $ done !
 
 module _ {M : Type 1} {𝓤 : Ura M} {𝓛 : Logic 𝓤} {K : Type 0} (mem : Memory → SProp 𝓤) (run : Routine → Fun 𝓤)
@@ -50,14 +50,14 @@ module _ {M : Type 1} {𝓤 : Ura M} {𝓛 : Logic 𝓤} {K : Type 0} (mem : Mem
 
   pub step-s : K → FmC 𝓤 H 𝓛.laws C → Triple 𝓤 (C name') (Asked 𝓛 mem run) → {κ-work : Lft} {q-work : Share} {γ-work : GName} → (b-work o-work n-work : ℕ) (work : List ℕ) (nodes : ℕ) → (nodes-good : nodes < 2 ^ 32) → length work ≡ n-work → Room u32 n-work →
       ((ν-work : ℕ) (δ-work : GName) → Opds K 𝓛 (raw ((Asked 𝓛 mem run).pre (to-step-s 𝓛 mem run ν-work δ-work b-work o-work n-work work nodes)) ∷ ‵ (Shown u32 κ-work (ν-work ∷ []) q-work γ-work b-work o-work work) ∷ Γ) E opds' (vint w32 nodes ∷ slice_val (b-work, o-work) n-work ∷ [])) →
-      ((res' : ℕ) → res' < 2 ^ 32 → res' ≡ cond (ltb (length work) nodes) (refusalNumber Work) 0 → Seq K 𝓛 (‵ (Mine u32 κ-work q-work γ-work b-work o-work n-work work) ∷ Γ) (lands C Λ E dest' (vint w32 res') rest' post')) →
+      ((res' : ℕ) → res' < 2 ^ 32 → res' ≡ cond (ltb (length work) nodes) (refusal_number Work) 0 → Seq K 𝓛 (‵ (Mine u32 κ-work q-work γ-work b-work o-work n-work work) ∷ Γ) (lands C Λ E dest' (vint w32 res') rest' post')) →
       Seq K 𝓛 (‵ (Mine u32 κ-work q-work γ-work b-work o-work n-work work) ∷ Γ) (runs C Λ E (seq (call name' opds' dest') rest') post')
   step-s t' fm' known' {κ-work} {q-work} {γ-work} b-work o-work n-work work nodes nodes-good len-work room-work os' k' =
       show t' tt u32 b-work o-work n-work work len-work (λ ν-work δ-work.
       move t' (0 ∷ 1 ∷ []) $ group t' 2 $ use1 𝓛 (raw ((Asked 𝓛 mem run).pre (to-step-s 𝓛 mem run ν-work δ-work b-work o-work n-work work nodes))) (goes-step-s 𝓛 mem run ν-work δ-work b-work o-work n-work work nodes nodes-good) $
       calls_at t' fm' (Asked 𝓛 mem run) known' (to-step-s 𝓛 mem run ν-work δ-work b-work o-work n-work work nodes) (os' ν-work δ-work) (λ w'.
-      use1 𝓛 (later (some (λ (res' : ℕ). ((‵ (flft (ν-work ∷ []) full_share) ⊛ ‵ ftrue) ⊛ ‵ (u32.own_val res' (w' ∷ []))) ⊛ raw (ensured 𝓛 callee'.ended (callee'.clauses 𝓛 mem run) ((ν-work ∷ []), tt) (nodes, (at-list b-work o-work δ-work work, tt)) tt res')))) (id⊢ 𝓤 _) $ await t' tt $ pick t' (λ res'. split t' $ move t' (1 ∷ []) $
-      use1 𝓛 (some (λ (zs' : Unit {0} × (Unit {0} × Unit {0})). ‵ (lasts callee'.ended ((ν-work ∷ []), tt) (nodes, (at-list b-work o-work δ-work work, tt)) zs') ⊛ raw (fact 𝓤 (res' ≡ cond (ltb (length work) nodes) (refusalNumber Work) 0)))) (id⊢ 𝓤 _) $ pick t' (λ zs'. split t' $ move t' (1 ∷ []) $ heard t' (res' ≡ cond (ltb (length work) nodes) (refusalNumber Work) 0) (λ e'.
+      use1 𝓛 (later (some (λ (res' : ℕ). ((‵ (flft (ν-work ∷ []) full_share) ⊛ ‵ ftrue) ⊛ ‵ (u32.own_val res' (w' ∷ []))) ⊛ raw (ensured 𝓛 callee'.ended (callee'.clauses 𝓛 mem run) ((ν-work ∷ []), tt) (nodes, (at_list b-work o-work δ-work work, tt)) tt res')))) (id⊢ 𝓤 _) $ await t' tt $ pick t' (λ res'. split t' $ move t' (1 ∷ []) $
+      use1 𝓛 (some (λ (zs' : Unit {0} × (Unit {0} × Unit {0})). ‵ (lasts callee'.ended ((ν-work ∷ []), tt) (nodes, (at_list b-work o-work δ-work work, tt)) zs') ⊛ raw (fact 𝓤 (res' ≡ cond (ltb (length work) nodes) (refusal_number Work) 0)))) (id⊢ 𝓤 _) $ pick t' (λ zs'. split t' $ move t' (1 ∷ []) $ heard t' (res' ≡ cond (ltb (length work) nodes) (refusal_number Work) 0) (λ e'.
       fsplit t' $ drop t' $ fsplit t' $ drop t' $ drop t' $
       move t' (0 ∷ []) $ split t' $ move t' (1 ∷ []) $ peeks t' u32 (Is u32) (shows 𝓛 u32) res' (w' ∷ []) (λ is'. drop t' $ split t' $ move t' (1 ∷ []) $ drop t' $
       move t' (0 ∷ 1 ∷ []) $ back t' tt u32 b-work o-work n-work work len-work room-work $

@@ -28,13 +28,13 @@ use denote.Triple.Statement.{Contract, Triple}
 use denote.Triple.Call.{calls_at, calls_at_last}
 use denote.Triple.Clauses.{ensured, lasts}
 use denote.Triple.Walked.{says}
-use Rattle.image.specs.Widths.{nodeWords}
-use Rattle.image.specs.Image.{nodeCount, placeCount, image_of, imageBytes, Lengths, stored}
+use Rattle.image.specs.Widths.{node_words}
+use Rattle.image.specs.Image.{node_count, place_count, image_of, image_bytes, Lengths, stored}
 use Rattle.soundness.specs.Layout.{two_words}
 use Rattle.frames.specs.contracts.Frame as M-Frame
 use Rattle.frames.proofs.Frame.TheLaws as L-Frame
 use Rattle.frames.specs.declared.Frame.{Frame}
-use Rattle.frames.proofs.Lent.{at-list, Mine, Yours, Lent, Shown, lend, home, show, back, give}
+use Rattle.frames.proofs.Lent.{at_list, Mine, Yours, Lent, Shown, lend, home, show, back, give}
 use Rattle.image.specs.contracts.write_image as callee'
 
 abbrev R-Frame : RattleType
@@ -48,26 +48,26 @@ module _ {M : Type 1} {𝓤 : Ura M} (𝓛 : Logic 𝓤) (mem : Memory → SProp
   Asked = triple_of 𝓛 callee'.signature (callee'.spec 𝓛 mem run)
 
   abbrev pub to-step-gggg : (κ-numbers : Lft) (q-numbers : Share) (γ-numbers : GName) (κ-deques : Lft) (q-deques : Share) (γ-deques : GName) (κ-frames : Lft) (q-frames : Share) (γ-frames : GName) (κ-pool : Lft) (q-pool : Share) (γ-pool : GName) (ν-target : ℕ) (δ-target : GName) (b-numbers o-numbers n-numbers : ℕ) (numbers : List ℕ) (b-deques o-deques n-deques : ℕ) (deques : List ℕ) (b-frames o-frames n-frames : ℕ) (frames : List Frame) (b-pool o-pool n-pool : ℕ) (pool : List ℕ) (b-target o-target n-target : ℕ) (target : List ℕ) → Asked.Ghost
-  to-step-gggg κ-numbers q-numbers γ-numbers κ-deques q-deques γ-deques κ-frames q-frames γ-frames κ-pool q-pool γ-pool ν-target δ-target b-numbers o-numbers n-numbers numbers b-deques o-deques n-deques deques b-frames o-frames n-frames frames b-pool o-pool n-pool pool b-target o-target n-target target = (((κ-numbers, (κ-deques, (κ-frames, (κ-pool, ((ν-target ∷ []), tt))))), (q-numbers, (q-deques, (q-frames, (q-pool, (full_share, tt))))), tt, (at-list b-numbers o-numbers γ-numbers numbers, (at-list b-deques o-deques γ-deques deques, (at-list b-frames o-frames γ-frames frames, (at-list b-pool o-pool γ-pool pool, (at-list b-target o-target δ-target target, tt))))), (slice_val (b-numbers, o-numbers) n-numbers ∷ [], (slice_val (b-deques, o-deques) n-deques ∷ [], (slice_val (b-frames, o-frames) n-frames ∷ [], (slice_val (b-pool, o-pool) n-pool ∷ [], (slice_val (b-target, o-target) n-target ∷ [], tt)))))), tt)
+  to-step-gggg κ-numbers q-numbers γ-numbers κ-deques q-deques γ-deques κ-frames q-frames γ-frames κ-pool q-pool γ-pool ν-target δ-target b-numbers o-numbers n-numbers numbers b-deques o-deques n-deques deques b-frames o-frames n-frames frames b-pool o-pool n-pool pool b-target o-target n-target target = (((κ-numbers, (κ-deques, (κ-frames, (κ-pool, ((ν-target ∷ []), tt))))), (q-numbers, (q-deques, (q-frames, (q-pool, (full_share, tt))))), tt, (at_list b-numbers o-numbers γ-numbers numbers, (at_list b-deques o-deques γ-deques deques, (at_list b-frames o-frames γ-frames frames, (at_list b-pool o-pool γ-pool pool, (at_list b-target o-target δ-target target, tt))))), (slice_val (b-numbers, o-numbers) n-numbers ∷ [], (slice_val (b-deques, o-deques) n-deques ∷ [], (slice_val (b-frames, o-frames) n-frames ∷ [], (slice_val (b-pool, o-pool) n-pool ∷ [], (slice_val (b-target, o-target) n-target ∷ [], tt)))))), tt)
 
-  pub goes-step-gggg : (κ-numbers : Lft) (q-numbers : Share) (γ-numbers : GName) (κ-deques : Lft) (q-deques : Share) (γ-deques : GName) (κ-frames : Lft) (q-frames : Share) (γ-frames : GName) (κ-pool : Lft) (q-pool : Share) (γ-pool : GName) (ν-target : ℕ) (δ-target : GName) (b-numbers o-numbers n-numbers : ℕ) (numbers : List ℕ) (b-deques o-deques n-deques : ℕ) (deques : List ℕ) (b-frames o-frames n-frames : ℕ) (frames : List Frame) (b-pool o-pool n-pool : ℕ) (pool : List ℕ) (b-target o-target n-target : ℕ) (target : List ℕ) → (ok' : Lengths numbers deques frames × (nodeWords * nodeCount numbers ≤ length pool) × (imageBytes two_words (placeCount numbers) (nodeCount numbers) ≤ length target)) → ent 𝓤 (⋆ 𝓛 (‵ (flft κ-numbers q-numbers) ∷ ‵ (flft κ-deques q-deques) ∷ ‵ (flft κ-frames q-frames) ∷ ‵ (flft κ-pool q-pool) ∷ ‵ (flft (ν-target ∷ []) full_share) ∷ ‵ ((ShrSlice (named 0) κ-numbers u32).own_val (at-list b-numbers o-numbers γ-numbers numbers) (slice_val (b-numbers, o-numbers) n-numbers ∷ [])) ∷ ‵ ((ShrSlice (named 0) κ-deques u32).own_val (at-list b-deques o-deques γ-deques deques) (slice_val (b-deques, o-deques) n-deques ∷ [])) ∷ ‵ ((ShrSlice (named 0) κ-frames R-Frame).own_val (at-list b-frames o-frames γ-frames frames) (slice_val (b-frames, o-frames) n-frames ∷ [])) ∷ ‵ ((ShrSlice (named 0) κ-pool u32).own_val (at-list b-pool o-pool γ-pool pool) (slice_val (b-pool, o-pool) n-pool ∷ [])) ∷ ‵ ((MutSlice (named 0) (ν-target ∷ []) u8).own_val (at-list b-target o-target δ-target target) (slice_val (b-target, o-target) n-target ∷ [])) ∷ [])) (Asked.pre (to-step-gggg κ-numbers q-numbers γ-numbers κ-deques q-deques γ-deques κ-frames q-frames γ-frames κ-pool q-pool γ-pool ν-target δ-target b-numbers o-numbers n-numbers numbers b-deques o-deques n-deques deques b-frames o-frames n-frames frames b-pool o-pool n-pool pool b-target o-target n-target target))
-  goes-step-gggg κ-numbers q-numbers γ-numbers κ-deques q-deques γ-deques κ-frames q-frames γ-frames κ-pool q-pool γ-pool ν-target δ-target b-numbers o-numbers n-numbers numbers b-deques o-deques n-deques deques b-frames o-frames n-frames frames b-pool o-pool n-pool pool b-target o-target n-target target ok' = qed 𝓛 (‵ (flft κ-numbers q-numbers) ∷ ‵ (flft κ-deques q-deques) ∷ ‵ (flft κ-frames q-frames) ∷ ‵ (flft κ-pool q-pool) ∷ ‵ (flft (ν-target ∷ []) full_share) ∷ ‵ ((ShrSlice (named 0) κ-numbers u32).own_val (at-list b-numbers o-numbers γ-numbers numbers) (slice_val (b-numbers, o-numbers) n-numbers ∷ [])) ∷ ‵ ((ShrSlice (named 0) κ-deques u32).own_val (at-list b-deques o-deques γ-deques deques) (slice_val (b-deques, o-deques) n-deques ∷ [])) ∷ ‵ ((ShrSlice (named 0) κ-frames R-Frame).own_val (at-list b-frames o-frames γ-frames frames) (slice_val (b-frames, o-frames) n-frames ∷ [])) ∷ ‵ ((ShrSlice (named 0) κ-pool u32).own_val (at-list b-pool o-pool γ-pool pool) (slice_val (b-pool, o-pool) n-pool ∷ [])) ∷ ‵ ((MutSlice (named 0) (ν-target ∷ []) u8).own_val (at-list b-target o-target δ-target target) (slice_val (b-target, o-target) n-target ∷ [])) ∷ []) ∵ says ! ok' $ nothing ! $ move ! (1 ∷ 2 ∷ 3 ∷ 4 ∷ 5 ∷ 0 ∷ []) $ group ! 6 $ frame ! $
+  pub goes-step-gggg : (κ-numbers : Lft) (q-numbers : Share) (γ-numbers : GName) (κ-deques : Lft) (q-deques : Share) (γ-deques : GName) (κ-frames : Lft) (q-frames : Share) (γ-frames : GName) (κ-pool : Lft) (q-pool : Share) (γ-pool : GName) (ν-target : ℕ) (δ-target : GName) (b-numbers o-numbers n-numbers : ℕ) (numbers : List ℕ) (b-deques o-deques n-deques : ℕ) (deques : List ℕ) (b-frames o-frames n-frames : ℕ) (frames : List Frame) (b-pool o-pool n-pool : ℕ) (pool : List ℕ) (b-target o-target n-target : ℕ) (target : List ℕ) → (ok' : Lengths numbers deques frames × (node_words * node_count numbers ≤ length pool) × (image_bytes two_words (place_count numbers) (node_count numbers) ≤ length target)) → ent 𝓤 (⋆ 𝓛 (‵ (flft κ-numbers q-numbers) ∷ ‵ (flft κ-deques q-deques) ∷ ‵ (flft κ-frames q-frames) ∷ ‵ (flft κ-pool q-pool) ∷ ‵ (flft (ν-target ∷ []) full_share) ∷ ‵ ((ShrSlice (named 0) κ-numbers u32).own_val (at_list b-numbers o-numbers γ-numbers numbers) (slice_val (b-numbers, o-numbers) n-numbers ∷ [])) ∷ ‵ ((ShrSlice (named 0) κ-deques u32).own_val (at_list b-deques o-deques γ-deques deques) (slice_val (b-deques, o-deques) n-deques ∷ [])) ∷ ‵ ((ShrSlice (named 0) κ-frames R-Frame).own_val (at_list b-frames o-frames γ-frames frames) (slice_val (b-frames, o-frames) n-frames ∷ [])) ∷ ‵ ((ShrSlice (named 0) κ-pool u32).own_val (at_list b-pool o-pool γ-pool pool) (slice_val (b-pool, o-pool) n-pool ∷ [])) ∷ ‵ ((MutSlice (named 0) (ν-target ∷ []) u8).own_val (at_list b-target o-target δ-target target) (slice_val (b-target, o-target) n-target ∷ [])) ∷ [])) (Asked.pre (to-step-gggg κ-numbers q-numbers γ-numbers κ-deques q-deques γ-deques κ-frames q-frames γ-frames κ-pool q-pool γ-pool ν-target δ-target b-numbers o-numbers n-numbers numbers b-deques o-deques n-deques deques b-frames o-frames n-frames frames b-pool o-pool n-pool pool b-target o-target n-target target))
+  goes-step-gggg κ-numbers q-numbers γ-numbers κ-deques q-deques γ-deques κ-frames q-frames γ-frames κ-pool q-pool γ-pool ν-target δ-target b-numbers o-numbers n-numbers numbers b-deques o-deques n-deques deques b-frames o-frames n-frames frames b-pool o-pool n-pool pool b-target o-target n-target target ok' = qed 𝓛 (‵ (flft κ-numbers q-numbers) ∷ ‵ (flft κ-deques q-deques) ∷ ‵ (flft κ-frames q-frames) ∷ ‵ (flft κ-pool q-pool) ∷ ‵ (flft (ν-target ∷ []) full_share) ∷ ‵ ((ShrSlice (named 0) κ-numbers u32).own_val (at_list b-numbers o-numbers γ-numbers numbers) (slice_val (b-numbers, o-numbers) n-numbers ∷ [])) ∷ ‵ ((ShrSlice (named 0) κ-deques u32).own_val (at_list b-deques o-deques γ-deques deques) (slice_val (b-deques, o-deques) n-deques ∷ [])) ∷ ‵ ((ShrSlice (named 0) κ-frames R-Frame).own_val (at_list b-frames o-frames γ-frames frames) (slice_val (b-frames, o-frames) n-frames ∷ [])) ∷ ‵ ((ShrSlice (named 0) κ-pool u32).own_val (at_list b-pool o-pool γ-pool pool) (slice_val (b-pool, o-pool) n-pool ∷ [])) ∷ ‵ ((MutSlice (named 0) (ν-target ∷ []) u8).own_val (at_list b-target o-target δ-target target) (slice_val (b-target, o-target) n-target ∷ [])) ∷ []) ∵ says ! ok' $ nothing ! $ move ! (1 ∷ 2 ∷ 3 ∷ 4 ∷ 5 ∷ 0 ∷ []) $ group ! 6 $ frame ! $
       nothing ! $ move ! (5 ∷ 0 ∷ []) $ fjoin ! $ move ! (4 ∷ 0 ∷ []) $ fjoin ! $ move ! (3 ∷ 0 ∷ []) $ fjoin ! $ move ! (2 ∷ 0 ∷ []) $ fjoin ! $ move ! (1 ∷ 0 ∷ []) $ fjoin ! $ done !
 
 module _ {M : Type 1} {𝓤 : Ura M} {𝓛 : Logic 𝓤} {K : Type 0} (mem : Memory → SProp 𝓤) (run : Routine → Fun 𝓤)
     {Γ : List (Item 𝓤)} {E : Env 𝓤 𝓛.H} {C : Calls 𝓤 𝓛.H} {Λ : Loops 𝓤 𝓛.H} {post' : Post 𝓤 𝓛.H} {dest' : Place} {name' : Name} {opds' : List Operand} {rest' : Body} where
   open 𝓛 use {H}
 
-  pub step-gggg : K → FmC 𝓤 H 𝓛.laws C → Triple 𝓤 (C name') (Asked 𝓛 mem run) → {κ-numbers : Lft} {q-numbers : Share} {γ-numbers : GName} {κ-deques : Lft} {q-deques : Share} {γ-deques : GName} {κ-frames : Lft} {q-frames : Share} {γ-frames : GName} {κ-pool : Lft} {q-pool : Share} {γ-pool : GName} {κ-target : Lft} {q-target : Share} {γ-target : GName} → (b-numbers o-numbers n-numbers : ℕ) (numbers : List ℕ) (b-deques o-deques n-deques : ℕ) (deques : List ℕ) (b-frames o-frames n-frames : ℕ) (frames : List Frame) (b-pool o-pool n-pool : ℕ) (pool : List ℕ) (b-target o-target n-target : ℕ) (target : List ℕ) → Lengths numbers deques frames × (nodeWords * nodeCount numbers ≤ length pool) × (imageBytes two_words (placeCount numbers) (nodeCount numbers) ≤ length target) → length target ≡ n-target → Room u8 n-target →
-      ((ν-target : ℕ) (δ-target : GName) → Opds K 𝓛 (raw ((Asked 𝓛 mem run).pre (to-step-gggg 𝓛 mem run κ-numbers q-numbers γ-numbers κ-deques q-deques γ-deques κ-frames q-frames γ-frames κ-pool q-pool γ-pool ν-target δ-target b-numbers o-numbers n-numbers numbers b-deques o-deques n-deques deques b-frames o-frames n-frames frames b-pool o-pool n-pool pool b-target o-target n-target target)) ∷ ‵ (Lent u8 κ-target (ν-target ∷ []) q-target γ-target b-target o-target δ-target target) ∷ ‵ ((ShrSlice (named 0) κ-pool u32).own_val (at-list b-pool o-pool γ-pool pool) (slice_val (b-pool, o-pool) n-pool ∷ [])) ∷ ‵ ((ShrSlice (named 0) κ-frames R-Frame).own_val (at-list b-frames o-frames γ-frames frames) (slice_val (b-frames, o-frames) n-frames ∷ [])) ∷ ‵ ((ShrSlice (named 0) κ-deques u32).own_val (at-list b-deques o-deques γ-deques deques) (slice_val (b-deques, o-deques) n-deques ∷ [])) ∷ ‵ ((ShrSlice (named 0) κ-numbers u32).own_val (at-list b-numbers o-numbers γ-numbers numbers) (slice_val (b-numbers, o-numbers) n-numbers ∷ [])) ∷ Γ) E opds' (slice_val (b-numbers, o-numbers) n-numbers ∷ slice_val (b-deques, o-deques) n-deques ∷ slice_val (b-frames, o-frames) n-frames ∷ slice_val (b-pool, o-pool) n-pool ∷ slice_val (b-target, o-target) n-target ∷ [])) →
+  pub step-gggg : K → FmC 𝓤 H 𝓛.laws C → Triple 𝓤 (C name') (Asked 𝓛 mem run) → {κ-numbers : Lft} {q-numbers : Share} {γ-numbers : GName} {κ-deques : Lft} {q-deques : Share} {γ-deques : GName} {κ-frames : Lft} {q-frames : Share} {γ-frames : GName} {κ-pool : Lft} {q-pool : Share} {γ-pool : GName} {κ-target : Lft} {q-target : Share} {γ-target : GName} → (b-numbers o-numbers n-numbers : ℕ) (numbers : List ℕ) (b-deques o-deques n-deques : ℕ) (deques : List ℕ) (b-frames o-frames n-frames : ℕ) (frames : List Frame) (b-pool o-pool n-pool : ℕ) (pool : List ℕ) (b-target o-target n-target : ℕ) (target : List ℕ) → Lengths numbers deques frames × (node_words * node_count numbers ≤ length pool) × (image_bytes two_words (place_count numbers) (node_count numbers) ≤ length target) → length target ≡ n-target → Room u8 n-target →
+      ((ν-target : ℕ) (δ-target : GName) → Opds K 𝓛 (raw ((Asked 𝓛 mem run).pre (to-step-gggg 𝓛 mem run κ-numbers q-numbers γ-numbers κ-deques q-deques γ-deques κ-frames q-frames γ-frames κ-pool q-pool γ-pool ν-target δ-target b-numbers o-numbers n-numbers numbers b-deques o-deques n-deques deques b-frames o-frames n-frames frames b-pool o-pool n-pool pool b-target o-target n-target target)) ∷ ‵ (Lent u8 κ-target (ν-target ∷ []) q-target γ-target b-target o-target δ-target target) ∷ ‵ ((ShrSlice (named 0) κ-pool u32).own_val (at_list b-pool o-pool γ-pool pool) (slice_val (b-pool, o-pool) n-pool ∷ [])) ∷ ‵ ((ShrSlice (named 0) κ-frames R-Frame).own_val (at_list b-frames o-frames γ-frames frames) (slice_val (b-frames, o-frames) n-frames ∷ [])) ∷ ‵ ((ShrSlice (named 0) κ-deques u32).own_val (at_list b-deques o-deques γ-deques deques) (slice_val (b-deques, o-deques) n-deques ∷ [])) ∷ ‵ ((ShrSlice (named 0) κ-numbers u32).own_val (at_list b-numbers o-numbers γ-numbers numbers) (slice_val (b-numbers, o-numbers) n-numbers ∷ [])) ∷ Γ) E opds' (slice_val (b-numbers, o-numbers) n-numbers ∷ slice_val (b-deques, o-deques) n-deques ∷ slice_val (b-frames, o-frames) n-frames ∷ slice_val (b-pool, o-pool) n-pool ∷ slice_val (b-target, o-target) n-target ∷ [])) →
       ((zs-target : List ℕ) → zs-target ≡ stored (image_of two_words numbers deques frames pool) target → length zs-target ≡ length target → Seq K 𝓛 (‵ (Yours u32 κ-numbers q-numbers γ-numbers b-numbers o-numbers n-numbers numbers) ∷ ‵ (Yours u32 κ-deques q-deques γ-deques b-deques o-deques n-deques deques) ∷ ‵ (Yours R-Frame κ-frames q-frames γ-frames b-frames o-frames n-frames frames) ∷ ‵ (Yours u32 κ-pool q-pool γ-pool b-pool o-pool n-pool pool) ∷ ‵ (Mine u8 κ-target q-target γ-target b-target o-target n-target zs-target) ∷ Γ) (lands C Λ E dest' (vunit) rest' post')) →
       Seq K 𝓛 (‵ (Yours u32 κ-numbers q-numbers γ-numbers b-numbers o-numbers n-numbers numbers) ∷ ‵ (Yours u32 κ-deques q-deques γ-deques b-deques o-deques n-deques deques) ∷ ‵ (Yours R-Frame κ-frames q-frames γ-frames b-frames o-frames n-frames frames) ∷ ‵ (Yours u32 κ-pool q-pool γ-pool b-pool o-pool n-pool pool) ∷ ‵ (Mine u8 κ-target q-target γ-target b-target o-target n-target target) ∷ Γ) (runs C Λ E (seq (call name' opds' dest') rest') post')
   step-gggg t' fm' known' {κ-numbers} {q-numbers} {γ-numbers} {κ-deques} {q-deques} {γ-deques} {κ-frames} {q-frames} {γ-frames} {κ-pool} {q-pool} {γ-pool} {κ-target} {q-target} {γ-target} b-numbers o-numbers n-numbers numbers b-deques o-deques n-deques deques b-frames o-frames n-frames frames b-pool o-pool n-pool pool b-target o-target n-target target ok' len-target room-target os' k' =
       give t' u32 b-numbers o-numbers n-numbers numbers $ move t' (3 ∷ []) $ give t' u32 b-deques o-deques n-deques deques $ move t' (6 ∷ []) $ give t' R-Frame b-frames o-frames n-frames frames $ move t' (9 ∷ []) $ give t' u32 b-pool o-pool n-pool pool $ move t' (12 ∷ []) $ lend t' tt u8 b-target o-target n-target target len-target (λ ν-target δ-target.
       move t' (12 ∷ 9 ∷ 6 ∷ 3 ∷ 0 ∷ 13 ∷ 10 ∷ 7 ∷ 4 ∷ 1 ∷ []) $ group t' 10 $ use1 𝓛 (raw ((Asked 𝓛 mem run).pre (to-step-gggg 𝓛 mem run κ-numbers q-numbers γ-numbers κ-deques q-deques γ-deques κ-frames q-frames γ-frames κ-pool q-pool γ-pool ν-target δ-target b-numbers o-numbers n-numbers numbers b-deques o-deques n-deques deques b-frames o-frames n-frames frames b-pool o-pool n-pool pool b-target o-target n-target target))) (goes-step-gggg 𝓛 mem run κ-numbers q-numbers γ-numbers κ-deques q-deques γ-deques κ-frames q-frames γ-frames κ-pool q-pool γ-pool ν-target δ-target b-numbers o-numbers n-numbers numbers b-deques o-deques n-deques deques b-frames o-frames n-frames frames b-pool o-pool n-pool pool b-target o-target n-target target ok') $
       calls_at t' fm' (Asked 𝓛 mem run) known' (to-step-gggg 𝓛 mem run κ-numbers q-numbers γ-numbers κ-deques q-deques γ-deques κ-frames q-frames γ-frames κ-pool q-pool γ-pool ν-target δ-target b-numbers o-numbers n-numbers numbers b-deques o-deques n-deques deques b-frames o-frames n-frames frames b-pool o-pool n-pool pool b-target o-target n-target target) (os' ν-target δ-target) (λ w'.
-      use1 𝓛 (later (some (λ (res' : Unit {0}). ((‵ (flft κ-numbers q-numbers) ⊛ (‵ (flft κ-deques q-deques) ⊛ (‵ (flft κ-frames q-frames) ⊛ (‵ (flft κ-pool q-pool) ⊛ (‵ (flft (ν-target ∷ []) full_share) ⊛ ‵ ftrue))))) ⊛ ‵ (unit.own_val res' (w' ∷ []))) ⊛ raw (ensured 𝓛 callee'.ended (callee'.clauses 𝓛 mem run) (κ-numbers, (κ-deques, (κ-frames, (κ-pool, ((ν-target ∷ []), tt))))) (at-list b-numbers o-numbers γ-numbers numbers, (at-list b-deques o-deques γ-deques deques, (at-list b-frames o-frames γ-frames frames, (at-list b-pool o-pool γ-pool pool, (at-list b-target o-target δ-target target, tt))))) tt res')))) (id⊢ 𝓤 _) $ await t' tt $ pick t' (λ res'. split t' $ move t' (1 ∷ []) $
-      use1 𝓛 (some (λ (zs' : Unit {0} × (Unit {0} × (Unit {0} × (Unit {0} × (List ℕ × Unit {0}))))). ‵ (lasts callee'.ended (κ-numbers, (κ-deques, (κ-frames, (κ-pool, ((ν-target ∷ []), tt))))) (at-list b-numbers o-numbers γ-numbers numbers, (at-list b-deques o-deques γ-deques deques, (at-list b-frames o-frames γ-frames frames, (at-list b-pool o-pool γ-pool pool, (at-list b-target o-target δ-target target, tt))))) zs') ⊛ raw (fact 𝓤 (zs'.1.1.1.1.0 ≡ stored (image_of two_words numbers deques frames pool) target)))) (id⊢ 𝓤 _) $ pick t' (λ zs'. split t' $ move t' (1 ∷ []) $ heard t' (zs'.1.1.1.1.0 ≡ stored (image_of two_words numbers deques frames pool) target) (λ e'.
+      use1 𝓛 (later (some (λ (res' : Unit {0}). ((‵ (flft κ-numbers q-numbers) ⊛ (‵ (flft κ-deques q-deques) ⊛ (‵ (flft κ-frames q-frames) ⊛ (‵ (flft κ-pool q-pool) ⊛ (‵ (flft (ν-target ∷ []) full_share) ⊛ ‵ ftrue))))) ⊛ ‵ (unit.own_val res' (w' ∷ []))) ⊛ raw (ensured 𝓛 callee'.ended (callee'.clauses 𝓛 mem run) (κ-numbers, (κ-deques, (κ-frames, (κ-pool, ((ν-target ∷ []), tt))))) (at_list b-numbers o-numbers γ-numbers numbers, (at_list b-deques o-deques γ-deques deques, (at_list b-frames o-frames γ-frames frames, (at_list b-pool o-pool γ-pool pool, (at_list b-target o-target δ-target target, tt))))) tt res')))) (id⊢ 𝓤 _) $ await t' tt $ pick t' (λ res'. split t' $ move t' (1 ∷ []) $
+      use1 𝓛 (some (λ (zs' : Unit {0} × (Unit {0} × (Unit {0} × (Unit {0} × (List ℕ × Unit {0}))))). ‵ (lasts callee'.ended (κ-numbers, (κ-deques, (κ-frames, (κ-pool, ((ν-target ∷ []), tt))))) (at_list b-numbers o-numbers γ-numbers numbers, (at_list b-deques o-deques γ-deques deques, (at_list b-frames o-frames γ-frames frames, (at_list b-pool o-pool γ-pool pool, (at_list b-target o-target δ-target target, tt))))) zs') ⊛ raw (fact 𝓤 (zs'.1.1.1.1.0 ≡ stored (image_of two_words numbers deques frames pool) target)))) (id⊢ 𝓤 _) $ pick t' (λ zs'. split t' $ move t' (1 ∷ []) $ heard t' (zs'.1.1.1.1.0 ≡ stored (image_of two_words numbers deques frames pool) target) (λ e'.
       fsplit t' $ drop t' $ fsplit t' $ drop t' $ fsplit t' $ drop t' $ fsplit t' $ drop t' $ fsplit t' $ fsplit t' $ move t' (1 ∷ []) $ feq_l t' (λ same_target. move t' (1 ∷ []) $ drop t' $
       move t' (1 ∷ []) $ split t' $ move t' (1 ∷ []) $ peeks t' unit (Is unit) (shows 𝓛 unit) res' (w' ∷ []) (λ is'. drop t' $ split t' $ move t' (1 ∷ []) $ split t' $ move t' (1 ∷ []) $ split t' $ move t' (1 ∷ []) $ split t' $ move t' (1 ∷ []) $ split t' $ move t' (1 ∷ []) $ drop t' $
       move t' (0 ∷ 6 ∷ 5 ∷ []) $ home t' tt u8 b-target o-target n-target target zs'.1.1.1.1.0 len-target room-target same_target $ move t' (5 ∷ 1 ∷ []) $ fjoin t' $ move t' (5 ∷ 2 ∷ []) $ fjoin t' $ move t' (5 ∷ 3 ∷ []) $ fjoin t' $ move t' (5 ∷ 4 ∷ []) $ fjoin t' $

@@ -28,14 +28,14 @@ use denote.Triple.Statement.{Contract, Triple}
 use denote.Triple.Call.{calls_at, calls_at_last}
 use denote.Triple.Clauses.{ensured, lasts}
 use denote.Triple.Walked.{says}
-use Rattle.engine.specs.Promises.{renewed, headAfter}
+use Rattle.engine.specs.Promises.{renewed, head_after}
 use Rattle.semantics.specs.contracts.Head as M-Head
 use Rattle.semantics.proofs.Head.TheLaws as L-Head
 use Rattle.semantics.specs.declared.Head.{Head}
 use Rattle.engine.specs.contracts.Out as M-Out
 use Rattle.engine.proofs.Out.TheLaws as L-Out
 use Rattle.engine.specs.declared.Out.{Out}
-use Rattle.frames.proofs.Lent.{at-list, Mine, Yours, Lent, Shown, lend, home, show, back, give}
+use Rattle.frames.proofs.Lent.{at_list, Mine, Yours, Lent, Shown, lend, home, show, back, give}
 use Rattle.engine.specs.contracts.kinds.written as callee'
 
 abbrev R-Head : RattleType
@@ -54,26 +54,26 @@ module _ {M : Type 1} {𝓤 : Ura M} (𝓛 : Logic 𝓤) (mem : Memory → SProp
   abbrev pub Asked : Contract 𝓤
   Asked = triple_of 𝓛 callee'.signature (callee'.spec 𝓛 mem run)
 
-  abbrev pub to_step : (h : Head) (free-node : ℕ) (free-count : ℕ) → Asked.Ghost
-  to_step h free-node free-count = ((tt, tt, tt, (h, (free-node, (free-count, tt))), (val-Head h ∷ [], (vint w32 free-node ∷ [], (vint w32 free-count ∷ [], tt)))), tt)
+  abbrev pub to_step : (h : Head) (free_node_lem : ℕ) (free_count : ℕ) → Asked.Ghost
+  to_step h free_node_lem free_count = ((tt, tt, tt, (h, (free_node_lem, (free_count, tt))), (val-Head h ∷ [], (vint w32 free_node_lem ∷ [], (vint w32 free_count ∷ [], tt)))), tt)
 
-  pub goes_step : (h : Head) (free-node : ℕ) (free-count : ℕ) → (h-good : Is R-Head h (val-Head h ∷ [])) (free-node-good : free-node < 2 ^ 32) (free-count-good : free-count < 2 ^ 32) → ent 𝓤 (⋆ 𝓛 (‵ ftrue ∷ [])) (Asked.pre (to_step h free-node free-count))
-  goes_step h free-node free-count h-good free-node-good free-count-good = qed 𝓛 (‵ ftrue ∷ []) ∵
-      nothing ! $ owned ! u32 (Is u32) (uint_Makes 𝓛 w32) free-count _ (refl, free-count-good) $ fjoin ! $ owned ! u32 (Is u32) (uint_Makes 𝓛 w32) free-node _ (refl, free-node-good) $ fjoin ! $ owned ! R-Head (Is R-Head) (LL.makes M-Head.the_type L-Head.the_plain 𝓛) h _ h-good $ fjoin ! $ move ! (1 ∷ 0 ∷ []) $ join ! $ frame ! $ done !
+  pub goes_step : (h : Head) (free_node_lem : ℕ) (free_count : ℕ) → (h-good : Is R-Head h (val-Head h ∷ [])) (free-node-good : free_node_lem < 2 ^ 32) (free-count-good : free_count < 2 ^ 32) → ent 𝓤 (⋆ 𝓛 (‵ ftrue ∷ [])) (Asked.pre (to_step h free_node_lem free_count))
+  goes_step h free_node_lem free_count h-good free-node-good free-count-good = qed 𝓛 (‵ ftrue ∷ []) ∵
+      nothing ! $ owned ! u32 (Is u32) (uint_Makes 𝓛 w32) free_count _ (refl, free-count-good) $ fjoin ! $ owned ! u32 (Is u32) (uint_Makes 𝓛 w32) free_node_lem _ (refl, free-node-good) $ fjoin ! $ owned ! R-Head (Is R-Head) (LL.makes M-Head.the_type L-Head.the_plain 𝓛) h _ h-good $ fjoin ! $ move ! (1 ∷ 0 ∷ []) $ join ! $ frame ! $ done !
 
 module _ {M : Type 1} {𝓤 : Ura M} {𝓛 : Logic 𝓤} {K : Type 0} (mem : Memory → SProp 𝓤) (run : Routine → Fun 𝓤)
     {Γ : List (Item 𝓤)} {E : Env 𝓤 𝓛.H} {C : Calls 𝓤 𝓛.H} {Λ : Loops 𝓤 𝓛.H} {post' : Post 𝓤 𝓛.H} {dest' : Place} {name' : Name} {opds' : List Operand} {rest' : Body} where
   open 𝓛 use {H}
 
-  pub step : K → FmC 𝓤 H 𝓛.laws C → Triple 𝓤 (C name') (Asked 𝓛 mem run) → (h : Head) (free-node : ℕ) (free-count : ℕ) → (h-good : Is R-Head h (val-Head h ∷ [])) → (free-node-good : free-node < 2 ^ 32) → (free-count-good : free-count < 2 ^ 32) →
-      (Opds K 𝓛 (raw ((Asked 𝓛 mem run).pre (to_step 𝓛 mem run h free-node free-count)) ∷ Γ) E opds' (val-Head h ∷ vint w32 free-node ∷ vint w32 free-count ∷ [])) →
-      ((res' : Out) → Is R-Out res' (val-Out res' ∷ []) → (headAfter h res' ≡ renewed h free-node h.numbers.free_place free-count) × (res'.first ≡ 106) × (res'.second ≡ free-count) → Seq K 𝓛 (Γ) (lands C Λ E dest' (val-Out res') rest' post')) →
+  pub step : K → FmC 𝓤 H 𝓛.laws C → Triple 𝓤 (C name') (Asked 𝓛 mem run) → (h : Head) (free_node_lem : ℕ) (free_count : ℕ) → (h-good : Is R-Head h (val-Head h ∷ [])) → (free-node-good : free_node_lem < 2 ^ 32) → (free-count-good : free_count < 2 ^ 32) →
+      (Opds K 𝓛 (raw ((Asked 𝓛 mem run).pre (to_step 𝓛 mem run h free_node_lem free_count)) ∷ Γ) E opds' (val-Head h ∷ vint w32 free_node_lem ∷ vint w32 free_count ∷ [])) →
+      ((res' : Out) → Is R-Out res' (val-Out res' ∷ []) → (head_after h res' ≡ renewed h free_node_lem h.numbers.free_place free_count) × (res'.first ≡ 106) × (res'.second ≡ free_count) → Seq K 𝓛 (Γ) (lands C Λ E dest' (val-Out res') rest' post')) →
       Seq K 𝓛 (Γ) (runs C Λ E (seq (call name' opds' dest') rest') post')
-  step t' fm' known' h free-node free-count h-good free-node-good free-count-good os' k' =
-      nothing t' $ use1 𝓛 (raw ((Asked 𝓛 mem run).pre (to_step 𝓛 mem run h free-node free-count))) (goes_step 𝓛 mem run h free-node free-count h-good free-node-good free-count-good) $
-      calls_at t' fm' (Asked 𝓛 mem run) known' (to_step 𝓛 mem run h free-node free-count) (os') (λ w'.
-      use1 𝓛 (later (some (λ (res' : Out). (‵ ftrue ⊛ ‵ (R-Out.own res' (w' ∷ []))) ⊛ raw (ensured 𝓛 callee'.ended (callee'.clauses 𝓛 mem run) tt (h, (free-node, (free-count, tt))) tt res')))) (id⊢ 𝓤 _) $ await t' tt $ pick t' (λ res'. split t' $ move t' (1 ∷ []) $
-      use1 𝓛 (some (λ (zs' : Unit {0} × (Unit {0} × (Unit {0} × Unit {0}))). ‵ (lasts callee'.ended tt (h, (free-node, (free-count, tt))) zs') ⊛ raw (fact 𝓤 ((headAfter h res' ≡ renewed h free-node h.numbers.free_place free-count) × (res'.first ≡ 106) × (res'.second ≡ free-count))))) (id⊢ 𝓤 _) $ pick t' (λ zs'. split t' $ move t' (1 ∷ []) $ heard t' ((headAfter h res' ≡ renewed h free-node h.numbers.free_place free-count) × (res'.first ≡ 106) × (res'.second ≡ free-count)) (λ e'.
+  step t' fm' known' h free_node_lem free_count h-good free-node-good free-count-good os' k' =
+      nothing t' $ use1 𝓛 (raw ((Asked 𝓛 mem run).pre (to_step 𝓛 mem run h free_node_lem free_count))) (goes_step 𝓛 mem run h free_node_lem free_count h-good free-node-good free-count-good) $
+      calls_at t' fm' (Asked 𝓛 mem run) known' (to_step 𝓛 mem run h free_node_lem free_count) (os') (λ w'.
+      use1 𝓛 (later (some (λ (res' : Out). (‵ ftrue ⊛ ‵ (R-Out.own res' (w' ∷ []))) ⊛ raw (ensured 𝓛 callee'.ended (callee'.clauses 𝓛 mem run) tt (h, (free_node_lem, (free_count, tt))) tt res')))) (id⊢ 𝓤 _) $ await t' tt $ pick t' (λ res'. split t' $ move t' (1 ∷ []) $
+      use1 𝓛 (some (λ (zs' : Unit {0} × (Unit {0} × (Unit {0} × Unit {0}))). ‵ (lasts callee'.ended tt (h, (free_node_lem, (free_count, tt))) zs') ⊛ raw (fact 𝓤 ((head_after h res' ≡ renewed h free_node_lem h.numbers.free_place free_count) × (res'.first ≡ 106) × (res'.second ≡ free_count))))) (id⊢ 𝓤 _) $ pick t' (λ zs'. split t' $ move t' (1 ∷ []) $ heard t' ((head_after h res' ≡ renewed h free_node_lem h.numbers.free_place free_count) × (res'.first ≡ 106) × (res'.second ≡ free_count)) (λ e'.
       fsplit t' $ drop t' $ fsplit t' $ drop t' $ fsplit t' $ drop t' $ drop t' $
       move t' (0 ∷ []) $ split t' $ move t' (1 ∷ []) $ peeks t' R-Out (Is R-Out) (shows 𝓛 R-Out) res' (w' ∷ []) (λ is'. drop t' $ drop t' $
       subst (λ (v' : Val). Seq K 𝓛 (Γ) (lands C Λ E dest' v' rest' post')) (sym (ap only (LL.tells M-Out.the_type L-Out.the_laws res' _ is'))) (k' res' (subst (Is R-Out res') (LL.tells M-Out.the_type L-Out.the_laws res' _ is') is') e'))))))

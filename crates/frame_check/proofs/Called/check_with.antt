@@ -34,9 +34,9 @@ use denote.Triple.Clauses.{ensured, lasts}
 use denote.Triple.Walked.{says}
 use mathlib.Core.Bool.{cond}
 use Prim.Native.Nat.{◌≤◌}
-use Rattle.frames.specs.Widths.{maxPlaces, dequeWords}
-use Rattle.soundness.specs.Soundness.{framesSound}
-use Rattle.frame_check.specs.Algorithm.{liveEnd, zeros}
+use Rattle.frames.specs.Widths.{max_places, deque_words}
+use Rattle.soundness.specs.Soundness.{frames_sound}
+use Rattle.frame_check.specs.Algorithm.{live_end, zeros}
 use Rattle.frame_check.specs.declared.FramesChecked.TheVariants.{Bad, Good}
 use Rattle.frames.specs.contracts.Frame as M-Frame
 use Rattle.frames.proofs.Frame.TheLaws as L-Frame
@@ -44,7 +44,7 @@ use Rattle.frames.specs.declared.Frame.{Frame}
 use Rattle.frame_check.specs.contracts.FramesChecked as M-FramesChecked
 use Rattle.frame_check.proofs.FramesChecked.TheLaws as L-FramesChecked
 use Rattle.frame_check.specs.declared.FramesChecked.{FramesChecked}
-use Rattle.frames.proofs.Lent.{at-list, Mine, Yours, Lent, Shown, lend, home, show, back, give}
+use Rattle.frames.proofs.Lent.{at_list, Mine, Yours, Lent, Shown, lend, home, show, back, give}
 use Rattle.frame_check.specs.contracts.check_with as callee'
 
 abbrev R-Frame : RattleType
@@ -64,26 +64,26 @@ module _ {M : Type 1} {𝓤 : Ura M} (𝓛 : Logic 𝓤) (mem : Memory → SProp
   Asked = triple_of 𝓛 callee'.signature (callee'.spec 𝓛 mem run)
 
   abbrev pub to-step-gg : (κ-deques : Lft) (q-deques : Share) (γ-deques : GName) (κ-frames : Lft) (q-frames : Share) (γ-frames : GName) (ν-tallies : ℕ) (δ-tallies : GName) (b-deques o-deques n-deques : ℕ) (deques : List ℕ) (b-frames o-frames n-frames : ℕ) (frames : List Frame) (b-tallies o-tallies n-tallies : ℕ) (tallies : List ℕ) (workers : ℕ) (first : ℕ) → Asked.Ghost
-  to-step-gg κ-deques q-deques γ-deques κ-frames q-frames γ-frames ν-tallies δ-tallies b-deques o-deques n-deques deques b-frames o-frames n-frames frames b-tallies o-tallies n-tallies tallies workers first = (((κ-deques, (κ-frames, ((ν-tallies ∷ []), tt))), (q-deques, (q-frames, (full_share, tt))), tt, (workers, (first, (at-list b-deques o-deques γ-deques deques, (at-list b-frames o-frames γ-frames frames, (at-list b-tallies o-tallies δ-tallies tallies, tt))))), (vint w32 workers ∷ [], (vint w32 first ∷ [], (slice_val (b-deques, o-deques) n-deques ∷ [], (slice_val (b-frames, o-frames) n-frames ∷ [], (slice_val (b-tallies, o-tallies) n-tallies ∷ [], tt)))))), tt)
+  to-step-gg κ-deques q-deques γ-deques κ-frames q-frames γ-frames ν-tallies δ-tallies b-deques o-deques n-deques deques b-frames o-frames n-frames frames b-tallies o-tallies n-tallies tallies workers first = (((κ-deques, (κ-frames, ((ν-tallies ∷ []), tt))), (q-deques, (q-frames, (full_share, tt))), tt, (workers, (first, (at_list b-deques o-deques γ-deques deques, (at_list b-frames o-frames γ-frames frames, (at_list b-tallies o-tallies δ-tallies tallies, tt))))), (vint w32 workers ∷ [], (vint w32 first ∷ [], (slice_val (b-deques, o-deques) n-deques ∷ [], (slice_val (b-frames, o-frames) n-frames ∷ [], (slice_val (b-tallies, o-tallies) n-tallies ∷ [], tt)))))), tt)
 
-  pub goes-step-gg : (κ-deques : Lft) (q-deques : Share) (γ-deques : GName) (κ-frames : Lft) (q-frames : Share) (γ-frames : GName) (ν-tallies : ℕ) (δ-tallies : GName) (b-deques o-deques n-deques : ℕ) (deques : List ℕ) (b-frames o-frames n-frames : ℕ) (frames : List Frame) (b-tallies o-tallies n-tallies : ℕ) (tallies : List ℕ) (workers : ℕ) (first : ℕ) → (workers-good : workers < 2 ^ 32) (first_Good : first < 2 ^ 32) (ok' : (length deques ≡ dequeWords) × (length frames ≤ maxPlaces) × (tallies ≡ zeros)) → ent 𝓤 (⋆ 𝓛 (‵ (flft κ-deques q-deques) ∷ ‵ (flft κ-frames q-frames) ∷ ‵ (flft (ν-tallies ∷ []) full_share) ∷ ‵ ((ShrSlice (named 0) κ-deques u32).own_val (at-list b-deques o-deques γ-deques deques) (slice_val (b-deques, o-deques) n-deques ∷ [])) ∷ ‵ ((ShrSlice (named 0) κ-frames R-Frame).own_val (at-list b-frames o-frames γ-frames frames) (slice_val (b-frames, o-frames) n-frames ∷ [])) ∷ ‵ ((MutSlice (named 0) (ν-tallies ∷ []) u32).own_val (at-list b-tallies o-tallies δ-tallies tallies) (slice_val (b-tallies, o-tallies) n-tallies ∷ [])) ∷ [])) (Asked.pre (to-step-gg κ-deques q-deques γ-deques κ-frames q-frames γ-frames ν-tallies δ-tallies b-deques o-deques n-deques deques b-frames o-frames n-frames frames b-tallies o-tallies n-tallies tallies workers first))
-  goes-step-gg κ-deques q-deques γ-deques κ-frames q-frames γ-frames ν-tallies δ-tallies b-deques o-deques n-deques deques b-frames o-frames n-frames frames b-tallies o-tallies n-tallies tallies workers first workers-good first_Good ok' = qed 𝓛 (‵ (flft κ-deques q-deques) ∷ ‵ (flft κ-frames q-frames) ∷ ‵ (flft (ν-tallies ∷ []) full_share) ∷ ‵ ((ShrSlice (named 0) κ-deques u32).own_val (at-list b-deques o-deques γ-deques deques) (slice_val (b-deques, o-deques) n-deques ∷ [])) ∷ ‵ ((ShrSlice (named 0) κ-frames R-Frame).own_val (at-list b-frames o-frames γ-frames frames) (slice_val (b-frames, o-frames) n-frames ∷ [])) ∷ ‵ ((MutSlice (named 0) (ν-tallies ∷ []) u32).own_val (at-list b-tallies o-tallies δ-tallies tallies) (slice_val (b-tallies, o-tallies) n-tallies ∷ [])) ∷ []) ∵ says ! ok' $ nothing ! $ move ! (1 ∷ 2 ∷ 3 ∷ 0 ∷ []) $ group ! 4 $ frame ! $
+  pub goes-step-gg : (κ-deques : Lft) (q-deques : Share) (γ-deques : GName) (κ-frames : Lft) (q-frames : Share) (γ-frames : GName) (ν-tallies : ℕ) (δ-tallies : GName) (b-deques o-deques n-deques : ℕ) (deques : List ℕ) (b-frames o-frames n-frames : ℕ) (frames : List Frame) (b-tallies o-tallies n-tallies : ℕ) (tallies : List ℕ) (workers : ℕ) (first : ℕ) → (workers-good : workers < 2 ^ 32) (first_Good : first < 2 ^ 32) (ok' : (length deques ≡ deque_words) × (length frames ≤ max_places) × (tallies ≡ zeros)) → ent 𝓤 (⋆ 𝓛 (‵ (flft κ-deques q-deques) ∷ ‵ (flft κ-frames q-frames) ∷ ‵ (flft (ν-tallies ∷ []) full_share) ∷ ‵ ((ShrSlice (named 0) κ-deques u32).own_val (at_list b-deques o-deques γ-deques deques) (slice_val (b-deques, o-deques) n-deques ∷ [])) ∷ ‵ ((ShrSlice (named 0) κ-frames R-Frame).own_val (at_list b-frames o-frames γ-frames frames) (slice_val (b-frames, o-frames) n-frames ∷ [])) ∷ ‵ ((MutSlice (named 0) (ν-tallies ∷ []) u32).own_val (at_list b-tallies o-tallies δ-tallies tallies) (slice_val (b-tallies, o-tallies) n-tallies ∷ [])) ∷ [])) (Asked.pre (to-step-gg κ-deques q-deques γ-deques κ-frames q-frames γ-frames ν-tallies δ-tallies b-deques o-deques n-deques deques b-frames o-frames n-frames frames b-tallies o-tallies n-tallies tallies workers first))
+  goes-step-gg κ-deques q-deques γ-deques κ-frames q-frames γ-frames ν-tallies δ-tallies b-deques o-deques n-deques deques b-frames o-frames n-frames frames b-tallies o-tallies n-tallies tallies workers first workers-good first_Good ok' = qed 𝓛 (‵ (flft κ-deques q-deques) ∷ ‵ (flft κ-frames q-frames) ∷ ‵ (flft (ν-tallies ∷ []) full_share) ∷ ‵ ((ShrSlice (named 0) κ-deques u32).own_val (at_list b-deques o-deques γ-deques deques) (slice_val (b-deques, o-deques) n-deques ∷ [])) ∷ ‵ ((ShrSlice (named 0) κ-frames R-Frame).own_val (at_list b-frames o-frames γ-frames frames) (slice_val (b-frames, o-frames) n-frames ∷ [])) ∷ ‵ ((MutSlice (named 0) (ν-tallies ∷ []) u32).own_val (at_list b-tallies o-tallies δ-tallies tallies) (slice_val (b-tallies, o-tallies) n-tallies ∷ [])) ∷ []) ∵ says ! ok' $ nothing ! $ move ! (1 ∷ 2 ∷ 3 ∷ 0 ∷ []) $ group ! 4 $ frame ! $
       nothing ! $ move ! (3 ∷ 0 ∷ []) $ fjoin ! $ move ! (2 ∷ 0 ∷ []) $ fjoin ! $ move ! (1 ∷ 0 ∷ []) $ fjoin ! $ owned ! u32 (Is u32) (uint_Makes 𝓛 w32) first _ (refl, first_Good) $ fjoin ! $ owned ! u32 (Is u32) (uint_Makes 𝓛 w32) workers _ (refl, workers-good) $ fjoin ! $ done !
 
 module _ {M : Type 1} {𝓤 : Ura M} {𝓛 : Logic 𝓤} {K : Type 0} (mem : Memory → SProp 𝓤) (run : Routine → Fun 𝓤)
     {Γ : List (Item 𝓤)} {E : Env 𝓤 𝓛.H} {C : Calls 𝓤 𝓛.H} {Λ : Loops 𝓤 𝓛.H} {post' : Post 𝓤 𝓛.H} {dest' : Place} {name' : Name} {opds' : List Operand} {rest' : Body} where
   open 𝓛 use {H}
 
-  pub step-gg : K → FmC 𝓤 H 𝓛.laws C → Triple 𝓤 (C name') (Asked 𝓛 mem run) → {κ-deques : Lft} {q-deques : Share} {γ-deques : GName} {κ-frames : Lft} {q-frames : Share} {γ-frames : GName} {κ-tallies : Lft} {q-tallies : Share} {γ-tallies : GName} → (b-deques o-deques n-deques : ℕ) (deques : List ℕ) (b-frames o-frames n-frames : ℕ) (frames : List Frame) (b-tallies o-tallies n-tallies : ℕ) (tallies : List ℕ) (workers : ℕ) (first : ℕ) → (workers-good : workers < 2 ^ 32) → (first_Good : first < 2 ^ 32) → (length deques ≡ dequeWords) × (length frames ≤ maxPlaces) × (tallies ≡ zeros) → length tallies ≡ n-tallies → Room u32 n-tallies →
-      ((ν-tallies : ℕ) (δ-tallies : GName) → Opds K 𝓛 (raw ((Asked 𝓛 mem run).pre (to-step-gg 𝓛 mem run κ-deques q-deques γ-deques κ-frames q-frames γ-frames ν-tallies δ-tallies b-deques o-deques n-deques deques b-frames o-frames n-frames frames b-tallies o-tallies n-tallies tallies workers first)) ∷ ‵ (Lent u32 κ-tallies (ν-tallies ∷ []) q-tallies γ-tallies b-tallies o-tallies δ-tallies tallies) ∷ ‵ ((ShrSlice (named 0) κ-frames R-Frame).own_val (at-list b-frames o-frames γ-frames frames) (slice_val (b-frames, o-frames) n-frames ∷ [])) ∷ ‵ ((ShrSlice (named 0) κ-deques u32).own_val (at-list b-deques o-deques γ-deques deques) (slice_val (b-deques, o-deques) n-deques ∷ [])) ∷ Γ) E opds' (vint w32 workers ∷ vint w32 first ∷ slice_val (b-deques, o-deques) n-deques ∷ slice_val (b-frames, o-frames) n-frames ∷ slice_val (b-tallies, o-tallies) n-tallies ∷ [])) →
-      ((res' : FramesChecked) (zs-tallies : List ℕ) → Is R-FramesChecked res' (val-FramesChecked res' ∷ []) → res' ≡ cond (framesSound workers first deques frames) (Good (liveEnd frames)) Bad → length zs-tallies ≡ length tallies → Seq K 𝓛 (‵ (Yours u32 κ-deques q-deques γ-deques b-deques o-deques n-deques deques) ∷ ‵ (Yours R-Frame κ-frames q-frames γ-frames b-frames o-frames n-frames frames) ∷ ‵ (Mine u32 κ-tallies q-tallies γ-tallies b-tallies o-tallies n-tallies zs-tallies) ∷ Γ) (lands C Λ E dest' (val-FramesChecked res') rest' post')) →
+  pub step-gg : K → FmC 𝓤 H 𝓛.laws C → Triple 𝓤 (C name') (Asked 𝓛 mem run) → {κ-deques : Lft} {q-deques : Share} {γ-deques : GName} {κ-frames : Lft} {q-frames : Share} {γ-frames : GName} {κ-tallies : Lft} {q-tallies : Share} {γ-tallies : GName} → (b-deques o-deques n-deques : ℕ) (deques : List ℕ) (b-frames o-frames n-frames : ℕ) (frames : List Frame) (b-tallies o-tallies n-tallies : ℕ) (tallies : List ℕ) (workers : ℕ) (first : ℕ) → (workers-good : workers < 2 ^ 32) → (first_Good : first < 2 ^ 32) → (length deques ≡ deque_words) × (length frames ≤ max_places) × (tallies ≡ zeros) → length tallies ≡ n-tallies → Room u32 n-tallies →
+      ((ν-tallies : ℕ) (δ-tallies : GName) → Opds K 𝓛 (raw ((Asked 𝓛 mem run).pre (to-step-gg 𝓛 mem run κ-deques q-deques γ-deques κ-frames q-frames γ-frames ν-tallies δ-tallies b-deques o-deques n-deques deques b-frames o-frames n-frames frames b-tallies o-tallies n-tallies tallies workers first)) ∷ ‵ (Lent u32 κ-tallies (ν-tallies ∷ []) q-tallies γ-tallies b-tallies o-tallies δ-tallies tallies) ∷ ‵ ((ShrSlice (named 0) κ-frames R-Frame).own_val (at_list b-frames o-frames γ-frames frames) (slice_val (b-frames, o-frames) n-frames ∷ [])) ∷ ‵ ((ShrSlice (named 0) κ-deques u32).own_val (at_list b-deques o-deques γ-deques deques) (slice_val (b-deques, o-deques) n-deques ∷ [])) ∷ Γ) E opds' (vint w32 workers ∷ vint w32 first ∷ slice_val (b-deques, o-deques) n-deques ∷ slice_val (b-frames, o-frames) n-frames ∷ slice_val (b-tallies, o-tallies) n-tallies ∷ [])) →
+      ((res' : FramesChecked) (zs-tallies : List ℕ) → Is R-FramesChecked res' (val-FramesChecked res' ∷ []) → res' ≡ cond (frames_sound workers first deques frames) (Good (live_end frames)) Bad → length zs-tallies ≡ length tallies → Seq K 𝓛 (‵ (Yours u32 κ-deques q-deques γ-deques b-deques o-deques n-deques deques) ∷ ‵ (Yours R-Frame κ-frames q-frames γ-frames b-frames o-frames n-frames frames) ∷ ‵ (Mine u32 κ-tallies q-tallies γ-tallies b-tallies o-tallies n-tallies zs-tallies) ∷ Γ) (lands C Λ E dest' (val-FramesChecked res') rest' post')) →
       Seq K 𝓛 (‵ (Yours u32 κ-deques q-deques γ-deques b-deques o-deques n-deques deques) ∷ ‵ (Yours R-Frame κ-frames q-frames γ-frames b-frames o-frames n-frames frames) ∷ ‵ (Mine u32 κ-tallies q-tallies γ-tallies b-tallies o-tallies n-tallies tallies) ∷ Γ) (runs C Λ E (seq (call name' opds' dest') rest') post')
   step-gg t' fm' known' {κ-deques} {q-deques} {γ-deques} {κ-frames} {q-frames} {γ-frames} {κ-tallies} {q-tallies} {γ-tallies} b-deques o-deques n-deques deques b-frames o-frames n-frames frames b-tallies o-tallies n-tallies tallies workers first workers-good first_Good ok' len-tallies room-tallies os' k' =
       give t' u32 b-deques o-deques n-deques deques $ move t' (3 ∷ []) $ give t' R-Frame b-frames o-frames n-frames frames $ move t' (6 ∷ []) $ lend t' tt u32 b-tallies o-tallies n-tallies tallies len-tallies (λ ν-tallies δ-tallies.
       move t' (6 ∷ 3 ∷ 0 ∷ 7 ∷ 4 ∷ 1 ∷ []) $ group t' 6 $ use1 𝓛 (raw ((Asked 𝓛 mem run).pre (to-step-gg 𝓛 mem run κ-deques q-deques γ-deques κ-frames q-frames γ-frames ν-tallies δ-tallies b-deques o-deques n-deques deques b-frames o-frames n-frames frames b-tallies o-tallies n-tallies tallies workers first))) (goes-step-gg 𝓛 mem run κ-deques q-deques γ-deques κ-frames q-frames γ-frames ν-tallies δ-tallies b-deques o-deques n-deques deques b-frames o-frames n-frames frames b-tallies o-tallies n-tallies tallies workers first workers-good first_Good ok') $
       calls_at t' fm' (Asked 𝓛 mem run) known' (to-step-gg 𝓛 mem run κ-deques q-deques γ-deques κ-frames q-frames γ-frames ν-tallies δ-tallies b-deques o-deques n-deques deques b-frames o-frames n-frames frames b-tallies o-tallies n-tallies tallies workers first) (os' ν-tallies δ-tallies) (λ w'.
-      use1 𝓛 (later (some (λ (res' : FramesChecked). ((‵ (flft κ-deques q-deques) ⊛ (‵ (flft κ-frames q-frames) ⊛ (‵ (flft (ν-tallies ∷ []) full_share) ⊛ ‵ ftrue))) ⊛ ‵ (R-FramesChecked.own res' (w' ∷ []))) ⊛ raw (ensured 𝓛 callee'.ended (callee'.clauses 𝓛 mem run) (κ-deques, (κ-frames, ((ν-tallies ∷ []), tt))) (workers, (first, (at-list b-deques o-deques γ-deques deques, (at-list b-frames o-frames γ-frames frames, (at-list b-tallies o-tallies δ-tallies tallies, tt))))) tt res')))) (id⊢ 𝓤 _) $ await t' tt $ pick t' (λ res'. split t' $ move t' (1 ∷ []) $
-      use1 𝓛 (some (λ (zs' : Unit {0} × (Unit {0} × (Unit {0} × (Unit {0} × (List ℕ × Unit {0}))))). ‵ (lasts callee'.ended (κ-deques, (κ-frames, ((ν-tallies ∷ []), tt))) (workers, (first, (at-list b-deques o-deques γ-deques deques, (at-list b-frames o-frames γ-frames frames, (at-list b-tallies o-tallies δ-tallies tallies, tt))))) zs') ⊛ raw (fact 𝓤 (res' ≡ cond (framesSound workers first deques frames) (Good (liveEnd frames)) Bad)))) (id⊢ 𝓤 _) $ pick t' (λ zs'. split t' $ move t' (1 ∷ []) $ heard t' (res' ≡ cond (framesSound workers first deques frames) (Good (liveEnd frames)) Bad) (λ e'.
+      use1 𝓛 (later (some (λ (res' : FramesChecked). ((‵ (flft κ-deques q-deques) ⊛ (‵ (flft κ-frames q-frames) ⊛ (‵ (flft (ν-tallies ∷ []) full_share) ⊛ ‵ ftrue))) ⊛ ‵ (R-FramesChecked.own res' (w' ∷ []))) ⊛ raw (ensured 𝓛 callee'.ended (callee'.clauses 𝓛 mem run) (κ-deques, (κ-frames, ((ν-tallies ∷ []), tt))) (workers, (first, (at_list b-deques o-deques γ-deques deques, (at_list b-frames o-frames γ-frames frames, (at_list b-tallies o-tallies δ-tallies tallies, tt))))) tt res')))) (id⊢ 𝓤 _) $ await t' tt $ pick t' (λ res'. split t' $ move t' (1 ∷ []) $
+      use1 𝓛 (some (λ (zs' : Unit {0} × (Unit {0} × (Unit {0} × (Unit {0} × (List ℕ × Unit {0}))))). ‵ (lasts callee'.ended (κ-deques, (κ-frames, ((ν-tallies ∷ []), tt))) (workers, (first, (at_list b-deques o-deques γ-deques deques, (at_list b-frames o-frames γ-frames frames, (at_list b-tallies o-tallies δ-tallies tallies, tt))))) zs') ⊛ raw (fact 𝓤 (res' ≡ cond (frames_sound workers first deques frames) (Good (live_end frames)) Bad)))) (id⊢ 𝓤 _) $ pick t' (λ zs'. split t' $ move t' (1 ∷ []) $ heard t' (res' ≡ cond (frames_sound workers first deques frames) (Good (live_end frames)) Bad) (λ e'.
       fsplit t' $ drop t' $ fsplit t' $ drop t' $ fsplit t' $ drop t' $ fsplit t' $ drop t' $ fsplit t' $ fsplit t' $ move t' (1 ∷ []) $ feq_l t' (λ same-tallies. move t' (1 ∷ []) $ drop t' $
       move t' (1 ∷ []) $ split t' $ move t' (1 ∷ []) $ peeks t' R-FramesChecked (Is R-FramesChecked) (shows 𝓛 R-FramesChecked) res' (w' ∷ []) (λ is'. drop t' $ split t' $ move t' (1 ∷ []) $ split t' $ move t' (1 ∷ []) $ split t' $ move t' (1 ∷ []) $ drop t' $
       move t' (0 ∷ 4 ∷ 3 ∷ []) $ home t' tt u32 b-tallies o-tallies n-tallies tallies zs'.1.1.1.1.0 len-tallies room-tallies same-tallies $ move t' (3 ∷ 1 ∷ []) $ fjoin t' $ move t' (3 ∷ 2 ∷ []) $ fjoin t' $

@@ -41,7 +41,7 @@ use Rattle.frame_check.specs.declared.Census.{Census}
 use Rattle.frame_check.specs.contracts.FramesChecked as M-FramesChecked
 use Rattle.frame_check.proofs.FramesChecked.TheLaws as L-FramesChecked
 use Rattle.frame_check.specs.declared.FramesChecked.{FramesChecked}
-use Rattle.frames.proofs.Lent.{at-list, Mine, Yours, Lent, Shown, lend, home, show, back, give}
+use Rattle.frames.proofs.Lent.{at_list, Mine, Yours, Lent, Shown, lend, home, show, back, give}
 use Rattle.frame_check.specs.contracts.conclude as callee'
 
 abbrev R-Census : RattleType

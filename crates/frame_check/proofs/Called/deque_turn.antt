@@ -34,13 +34,13 @@ use denote.Triple.Clauses.{ensured, lasts}
 use denote.Triple.Walked.{says}
 use mathlib.Core.Bool.{◌&&◌}
 use Prim.Native.Nat.{◌-◌}
-use Rattle.frames.specs.Widths.{maxWorkers, dequePlaces, dequeWords}
+use Rattle.frames.specs.Widths.{max_workers, deque_places, deque_words}
 use Rattle.frames.specs.Deques.{size, place}
-use Rattle.frame_check.specs.Algorithm.{inDeque}
+use Rattle.frame_check.specs.Algorithm.{in_deque}
 use Rattle.frames.specs.contracts.Frame as M-Frame
 use Rattle.frames.proofs.Frame.TheLaws as L-Frame
 use Rattle.frames.specs.declared.Frame.{Frame}
-use Rattle.frames.proofs.Lent.{at-list, Mine, Yours, Lent, Shown, lend, home, show, back, give}
+use Rattle.frames.proofs.Lent.{at_list, Mine, Yours, Lent, Shown, lend, home, show, back, give}
 use Rattle.frame_check.specs.contracts.deques.deque_turn as callee'
 
 abbrev R-Frame : RattleType
@@ -54,26 +54,26 @@ module _ {M : Type 1} {𝓤 : Ura M} (𝓛 : Logic 𝓤) (mem : Memory → SProp
   Asked = triple_of 𝓛 callee'.signature (callee'.spec 𝓛 mem run)
 
   abbrev pub to-step-g : (κ-deques : Lft) (q-deques : Share) (γ-deques : GName) (b-deques o-deques n-deques : ℕ) (deques : List ℕ) (sound : Bool) (places : ℕ) (w : ℕ) (k : ℕ) (f : Frame) → Asked.Ghost
-  to-step-g κ-deques q-deques γ-deques b-deques o-deques n-deques deques sound places w k f = (((κ-deques, tt), (q-deques, tt), tt, (sound, (places, (at-list b-deques o-deques γ-deques deques, (w, (k, (f, tt)))))), (vbool sound ∷ [], (vint w32 places ∷ [], (slice_val (b-deques, o-deques) n-deques ∷ [], (vint w32 w ∷ [], (vint w32 k ∷ [], (val-Frame f ∷ [], tt))))))), tt)
+  to-step-g κ-deques q-deques γ-deques b-deques o-deques n-deques deques sound places w k f = (((κ-deques, tt), (q-deques, tt), tt, (sound, (places, (at_list b-deques o-deques γ-deques deques, (w, (k, (f, tt)))))), (vbool sound ∷ [], (vint w32 places ∷ [], (slice_val (b-deques, o-deques) n-deques ∷ [], (vint w32 w ∷ [], (vint w32 k ∷ [], (val-Frame f ∷ [], tt))))))), tt)
 
-  pub goes-step-g : (κ-deques : Lft) (q-deques : Share) (γ-deques : GName) (b-deques o-deques n-deques : ℕ) (deques : List ℕ) (sound : Bool) (places : ℕ) (w : ℕ) (k : ℕ) (f : Frame) → (places-good : places < 2 ^ 32) (w-good : w < 2 ^ 32) (k-good : k < 2 ^ 32) (f-good : Is R-Frame f (val-Frame f ∷ [])) (ok' : (length deques ≡ dequeWords) × (w < maxWorkers) × (k < dequePlaces)) → ent 𝓤 (⋆ 𝓛 (‵ (flft κ-deques q-deques) ∷ ‵ ((ShrSlice (named 0) κ-deques u32).own_val (at-list b-deques o-deques γ-deques deques) (slice_val (b-deques, o-deques) n-deques ∷ [])) ∷ [])) (Asked.pre (to-step-g κ-deques q-deques γ-deques b-deques o-deques n-deques deques sound places w k f))
-  goes-step-g κ-deques q-deques γ-deques b-deques o-deques n-deques deques sound places w k f places-good w-good k-good f-good ok' = qed 𝓛 (‵ (flft κ-deques q-deques) ∷ ‵ ((ShrSlice (named 0) κ-deques u32).own_val (at-list b-deques o-deques γ-deques deques) (slice_val (b-deques, o-deques) n-deques ∷ [])) ∷ []) ∵ says ! ok' $ nothing ! $ move ! (1 ∷ 0 ∷ []) $ group ! 2 $ frame ! $
+  pub goes-step-g : (κ-deques : Lft) (q-deques : Share) (γ-deques : GName) (b-deques o-deques n-deques : ℕ) (deques : List ℕ) (sound : Bool) (places : ℕ) (w : ℕ) (k : ℕ) (f : Frame) → (places-good : places < 2 ^ 32) (w-good : w < 2 ^ 32) (k-good : k < 2 ^ 32) (f-good : Is R-Frame f (val-Frame f ∷ [])) (ok' : (length deques ≡ deque_words) × (w < max_workers) × (k < deque_places)) → ent 𝓤 (⋆ 𝓛 (‵ (flft κ-deques q-deques) ∷ ‵ ((ShrSlice (named 0) κ-deques u32).own_val (at_list b-deques o-deques γ-deques deques) (slice_val (b-deques, o-deques) n-deques ∷ [])) ∷ [])) (Asked.pre (to-step-g κ-deques q-deques γ-deques b-deques o-deques n-deques deques sound places w k f))
+  goes-step-g κ-deques q-deques γ-deques b-deques o-deques n-deques deques sound places w k f places-good w-good k-good f-good ok' = qed 𝓛 (‵ (flft κ-deques q-deques) ∷ ‵ ((ShrSlice (named 0) κ-deques u32).own_val (at_list b-deques o-deques γ-deques deques) (slice_val (b-deques, o-deques) n-deques ∷ [])) ∷ []) ∵ says ! ok' $ nothing ! $ move ! (1 ∷ 0 ∷ []) $ group ! 2 $ frame ! $
       nothing ! $ owned ! R-Frame (Is R-Frame) (LL.makes M-Frame.the_type L-Frame.the_plain 𝓛) f _ f-good $ fjoin ! $ owned ! u32 (Is u32) (uint_Makes 𝓛 w32) k _ (refl, k-good) $ fjoin ! $ owned ! u32 (Is u32) (uint_Makes 𝓛 w32) w _ (refl, w-good) $ fjoin ! $ move ! (1 ∷ 0 ∷ []) $ fjoin ! $ owned ! u32 (Is u32) (uint_Makes 𝓛 w32) places _ (refl, places-good) $ fjoin ! $ owned ! bool (Is bool) (bool_Makes 𝓛) sound _ refl $ fjoin ! $ done !
 
 module _ {M : Type 1} {𝓤 : Ura M} {𝓛 : Logic 𝓤} {K : Type 0} (mem : Memory → SProp 𝓤) (run : Routine → Fun 𝓤)
     {Γ : List (Item 𝓤)} {E : Env 𝓤 𝓛.H} {C : Calls 𝓤 𝓛.H} {Λ : Loops 𝓤 𝓛.H} {post' : Post 𝓤 𝓛.H} {dest' : Place} {name' : Name} {opds' : List Operand} {rest' : Body} where
   open 𝓛 use {H}
 
-  pub step-g : K → FmC 𝓤 H 𝓛.laws C → Triple 𝓤 (C name') (Asked 𝓛 mem run) → {κ-deques : Lft} {q-deques : Share} {γ-deques : GName} → (b-deques o-deques n-deques : ℕ) (deques : List ℕ) (sound : Bool) (places : ℕ) (w : ℕ) (k : ℕ) (f : Frame) → (places-good : places < 2 ^ 32) → (w-good : w < 2 ^ 32) → (k-good : k < 2 ^ 32) → (f-good : Is R-Frame f (val-Frame f ∷ [])) → (length deques ≡ dequeWords) × (w < maxWorkers) × (k < dequePlaces) →
-      (Opds K 𝓛 (raw ((Asked 𝓛 mem run).pre (to-step-g 𝓛 mem run κ-deques q-deques γ-deques b-deques o-deques n-deques deques sound places w k f)) ∷ ‵ ((ShrSlice (named 0) κ-deques u32).own_val (at-list b-deques o-deques γ-deques deques) (slice_val (b-deques, o-deques) n-deques ∷ [])) ∷ Γ) E opds' (vbool sound ∷ vint w32 places ∷ slice_val (b-deques, o-deques) n-deques ∷ vint w32 w ∷ vint w32 k ∷ val-Frame f ∷ [])) →
-      ((res' : Bool) → res' ≡ (sound && inDeque places f (place deques w k) (place deques w (k - 1)) k (size deques w)) → Seq K 𝓛 (‵ (Yours u32 κ-deques q-deques γ-deques b-deques o-deques n-deques deques) ∷ Γ) (lands C Λ E dest' (vbool res') rest' post')) →
+  pub step-g : K → FmC 𝓤 H 𝓛.laws C → Triple 𝓤 (C name') (Asked 𝓛 mem run) → {κ-deques : Lft} {q-deques : Share} {γ-deques : GName} → (b-deques o-deques n-deques : ℕ) (deques : List ℕ) (sound : Bool) (places : ℕ) (w : ℕ) (k : ℕ) (f : Frame) → (places-good : places < 2 ^ 32) → (w-good : w < 2 ^ 32) → (k-good : k < 2 ^ 32) → (f-good : Is R-Frame f (val-Frame f ∷ [])) → (length deques ≡ deque_words) × (w < max_workers) × (k < deque_places) →
+      (Opds K 𝓛 (raw ((Asked 𝓛 mem run).pre (to-step-g 𝓛 mem run κ-deques q-deques γ-deques b-deques o-deques n-deques deques sound places w k f)) ∷ ‵ ((ShrSlice (named 0) κ-deques u32).own_val (at_list b-deques o-deques γ-deques deques) (slice_val (b-deques, o-deques) n-deques ∷ [])) ∷ Γ) E opds' (vbool sound ∷ vint w32 places ∷ slice_val (b-deques, o-deques) n-deques ∷ vint w32 w ∷ vint w32 k ∷ val-Frame f ∷ [])) →
+      ((res' : Bool) → res' ≡ (sound && in_deque places f (place deques w k) (place deques w (k - 1)) k (size deques w)) → Seq K 𝓛 (‵ (Yours u32 κ-deques q-deques γ-deques b-deques o-deques n-deques deques) ∷ Γ) (lands C Λ E dest' (vbool res') rest' post')) →
       Seq K 𝓛 (‵ (Yours u32 κ-deques q-deques γ-deques b-deques o-deques n-deques deques) ∷ Γ) (runs C Λ E (seq (call name' opds' dest') rest') post')
   step-g t' fm' known' {κ-deques} {q-deques} {γ-deques} b-deques o-deques n-deques deques sound places w k f places-good w-good k-good f-good ok' os' k' =
       give t' u32 b-deques o-deques n-deques deques $
       move t' (0 ∷ 1 ∷ []) $ group t' 2 $ use1 𝓛 (raw ((Asked 𝓛 mem run).pre (to-step-g 𝓛 mem run κ-deques q-deques γ-deques b-deques o-deques n-deques deques sound places w k f))) (goes-step-g 𝓛 mem run κ-deques q-deques γ-deques b-deques o-deques n-deques deques sound places w k f places-good w-good k-good f-good ok') $
       calls_at t' fm' (Asked 𝓛 mem run) known' (to-step-g 𝓛 mem run κ-deques q-deques γ-deques b-deques o-deques n-deques deques sound places w k f) (os') (λ w'.
-      use1 𝓛 (later (some (λ (res' : Bool). ((‵ (flft κ-deques q-deques) ⊛ ‵ ftrue) ⊛ ‵ (bool.own_val res' (w' ∷ []))) ⊛ raw (ensured 𝓛 callee'.ended (callee'.clauses 𝓛 mem run) (κ-deques, tt) (sound, (places, (at-list b-deques o-deques γ-deques deques, (w, (k, (f, tt)))))) tt res')))) (id⊢ 𝓤 _) $ await t' tt $ pick t' (λ res'. split t' $ move t' (1 ∷ []) $
-      use1 𝓛 (some (λ (zs' : Unit {0} × (Unit {0} × (Unit {0} × (Unit {0} × (Unit {0} × (Unit {0} × Unit {0})))))). ‵ (lasts callee'.ended (κ-deques, tt) (sound, (places, (at-list b-deques o-deques γ-deques deques, (w, (k, (f, tt)))))) zs') ⊛ raw (fact 𝓤 (res' ≡ (sound && inDeque places f (place deques w k) (place deques w (k - 1)) k (size deques w)))))) (id⊢ 𝓤 _) $ pick t' (λ zs'. split t' $ move t' (1 ∷ []) $ heard t' (res' ≡ (sound && inDeque places f (place deques w k) (place deques w (k - 1)) k (size deques w))) (λ e'.
+      use1 𝓛 (later (some (λ (res' : Bool). ((‵ (flft κ-deques q-deques) ⊛ ‵ ftrue) ⊛ ‵ (bool.own_val res' (w' ∷ []))) ⊛ raw (ensured 𝓛 callee'.ended (callee'.clauses 𝓛 mem run) (κ-deques, tt) (sound, (places, (at_list b-deques o-deques γ-deques deques, (w, (k, (f, tt)))))) tt res')))) (id⊢ 𝓤 _) $ await t' tt $ pick t' (λ res'. split t' $ move t' (1 ∷ []) $
+      use1 𝓛 (some (λ (zs' : Unit {0} × (Unit {0} × (Unit {0} × (Unit {0} × (Unit {0} × (Unit {0} × Unit {0})))))). ‵ (lasts callee'.ended (κ-deques, tt) (sound, (places, (at_list b-deques o-deques γ-deques deques, (w, (k, (f, tt)))))) zs') ⊛ raw (fact 𝓤 (res' ≡ (sound && in_deque places f (place deques w k) (place deques w (k - 1)) k (size deques w)))))) (id⊢ 𝓤 _) $ pick t' (λ zs'. split t' $ move t' (1 ∷ []) $ heard t' (res' ≡ (sound && in_deque places f (place deques w k) (place deques w (k - 1)) k (size deques w))) (λ e'.
       fsplit t' $ drop t' $ fsplit t' $ drop t' $ fsplit t' $ drop t' $ fsplit t' $ drop t' $ fsplit t' $ drop t' $ fsplit t' $ drop t' $ drop t' $
       move t' (0 ∷ []) $ split t' $ move t' (1 ∷ []) $ peeks t' bool (Is bool) (shows 𝓛 bool) res' (w' ∷ []) (λ is'. drop t' $ split t' $ move t' (1 ∷ []) $ drop t' $
       move t' (1 ∷ 0 ∷ []) $ fjoin t' $

@@ -33,10 +33,10 @@ use denote.Triple.Call.{calls_at, calls_at_last}
 use denote.Triple.Clauses.{ensured, lasts}
 use denote.Triple.Walked.{says}
 use Prim.Native.Nat.{◌≤◌}
-use Rattle.frames.specs.Widths.{maxWorkers, dequePlaces, dequeWords}
+use Rattle.frames.specs.Widths.{max_workers, deque_places, deque_words}
 use Rattle.words.specs.Basics.{all}
-use Rattle.frame_check.specs.Algorithm.{dequeFits}
-use Rattle.frames.proofs.Lent.{at-list, Mine, Yours, Lent, Shown, lend, home, show, back, give}
+use Rattle.frame_check.specs.Algorithm.{deque_fits}
+use Rattle.frames.proofs.Lent.{at_list, Mine, Yours, Lent, Shown, lend, home, show, back, give}
 use Rattle.frame_check.specs.contracts.deques.deques_fit as callee'
 
 module _ {M : Type 1} {𝓤 : Ura M} (𝓛 : Logic 𝓤) (mem : Memory → SProp 𝓤) (run : Routine → Fun 𝓤) where
@@ -44,26 +44,26 @@ module _ {M : Type 1} {𝓤 : Ura M} (𝓛 : Logic 𝓤) (mem : Memory → SProp
   Asked = triple_of 𝓛 callee'.signature (callee'.spec 𝓛 mem run)
 
   abbrev pub to-step-g : (κ-deques : Lft) (q-deques : Share) (γ-deques : GName) (b-deques o-deques n-deques : ℕ) (deques : List ℕ) (workers : ℕ) (places : ℕ) → Asked.Ghost
-  to-step-g κ-deques q-deques γ-deques b-deques o-deques n-deques deques workers places = (((κ-deques, tt), (q-deques, tt), tt, (workers, (places, (at-list b-deques o-deques γ-deques deques, tt))), (vint w32 workers ∷ [], (vint w32 places ∷ [], (slice_val (b-deques, o-deques) n-deques ∷ [], tt)))), tt)
+  to-step-g κ-deques q-deques γ-deques b-deques o-deques n-deques deques workers places = (((κ-deques, tt), (q-deques, tt), tt, (workers, (places, (at_list b-deques o-deques γ-deques deques, tt))), (vint w32 workers ∷ [], (vint w32 places ∷ [], (slice_val (b-deques, o-deques) n-deques ∷ [], tt)))), tt)
 
-  pub goes-step-g : (κ-deques : Lft) (q-deques : Share) (γ-deques : GName) (b-deques o-deques n-deques : ℕ) (deques : List ℕ) (workers : ℕ) (places : ℕ) → (workers-good : workers < 2 ^ 32) (places-good : places < 2 ^ 32) (ok' : (length deques ≡ dequeWords) × (places ≤ dequePlaces)) → ent 𝓤 (⋆ 𝓛 (‵ (flft κ-deques q-deques) ∷ ‵ ((ShrSlice (named 0) κ-deques u32).own_val (at-list b-deques o-deques γ-deques deques) (slice_val (b-deques, o-deques) n-deques ∷ [])) ∷ [])) (Asked.pre (to-step-g κ-deques q-deques γ-deques b-deques o-deques n-deques deques workers places))
-  goes-step-g κ-deques q-deques γ-deques b-deques o-deques n-deques deques workers places workers-good places-good ok' = qed 𝓛 (‵ (flft κ-deques q-deques) ∷ ‵ ((ShrSlice (named 0) κ-deques u32).own_val (at-list b-deques o-deques γ-deques deques) (slice_val (b-deques, o-deques) n-deques ∷ [])) ∷ []) ∵ says ! ok' $ nothing ! $ move ! (1 ∷ 0 ∷ []) $ group ! 2 $ frame ! $
+  pub goes-step-g : (κ-deques : Lft) (q-deques : Share) (γ-deques : GName) (b-deques o-deques n-deques : ℕ) (deques : List ℕ) (workers : ℕ) (places : ℕ) → (workers-good : workers < 2 ^ 32) (places-good : places < 2 ^ 32) (ok' : (length deques ≡ deque_words) × (places ≤ deque_places)) → ent 𝓤 (⋆ 𝓛 (‵ (flft κ-deques q-deques) ∷ ‵ ((ShrSlice (named 0) κ-deques u32).own_val (at_list b-deques o-deques γ-deques deques) (slice_val (b-deques, o-deques) n-deques ∷ [])) ∷ [])) (Asked.pre (to-step-g κ-deques q-deques γ-deques b-deques o-deques n-deques deques workers places))
+  goes-step-g κ-deques q-deques γ-deques b-deques o-deques n-deques deques workers places workers-good places-good ok' = qed 𝓛 (‵ (flft κ-deques q-deques) ∷ ‵ ((ShrSlice (named 0) κ-deques u32).own_val (at_list b-deques o-deques γ-deques deques) (slice_val (b-deques, o-deques) n-deques ∷ [])) ∷ []) ∵ says ! ok' $ nothing ! $ move ! (1 ∷ 0 ∷ []) $ group ! 2 $ frame ! $
       nothing ! $ move ! (1 ∷ 0 ∷ []) $ fjoin ! $ owned ! u32 (Is u32) (uint_Makes 𝓛 w32) places _ (refl, places-good) $ fjoin ! $ owned ! u32 (Is u32) (uint_Makes 𝓛 w32) workers _ (refl, workers-good) $ fjoin ! $ done !
 
 module _ {M : Type 1} {𝓤 : Ura M} {𝓛 : Logic 𝓤} {K : Type 0} (mem : Memory → SProp 𝓤) (run : Routine → Fun 𝓤)
     {Γ : List (Item 𝓤)} {E : Env 𝓤 𝓛.H} {C : Calls 𝓤 𝓛.H} {Λ : Loops 𝓤 𝓛.H} {post' : Post 𝓤 𝓛.H} {dest' : Place} {name' : Name} {opds' : List Operand} {rest' : Body} where
   open 𝓛 use {H}
 
-  pub step-g : K → FmC 𝓤 H 𝓛.laws C → Triple 𝓤 (C name') (Asked 𝓛 mem run) → {κ-deques : Lft} {q-deques : Share} {γ-deques : GName} → (b-deques o-deques n-deques : ℕ) (deques : List ℕ) (workers : ℕ) (places : ℕ) → (workers-good : workers < 2 ^ 32) → (places-good : places < 2 ^ 32) → (length deques ≡ dequeWords) × (places ≤ dequePlaces) →
-      (Opds K 𝓛 (raw ((Asked 𝓛 mem run).pre (to-step-g 𝓛 mem run κ-deques q-deques γ-deques b-deques o-deques n-deques deques workers places)) ∷ ‵ ((ShrSlice (named 0) κ-deques u32).own_val (at-list b-deques o-deques γ-deques deques) (slice_val (b-deques, o-deques) n-deques ∷ [])) ∷ Γ) E opds' (vint w32 workers ∷ vint w32 places ∷ slice_val (b-deques, o-deques) n-deques ∷ [])) →
-      ((res' : Bool) → res' ≡ all maxWorkers (dequeFits workers places deques) → Seq K 𝓛 (‵ (Yours u32 κ-deques q-deques γ-deques b-deques o-deques n-deques deques) ∷ Γ) (lands C Λ E dest' (vbool res') rest' post')) →
+  pub step-g : K → FmC 𝓤 H 𝓛.laws C → Triple 𝓤 (C name') (Asked 𝓛 mem run) → {κ-deques : Lft} {q-deques : Share} {γ-deques : GName} → (b-deques o-deques n-deques : ℕ) (deques : List ℕ) (workers : ℕ) (places : ℕ) → (workers-good : workers < 2 ^ 32) → (places-good : places < 2 ^ 32) → (length deques ≡ deque_words) × (places ≤ deque_places) →
+      (Opds K 𝓛 (raw ((Asked 𝓛 mem run).pre (to-step-g 𝓛 mem run κ-deques q-deques γ-deques b-deques o-deques n-deques deques workers places)) ∷ ‵ ((ShrSlice (named 0) κ-deques u32).own_val (at_list b-deques o-deques γ-deques deques) (slice_val (b-deques, o-deques) n-deques ∷ [])) ∷ Γ) E opds' (vint w32 workers ∷ vint w32 places ∷ slice_val (b-deques, o-deques) n-deques ∷ [])) →
+      ((res' : Bool) → res' ≡ all max_workers (deque_fits workers places deques) → Seq K 𝓛 (‵ (Yours u32 κ-deques q-deques γ-deques b-deques o-deques n-deques deques) ∷ Γ) (lands C Λ E dest' (vbool res') rest' post')) →
       Seq K 𝓛 (‵ (Yours u32 κ-deques q-deques γ-deques b-deques o-deques n-deques deques) ∷ Γ) (runs C Λ E (seq (call name' opds' dest') rest') post')
   step-g t' fm' known' {κ-deques} {q-deques} {γ-deques} b-deques o-deques n-deques deques workers places workers-good places-good ok' os' k' =
       give t' u32 b-deques o-deques n-deques deques $
       move t' (0 ∷ 1 ∷ []) $ group t' 2 $ use1 𝓛 (raw ((Asked 𝓛 mem run).pre (to-step-g 𝓛 mem run κ-deques q-deques γ-deques b-deques o-deques n-deques deques workers places))) (goes-step-g 𝓛 mem run κ-deques q-deques γ-deques b-deques o-deques n-deques deques workers places workers-good places-good ok') $
       calls_at t' fm' (Asked 𝓛 mem run) known' (to-step-g 𝓛 mem run κ-deques q-deques γ-deques b-deques o-deques n-deques deques workers places) (os') (λ w'.
-      use1 𝓛 (later (some (λ (res' : Bool). ((‵ (flft κ-deques q-deques) ⊛ ‵ ftrue) ⊛ ‵ (bool.own_val res' (w' ∷ []))) ⊛ raw (ensured 𝓛 callee'.ended (callee'.clauses 𝓛 mem run) (κ-deques, tt) (workers, (places, (at-list b-deques o-deques γ-deques deques, tt))) tt res')))) (id⊢ 𝓤 _) $ await t' tt $ pick t' (λ res'. split t' $ move t' (1 ∷ []) $
-      use1 𝓛 (some (λ (zs' : Unit {0} × (Unit {0} × (Unit {0} × Unit {0}))). ‵ (lasts callee'.ended (κ-deques, tt) (workers, (places, (at-list b-deques o-deques γ-deques deques, tt))) zs') ⊛ raw (fact 𝓤 (res' ≡ all maxWorkers (dequeFits workers places deques))))) (id⊢ 𝓤 _) $ pick t' (λ zs'. split t' $ move t' (1 ∷ []) $ heard t' (res' ≡ all maxWorkers (dequeFits workers places deques)) (λ e'.
+      use1 𝓛 (later (some (λ (res' : Bool). ((‵ (flft κ-deques q-deques) ⊛ ‵ ftrue) ⊛ ‵ (bool.own_val res' (w' ∷ []))) ⊛ raw (ensured 𝓛 callee'.ended (callee'.clauses 𝓛 mem run) (κ-deques, tt) (workers, (places, (at_list b-deques o-deques γ-deques deques, tt))) tt res')))) (id⊢ 𝓤 _) $ await t' tt $ pick t' (λ res'. split t' $ move t' (1 ∷ []) $
+      use1 𝓛 (some (λ (zs' : Unit {0} × (Unit {0} × (Unit {0} × Unit {0}))). ‵ (lasts callee'.ended (κ-deques, tt) (workers, (places, (at_list b-deques o-deques γ-deques deques, tt))) zs') ⊛ raw (fact 𝓤 (res' ≡ all max_workers (deque_fits workers places deques))))) (id⊢ 𝓤 _) $ pick t' (λ zs'. split t' $ move t' (1 ∷ []) $ heard t' (res' ≡ all max_workers (deque_fits workers places deques)) (λ e'.
       fsplit t' $ drop t' $ fsplit t' $ drop t' $ fsplit t' $ drop t' $ drop t' $
       move t' (0 ∷ []) $ split t' $ move t' (1 ∷ []) $ peeks t' bool (Is bool) (shows 𝓛 bool) res' (w' ∷ []) (λ is'. drop t' $ split t' $ move t' (1 ∷ []) $ drop t' $
       move t' (1 ∷ 0 ∷ []) $ fjoin t' $

@@ -37,7 +37,7 @@ use Rattle.frame_check.specs.declared.FramesChecked.TheVariants.{Bad, Good}
 use Rattle.frame_check.specs.contracts.FramesChecked as M-FramesChecked
 use Rattle.frame_check.proofs.FramesChecked.TheLaws as L-FramesChecked
 use Rattle.frame_check.specs.declared.FramesChecked.{FramesChecked}
-use Rattle.frames.proofs.Lent.{at-list, Mine, Yours, Lent, Shown, lend, home, show, back, give}
+use Rattle.frames.proofs.Lent.{at_list, Mine, Yours, Lent, Shown, lend, home, show, back, give}
 use Rattle.frame_check.specs.contracts.found as callee'
 
 abbrev R-FramesChecked : RattleType

@@ -32,11 +32,11 @@ use denote.Triple.Statement.{Contract, Triple}
 use denote.Triple.Call.{calls_at, calls_at_last}
 use denote.Triple.Clauses.{ensured, lasts}
 use denote.Triple.Walked.{says}
-use Rattle.frames.specs.Frames.{frameAt}
+use Rattle.frames.specs.Frames.{frame_at}
 use Rattle.frames.specs.contracts.Frame as M-Frame
 use Rattle.frames.proofs.Frame.TheLaws as L-Frame
 use Rattle.frames.specs.declared.Frame.{Frame}
-use Rattle.frames.proofs.Lent.{at-list, Mine, Yours, Lent, Shown, lend, home, show, back, give}
+use Rattle.frames.proofs.Lent.{at_list, Mine, Yours, Lent, Shown, lend, home, show, back, give}
 use Rattle.frames.specs.contracts.frame_or_zero as callee'
 
 abbrev R-Frame : RattleType
@@ -50,10 +50,10 @@ module _ {M : Type 1} {𝓤 : Ura M} (𝓛 : Logic 𝓤) (mem : Memory → SProp
   Asked = triple_of 𝓛 callee'.signature (callee'.spec 𝓛 mem run)
 
   abbrev pub to-step-g : (κ-frames : Lft) (q-frames : Share) (γ-frames : GName) (b-frames o-frames n-frames : ℕ) (frames : List Frame) (p : ℕ) → Asked.Ghost
-  to-step-g κ-frames q-frames γ-frames b-frames o-frames n-frames frames p = (((κ-frames, tt), (q-frames, tt), tt, (at-list b-frames o-frames γ-frames frames, (p, tt)), (slice_val (b-frames, o-frames) n-frames ∷ [], (vint w32 p ∷ [], tt))), tt)
+  to-step-g κ-frames q-frames γ-frames b-frames o-frames n-frames frames p = (((κ-frames, tt), (q-frames, tt), tt, (at_list b-frames o-frames γ-frames frames, (p, tt)), (slice_val (b-frames, o-frames) n-frames ∷ [], (vint w32 p ∷ [], tt))), tt)
 
-  pub goes-step-g : (κ-frames : Lft) (q-frames : Share) (γ-frames : GName) (b-frames o-frames n-frames : ℕ) (frames : List Frame) (p : ℕ) → (p-good : p < 2 ^ 32) → ent 𝓤 (⋆ 𝓛 (‵ (flft κ-frames q-frames) ∷ ‵ ((ShrSlice (named 0) κ-frames R-Frame).own_val (at-list b-frames o-frames γ-frames frames) (slice_val (b-frames, o-frames) n-frames ∷ [])) ∷ [])) (Asked.pre (to-step-g κ-frames q-frames γ-frames b-frames o-frames n-frames frames p))
-  goes-step-g κ-frames q-frames γ-frames b-frames o-frames n-frames frames p p-good = qed 𝓛 (‵ (flft κ-frames q-frames) ∷ ‵ ((ShrSlice (named 0) κ-frames R-Frame).own_val (at-list b-frames o-frames γ-frames frames) (slice_val (b-frames, o-frames) n-frames ∷ [])) ∷ []) ∵ nothing ! $ move ! (1 ∷ 0 ∷ []) $ group ! 2 $ move ! (1 ∷ 0 ∷ []) $
+  pub goes-step-g : (κ-frames : Lft) (q-frames : Share) (γ-frames : GName) (b-frames o-frames n-frames : ℕ) (frames : List Frame) (p : ℕ) → (p-good : p < 2 ^ 32) → ent 𝓤 (⋆ 𝓛 (‵ (flft κ-frames q-frames) ∷ ‵ ((ShrSlice (named 0) κ-frames R-Frame).own_val (at_list b-frames o-frames γ-frames frames) (slice_val (b-frames, o-frames) n-frames ∷ [])) ∷ [])) (Asked.pre (to-step-g κ-frames q-frames γ-frames b-frames o-frames n-frames frames p))
+  goes-step-g κ-frames q-frames γ-frames b-frames o-frames n-frames frames p p-good = qed 𝓛 (‵ (flft κ-frames q-frames) ∷ ‵ ((ShrSlice (named 0) κ-frames R-Frame).own_val (at_list b-frames o-frames γ-frames frames) (slice_val (b-frames, o-frames) n-frames ∷ [])) ∷ []) ∵ nothing ! $ move ! (1 ∷ 0 ∷ []) $ group ! 2 $ move ! (1 ∷ 0 ∷ []) $
       nothing ! $ owned ! u32 (Is u32) (uint_Makes 𝓛 w32) p _ (refl, p-good) $ fjoin ! $ move ! (1 ∷ 0 ∷ []) $ fjoin ! $ move ! (1 ∷ 0 ∷ []) $ join ! $ frame ! $ done !
 
 module _ {M : Type 1} {𝓤 : Ura M} {𝓛 : Logic 𝓤} {K : Type 0} (mem : Memory → SProp 𝓤) (run : Routine → Fun 𝓤)
@@ -61,15 +61,15 @@ module _ {M : Type 1} {𝓤 : Ura M} {𝓛 : Logic 𝓤} {K : Type 0} (mem : Mem
   open 𝓛 use {H}
 
   pub step-g : K → FmC 𝓤 H 𝓛.laws C → Triple 𝓤 (C name') (Asked 𝓛 mem run) → {κ-frames : Lft} {q-frames : Share} {γ-frames : GName} → (b-frames o-frames n-frames : ℕ) (frames : List Frame) (p : ℕ) → (p-good : p < 2 ^ 32) →
-      (Opds K 𝓛 (raw ((Asked 𝓛 mem run).pre (to-step-g 𝓛 mem run κ-frames q-frames γ-frames b-frames o-frames n-frames frames p)) ∷ ‵ ((ShrSlice (named 0) κ-frames R-Frame).own_val (at-list b-frames o-frames γ-frames frames) (slice_val (b-frames, o-frames) n-frames ∷ [])) ∷ Γ) E opds' (slice_val (b-frames, o-frames) n-frames ∷ vint w32 p ∷ [])) →
-      ((res' : Frame) → Is R-Frame res' (val-Frame res' ∷ []) → res' ≡ frameAt frames p → Seq K 𝓛 (‵ (Yours R-Frame κ-frames q-frames γ-frames b-frames o-frames n-frames frames) ∷ Γ) (lands C Λ E dest' (val-Frame res') rest' post')) →
+      (Opds K 𝓛 (raw ((Asked 𝓛 mem run).pre (to-step-g 𝓛 mem run κ-frames q-frames γ-frames b-frames o-frames n-frames frames p)) ∷ ‵ ((ShrSlice (named 0) κ-frames R-Frame).own_val (at_list b-frames o-frames γ-frames frames) (slice_val (b-frames, o-frames) n-frames ∷ [])) ∷ Γ) E opds' (slice_val (b-frames, o-frames) n-frames ∷ vint w32 p ∷ [])) →
+      ((res' : Frame) → Is R-Frame res' (val-Frame res' ∷ []) → res' ≡ frame_at frames p → Seq K 𝓛 (‵ (Yours R-Frame κ-frames q-frames γ-frames b-frames o-frames n-frames frames) ∷ Γ) (lands C Λ E dest' (val-Frame res') rest' post')) →
       Seq K 𝓛 (‵ (Yours R-Frame κ-frames q-frames γ-frames b-frames o-frames n-frames frames) ∷ Γ) (runs C Λ E (seq (call name' opds' dest') rest') post')
   step-g t' fm' known' {κ-frames} {q-frames} {γ-frames} b-frames o-frames n-frames frames p p-good os' k' =
       give t' R-Frame b-frames o-frames n-frames frames $
       move t' (0 ∷ 1 ∷ []) $ group t' 2 $ use1 𝓛 (raw ((Asked 𝓛 mem run).pre (to-step-g 𝓛 mem run κ-frames q-frames γ-frames b-frames o-frames n-frames frames p))) (goes-step-g 𝓛 mem run κ-frames q-frames γ-frames b-frames o-frames n-frames frames p p-good) $
       calls_at t' fm' (Asked 𝓛 mem run) known' (to-step-g 𝓛 mem run κ-frames q-frames γ-frames b-frames o-frames n-frames frames p) (os') (λ w'.
-      use1 𝓛 (later (some (λ (res' : Frame). ((‵ (flft κ-frames q-frames) ⊛ ‵ ftrue) ⊛ ‵ (R-Frame.own res' (w' ∷ []))) ⊛ raw (ensured 𝓛 callee'.ended (callee'.clauses 𝓛 mem run) (κ-frames, tt) (at-list b-frames o-frames γ-frames frames, (p, tt)) tt res')))) (id⊢ 𝓤 _) $ await t' tt $ pick t' (λ res'. split t' $ move t' (1 ∷ []) $
-      use1 𝓛 (some (λ (zs' : Unit {0} × (Unit {0} × Unit {0})). ‵ (lasts callee'.ended (κ-frames, tt) (at-list b-frames o-frames γ-frames frames, (p, tt)) zs') ⊛ raw (fact 𝓤 (res' ≡ frameAt frames p)))) (id⊢ 𝓤 _) $ pick t' (λ zs'. split t' $ move t' (1 ∷ []) $ heard t' (res' ≡ frameAt frames p) (λ e'.
+      use1 𝓛 (later (some (λ (res' : Frame). ((‵ (flft κ-frames q-frames) ⊛ ‵ ftrue) ⊛ ‵ (R-Frame.own res' (w' ∷ []))) ⊛ raw (ensured 𝓛 callee'.ended (callee'.clauses 𝓛 mem run) (κ-frames, tt) (at_list b-frames o-frames γ-frames frames, (p, tt)) tt res')))) (id⊢ 𝓤 _) $ await t' tt $ pick t' (λ res'. split t' $ move t' (1 ∷ []) $
+      use1 𝓛 (some (λ (zs' : Unit {0} × (Unit {0} × Unit {0})). ‵ (lasts callee'.ended (κ-frames, tt) (at_list b-frames o-frames γ-frames frames, (p, tt)) zs') ⊛ raw (fact 𝓤 (res' ≡ frame_at frames p)))) (id⊢ 𝓤 _) $ pick t' (λ zs'. split t' $ move t' (1 ∷ []) $ heard t' (res' ≡ frame_at frames p) (λ e'.
       fsplit t' $ drop t' $ fsplit t' $ drop t' $ drop t' $
       move t' (0 ∷ []) $ split t' $ move t' (1 ∷ []) $ peeks t' R-Frame (Is R-Frame) (shows 𝓛 R-Frame) res' (w' ∷ []) (λ is'. drop t' $ split t' $ move t' (1 ∷ []) $ drop t' $
       move t' (1 ∷ 0 ∷ []) $ fjoin t' $

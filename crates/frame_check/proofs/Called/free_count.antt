@@ -36,7 +36,7 @@ use Prim.Native.Nat.{◌-◌}
 use Rattle.frame_check.specs.contracts.Census as M-Census
 use Rattle.frame_check.proofs.Census.TheLaws as L-Census
 use Rattle.frame_check.specs.declared.Census.{Census}
-use Rattle.frames.proofs.Lent.{at-list, Mine, Yours, Lent, Shown, lend, home, show, back, give}
+use Rattle.frames.proofs.Lent.{at_list, Mine, Yours, Lent, Shown, lend, home, show, back, give}
 use Rattle.frame_check.specs.contracts.free_count as callee'
 
 abbrev R-Census : RattleType

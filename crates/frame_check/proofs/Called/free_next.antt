@@ -32,11 +32,11 @@ use denote.Triple.Statement.{Contract, Triple}
 use denote.Triple.Call.{calls_at, calls_at_last}
 use denote.Triple.Clauses.{ensured, lasts}
 use denote.Triple.Walked.{says}
-use Rattle.frame_check.specs.Algorithm.{freeNext}
+use Rattle.frame_check.specs.Algorithm.{free_next}
 use Rattle.frames.specs.contracts.Frame as M-Frame
 use Rattle.frames.proofs.Frame.TheLaws as L-Frame
 use Rattle.frames.specs.declared.Frame.{Frame}
-use Rattle.frames.proofs.Lent.{at-list, Mine, Yours, Lent, Shown, lend, home, show, back, give}
+use Rattle.frames.proofs.Lent.{at_list, Mine, Yours, Lent, Shown, lend, home, show, back, give}
 use Rattle.frame_check.specs.contracts.places.free_next as callee'
 
 abbrev R-Frame : RattleType
@@ -62,13 +62,13 @@ module _ {M : Type 1} {𝓤 : Ura M} {𝓛 : Logic 𝓤} {K : Type 0} (mem : Mem
 
   pub step : K → FmC 𝓤 H 𝓛.laws C → Triple 𝓤 (C name') (Asked 𝓛 mem run) → (places : ℕ) (f : Frame) (p : ℕ) → (places-good : places < 2 ^ 32) → (f-good : Is R-Frame f (val-Frame f ∷ [])) → (p-good : p < 2 ^ 32) →
       (Opds K 𝓛 (raw ((Asked 𝓛 mem run).pre (to_step 𝓛 mem run places f p)) ∷ Γ) E opds' (vint w32 places ∷ val-Frame f ∷ vint w32 p ∷ [])) →
-      ((res' : ℕ) → res' < 2 ^ 32 → res' ≡ freeNext places f p → Seq K 𝓛 (Γ) (lands C Λ E dest' (vint w32 res') rest' post')) →
+      ((res' : ℕ) → res' < 2 ^ 32 → res' ≡ free_next places f p → Seq K 𝓛 (Γ) (lands C Λ E dest' (vint w32 res') rest' post')) →
       Seq K 𝓛 (Γ) (runs C Λ E (seq (call name' opds' dest') rest') post')
   step t' fm' known' places f p places-good f-good p-good os' k' =
       nothing t' $ use1 𝓛 (raw ((Asked 𝓛 mem run).pre (to_step 𝓛 mem run places f p))) (goes_step 𝓛 mem run places f p places-good f-good p-good) $
       calls_at t' fm' (Asked 𝓛 mem run) known' (to_step 𝓛 mem run places f p) (os') (λ w'.
       use1 𝓛 (later (some (λ (res' : ℕ). (‵ ftrue ⊛ ‵ (u32.own_val res' (w' ∷ []))) ⊛ raw (ensured 𝓛 callee'.ended (callee'.clauses 𝓛 mem run) tt (places, (f, (p, tt))) tt res')))) (id⊢ 𝓤 _) $ await t' tt $ pick t' (λ res'. split t' $ move t' (1 ∷ []) $
-      use1 𝓛 (some (λ (zs' : Unit {0} × (Unit {0} × (Unit {0} × Unit {0}))). ‵ (lasts callee'.ended tt (places, (f, (p, tt))) zs') ⊛ raw (fact 𝓤 (res' ≡ freeNext places f p)))) (id⊢ 𝓤 _) $ pick t' (λ zs'. split t' $ move t' (1 ∷ []) $ heard t' (res' ≡ freeNext places f p) (λ e'.
+      use1 𝓛 (some (λ (zs' : Unit {0} × (Unit {0} × (Unit {0} × Unit {0}))). ‵ (lasts callee'.ended tt (places, (f, (p, tt))) zs') ⊛ raw (fact 𝓤 (res' ≡ free_next places f p)))) (id⊢ 𝓤 _) $ pick t' (λ zs'. split t' $ move t' (1 ∷ []) $ heard t' (res' ≡ free_next places f p) (λ e'.
       fsplit t' $ drop t' $ fsplit t' $ drop t' $ fsplit t' $ drop t' $ drop t' $
       move t' (0 ∷ []) $ split t' $ move t' (1 ∷ []) $ peeks t' u32 (Is u32) (shows 𝓛 u32) res' (w' ∷ []) (λ is'. drop t' $ drop t' $
       subst (λ (v' : Val). Seq K 𝓛 (Γ) (lands C Λ E dest' v' rest' post')) (sym (ap only (uint_Tells w32 res' _ is'))) (k' res' is'.1 e'))))))

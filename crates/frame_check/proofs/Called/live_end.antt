@@ -35,7 +35,7 @@ use denote.Triple.Walked.{says}
 use Rattle.frame_check.specs.contracts.Census as M-Census
 use Rattle.frame_check.proofs.Census.TheLaws as L-Census
 use Rattle.frame_check.specs.declared.Census.{Census}
-use Rattle.frames.proofs.Lent.{at-list, Mine, Yours, Lent, Shown, lend, home, show, back, give}
+use Rattle.frames.proofs.Lent.{at_list, Mine, Yours, Lent, Shown, lend, home, show, back, give}
 use Rattle.frame_check.specs.contracts.live_end as callee'
 
 abbrev R-Census : RattleType

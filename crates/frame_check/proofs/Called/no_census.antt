@@ -32,11 +32,11 @@ use denote.Triple.Statement.{Contract, Triple}
 use denote.Triple.Call.{calls_at, calls_at_last}
 use denote.Triple.Clauses.{ensured, lasts}
 use denote.Triple.Walked.{says}
-use Rattle.frame_check.specs.Algorithm.{noCensus}
+use Rattle.frame_check.specs.Algorithm.{no_census}
 use Rattle.frame_check.specs.contracts.Census as M-Census
 use Rattle.frame_check.proofs.Census.TheLaws as L-Census
 use Rattle.frame_check.specs.declared.Census.{Census}
-use Rattle.frames.proofs.Lent.{at-list, Mine, Yours, Lent, Shown, lend, home, show, back, give}
+use Rattle.frames.proofs.Lent.{at_list, Mine, Yours, Lent, Shown, lend, home, show, back, give}
 use Rattle.frame_check.specs.contracts.no_census as callee'
 
 abbrev R-Census : RattleType
@@ -62,13 +62,13 @@ module _ {M : Type 1} {𝓤 : Ura M} {𝓛 : Logic 𝓤} {K : Type 0} (mem : Mem
 
   pub step : K → FmC 𝓤 H 𝓛.laws C → Triple 𝓤 (C name') (Asked 𝓛 mem run) →
       (Opds K 𝓛 (raw ((Asked 𝓛 mem run).pre (to_step 𝓛 mem run)) ∷ Γ) E opds' ([])) →
-      ((res' : Census) → Is R-Census res' (val-Census res' ∷ []) → res' ≡ noCensus → Seq K 𝓛 (Γ) (lands C Λ E dest' (val-Census res') rest' post')) →
+      ((res' : Census) → Is R-Census res' (val-Census res' ∷ []) → res' ≡ no_census → Seq K 𝓛 (Γ) (lands C Λ E dest' (val-Census res') rest' post')) →
       Seq K 𝓛 (Γ) (runs C Λ E (seq (call name' opds' dest') rest') post')
   step t' fm' known' os' k' =
       nothing t' $ use1 𝓛 (raw ((Asked 𝓛 mem run).pre (to_step 𝓛 mem run))) (goes_step 𝓛 mem run) $
       calls_at t' fm' (Asked 𝓛 mem run) known' (to_step 𝓛 mem run) (os') (λ w'.
       use1 𝓛 (later (some (λ (res' : Census). (‵ ftrue ⊛ ‵ (R-Census.own res' (w' ∷ []))) ⊛ raw (ensured 𝓛 callee'.ended (callee'.clauses 𝓛 mem run) tt tt tt res')))) (id⊢ 𝓤 _) $ await t' tt $ pick t' (λ res'. split t' $ move t' (1 ∷ []) $
-      use1 𝓛 (some (λ (zs' : Unit {0}). ‵ (lasts callee'.ended tt tt zs') ⊛ raw (fact 𝓤 (res' ≡ noCensus)))) (id⊢ 𝓤 _) $ pick t' (λ zs'. split t' $ move t' (1 ∷ []) $ heard t' (res' ≡ noCensus) (λ e'.
+      use1 𝓛 (some (λ (zs' : Unit {0}). ‵ (lasts callee'.ended tt tt zs') ⊛ raw (fact 𝓤 (res' ≡ no_census)))) (id⊢ 𝓤 _) $ pick t' (λ zs'. split t' $ move t' (1 ∷ []) $ heard t' (res' ≡ no_census) (λ e'.
       drop t' $
       move t' (0 ∷ []) $ split t' $ move t' (1 ∷ []) $ peeks t' R-Census (Is R-Census) (shows 𝓛 R-Census) res' (w' ∷ []) (λ is'. drop t' $ drop t' $
       subst (λ (v' : Val). Seq K 𝓛 (Γ) (lands C Λ E dest' v' rest' post')) (sym (ap only (LL.tells M-Census.the_type L-Census.the_laws res' _ is'))) (k' res' (subst (Is R-Census res') (LL.tells M-Census.the_type L-Census.the_laws res' _ is') is') e'))))))

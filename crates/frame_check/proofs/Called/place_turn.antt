@@ -34,11 +34,11 @@ use denote.Triple.Clauses.{ensured, lasts}
 use denote.Triple.Walked.{says}
 use mathlib.Core.Bool.{◌&&◌}
 use lib.ListN.{get_or}
-use Rattle.frame_check.specs.Algorithm.{recordSound}
+use Rattle.frame_check.specs.Algorithm.{record_sound}
 use Rattle.frames.specs.contracts.Frame as M-Frame
 use Rattle.frames.proofs.Frame.TheLaws as L-Frame
 use Rattle.frames.specs.declared.Frame.{Frame}
-use Rattle.frames.proofs.Lent.{at-list, Mine, Yours, Lent, Shown, lend, home, show, back, give}
+use Rattle.frames.proofs.Lent.{at_list, Mine, Yours, Lent, Shown, lend, home, show, back, give}
 use Rattle.frame_check.specs.contracts.places.place_turn as callee'
 
 abbrev R-Frame : RattleType
@@ -52,10 +52,10 @@ module _ {M : Type 1} {𝓤 : Ura M} (𝓛 : Logic 𝓤) (mem : Memory → SProp
   Asked = triple_of 𝓛 callee'.signature (callee'.spec 𝓛 mem run)
 
   abbrev pub to-step-g : (κ-tallies : Lft) (q-tallies : Share) (γ-tallies : GName) (b-tallies o-tallies n-tallies : ℕ) (tallies : List ℕ) (sound : Bool) (linked : Bool) (places : ℕ) (f : Frame) (g : Frame) (p : ℕ) → Asked.Ghost
-  to-step-g κ-tallies q-tallies γ-tallies b-tallies o-tallies n-tallies tallies sound linked places f g p = (((κ-tallies, tt), (q-tallies, tt), tt, (sound, (linked, (places, (f, (g, (at-list b-tallies o-tallies γ-tallies tallies, (p, tt))))))), (vbool sound ∷ [], (vbool linked ∷ [], (vint w32 places ∷ [], (val-Frame f ∷ [], (val-Frame g ∷ [], (slice_val (b-tallies, o-tallies) n-tallies ∷ [], (vint w32 p ∷ [], tt)))))))), tt)
+  to-step-g κ-tallies q-tallies γ-tallies b-tallies o-tallies n-tallies tallies sound linked places f g p = (((κ-tallies, tt), (q-tallies, tt), tt, (sound, (linked, (places, (f, (g, (at_list b-tallies o-tallies γ-tallies tallies, (p, tt))))))), (vbool sound ∷ [], (vbool linked ∷ [], (vint w32 places ∷ [], (val-Frame f ∷ [], (val-Frame g ∷ [], (slice_val (b-tallies, o-tallies) n-tallies ∷ [], (vint w32 p ∷ [], tt)))))))), tt)
 
-  pub goes-step-g : (κ-tallies : Lft) (q-tallies : Share) (γ-tallies : GName) (b-tallies o-tallies n-tallies : ℕ) (tallies : List ℕ) (sound : Bool) (linked : Bool) (places : ℕ) (f : Frame) (g : Frame) (p : ℕ) → (places-good : places < 2 ^ 32) (f-good : Is R-Frame f (val-Frame f ∷ [])) (g-good : Is R-Frame g (val-Frame g ∷ [])) (p-good : p < 2 ^ 32) → ent 𝓤 (⋆ 𝓛 (‵ (flft κ-tallies q-tallies) ∷ ‵ ((ShrSlice (named 0) κ-tallies u32).own_val (at-list b-tallies o-tallies γ-tallies tallies) (slice_val (b-tallies, o-tallies) n-tallies ∷ [])) ∷ [])) (Asked.pre (to-step-g κ-tallies q-tallies γ-tallies b-tallies o-tallies n-tallies tallies sound linked places f g p))
-  goes-step-g κ-tallies q-tallies γ-tallies b-tallies o-tallies n-tallies tallies sound linked places f g p places-good f-good g-good p-good = qed 𝓛 (‵ (flft κ-tallies q-tallies) ∷ ‵ ((ShrSlice (named 0) κ-tallies u32).own_val (at-list b-tallies o-tallies γ-tallies tallies) (slice_val (b-tallies, o-tallies) n-tallies ∷ [])) ∷ []) ∵ nothing ! $ move ! (1 ∷ 0 ∷ []) $ group ! 2 $ move ! (1 ∷ 0 ∷ []) $
+  pub goes-step-g : (κ-tallies : Lft) (q-tallies : Share) (γ-tallies : GName) (b-tallies o-tallies n-tallies : ℕ) (tallies : List ℕ) (sound : Bool) (linked : Bool) (places : ℕ) (f : Frame) (g : Frame) (p : ℕ) → (places-good : places < 2 ^ 32) (f-good : Is R-Frame f (val-Frame f ∷ [])) (g-good : Is R-Frame g (val-Frame g ∷ [])) (p-good : p < 2 ^ 32) → ent 𝓤 (⋆ 𝓛 (‵ (flft κ-tallies q-tallies) ∷ ‵ ((ShrSlice (named 0) κ-tallies u32).own_val (at_list b-tallies o-tallies γ-tallies tallies) (slice_val (b-tallies, o-tallies) n-tallies ∷ [])) ∷ [])) (Asked.pre (to-step-g κ-tallies q-tallies γ-tallies b-tallies o-tallies n-tallies tallies sound linked places f g p))
+  goes-step-g κ-tallies q-tallies γ-tallies b-tallies o-tallies n-tallies tallies sound linked places f g p places-good f-good g-good p-good = qed 𝓛 (‵ (flft κ-tallies q-tallies) ∷ ‵ ((ShrSlice (named 0) κ-tallies u32).own_val (at_list b-tallies o-tallies γ-tallies tallies) (slice_val (b-tallies, o-tallies) n-tallies ∷ [])) ∷ []) ∵ nothing ! $ move ! (1 ∷ 0 ∷ []) $ group ! 2 $ move ! (1 ∷ 0 ∷ []) $
       nothing ! $ owned ! u32 (Is u32) (uint_Makes 𝓛 w32) p _ (refl, p-good) $ fjoin ! $ move ! (1 ∷ 0 ∷ []) $ fjoin ! $ owned ! R-Frame (Is R-Frame) (LL.makes M-Frame.the_type L-Frame.the_plain 𝓛) g _ g-good $ fjoin ! $ owned ! R-Frame (Is R-Frame) (LL.makes M-Frame.the_type L-Frame.the_plain 𝓛) f _ f-good $ fjoin ! $ owned ! u32 (Is u32) (uint_Makes 𝓛 w32) places _ (refl, places-good) $ fjoin ! $ owned ! bool (Is bool) (bool_Makes 𝓛) linked _ refl $ fjoin ! $ owned ! bool (Is bool) (bool_Makes 𝓛) sound _ refl $ fjoin ! $ move ! (1 ∷ 0 ∷ []) $ join ! $ frame ! $ done !
 
 module _ {M : Type 1} {𝓤 : Ura M} {𝓛 : Logic 𝓤} {K : Type 0} (mem : Memory → SProp 𝓤) (run : Routine → Fun 𝓤)
@@ -63,15 +63,15 @@ module _ {M : Type 1} {𝓤 : Ura M} {𝓛 : Logic 𝓤} {K : Type 0} (mem : Mem
   open 𝓛 use {H}
 
   pub step-g : K → FmC 𝓤 H 𝓛.laws C → Triple 𝓤 (C name') (Asked 𝓛 mem run) → {κ-tallies : Lft} {q-tallies : Share} {γ-tallies : GName} → (b-tallies o-tallies n-tallies : ℕ) (tallies : List ℕ) (sound : Bool) (linked : Bool) (places : ℕ) (f : Frame) (g : Frame) (p : ℕ) → (places-good : places < 2 ^ 32) → (f-good : Is R-Frame f (val-Frame f ∷ [])) → (g-good : Is R-Frame g (val-Frame g ∷ [])) → (p-good : p < 2 ^ 32) →
-      (Opds K 𝓛 (raw ((Asked 𝓛 mem run).pre (to-step-g 𝓛 mem run κ-tallies q-tallies γ-tallies b-tallies o-tallies n-tallies tallies sound linked places f g p)) ∷ ‵ ((ShrSlice (named 0) κ-tallies u32).own_val (at-list b-tallies o-tallies γ-tallies tallies) (slice_val (b-tallies, o-tallies) n-tallies ∷ [])) ∷ Γ) E opds' (vbool sound ∷ vbool linked ∷ vint w32 places ∷ val-Frame f ∷ val-Frame g ∷ slice_val (b-tallies, o-tallies) n-tallies ∷ vint w32 p ∷ [])) →
-      ((res' : Bool) → res' ≡ (sound && (linked && recordSound places f g (get_or tallies p 0))) → Seq K 𝓛 (‵ (Yours u32 κ-tallies q-tallies γ-tallies b-tallies o-tallies n-tallies tallies) ∷ Γ) (lands C Λ E dest' (vbool res') rest' post')) →
+      (Opds K 𝓛 (raw ((Asked 𝓛 mem run).pre (to-step-g 𝓛 mem run κ-tallies q-tallies γ-tallies b-tallies o-tallies n-tallies tallies sound linked places f g p)) ∷ ‵ ((ShrSlice (named 0) κ-tallies u32).own_val (at_list b-tallies o-tallies γ-tallies tallies) (slice_val (b-tallies, o-tallies) n-tallies ∷ [])) ∷ Γ) E opds' (vbool sound ∷ vbool linked ∷ vint w32 places ∷ val-Frame f ∷ val-Frame g ∷ slice_val (b-tallies, o-tallies) n-tallies ∷ vint w32 p ∷ [])) →
+      ((res' : Bool) → res' ≡ (sound && (linked && record_sound places f g (get_or tallies p 0))) → Seq K 𝓛 (‵ (Yours u32 κ-tallies q-tallies γ-tallies b-tallies o-tallies n-tallies tallies) ∷ Γ) (lands C Λ E dest' (vbool res') rest' post')) →
       Seq K 𝓛 (‵ (Yours u32 κ-tallies q-tallies γ-tallies b-tallies o-tallies n-tallies tallies) ∷ Γ) (runs C Λ E (seq (call name' opds' dest') rest') post')
   step-g t' fm' known' {κ-tallies} {q-tallies} {γ-tallies} b-tallies o-tallies n-tallies tallies sound linked places f g p places-good f-good g-good p-good os' k' =
       give t' u32 b-tallies o-tallies n-tallies tallies $
       move t' (0 ∷ 1 ∷ []) $ group t' 2 $ use1 𝓛 (raw ((Asked 𝓛 mem run).pre (to-step-g 𝓛 mem run κ-tallies q-tallies γ-tallies b-tallies o-tallies n-tallies tallies sound linked places f g p))) (goes-step-g 𝓛 mem run κ-tallies q-tallies γ-tallies b-tallies o-tallies n-tallies tallies sound linked places f g p places-good f-good g-good p-good) $
       calls_at t' fm' (Asked 𝓛 mem run) known' (to-step-g 𝓛 mem run κ-tallies q-tallies γ-tallies b-tallies o-tallies n-tallies tallies sound linked places f g p) (os') (λ w'.
-      use1 𝓛 (later (some (λ (res' : Bool). ((‵ (flft κ-tallies q-tallies) ⊛ ‵ ftrue) ⊛ ‵ (bool.own_val res' (w' ∷ []))) ⊛ raw (ensured 𝓛 callee'.ended (callee'.clauses 𝓛 mem run) (κ-tallies, tt) (sound, (linked, (places, (f, (g, (at-list b-tallies o-tallies γ-tallies tallies, (p, tt))))))) tt res')))) (id⊢ 𝓤 _) $ await t' tt $ pick t' (λ res'. split t' $ move t' (1 ∷ []) $
-      use1 𝓛 (some (λ (zs' : Unit {0} × (Unit {0} × (Unit {0} × (Unit {0} × (Unit {0} × (Unit {0} × (Unit {0} × Unit {0}))))))). ‵ (lasts callee'.ended (κ-tallies, tt) (sound, (linked, (places, (f, (g, (at-list b-tallies o-tallies γ-tallies tallies, (p, tt))))))) zs') ⊛ raw (fact 𝓤 (res' ≡ (sound && (linked && recordSound places f g (get_or tallies p 0))))))) (id⊢ 𝓤 _) $ pick t' (λ zs'. split t' $ move t' (1 ∷ []) $ heard t' (res' ≡ (sound && (linked && recordSound places f g (get_or tallies p 0)))) (λ e'.
+      use1 𝓛 (later (some (λ (res' : Bool). ((‵ (flft κ-tallies q-tallies) ⊛ ‵ ftrue) ⊛ ‵ (bool.own_val res' (w' ∷ []))) ⊛ raw (ensured 𝓛 callee'.ended (callee'.clauses 𝓛 mem run) (κ-tallies, tt) (sound, (linked, (places, (f, (g, (at_list b-tallies o-tallies γ-tallies tallies, (p, tt))))))) tt res')))) (id⊢ 𝓤 _) $ await t' tt $ pick t' (λ res'. split t' $ move t' (1 ∷ []) $
+      use1 𝓛 (some (λ (zs' : Unit {0} × (Unit {0} × (Unit {0} × (Unit {0} × (Unit {0} × (Unit {0} × (Unit {0} × Unit {0}))))))). ‵ (lasts callee'.ended (κ-tallies, tt) (sound, (linked, (places, (f, (g, (at_list b-tallies o-tallies γ-tallies tallies, (p, tt))))))) zs') ⊛ raw (fact 𝓤 (res' ≡ (sound && (linked && record_sound places f g (get_or tallies p 0))))))) (id⊢ 𝓤 _) $ pick t' (λ zs'. split t' $ move t' (1 ∷ []) $ heard t' (res' ≡ (sound && (linked && record_sound places f g (get_or tallies p 0)))) (λ e'.
       fsplit t' $ drop t' $ fsplit t' $ drop t' $ fsplit t' $ drop t' $ fsplit t' $ drop t' $ fsplit t' $ drop t' $ fsplit t' $ drop t' $ fsplit t' $ drop t' $ drop t' $
       move t' (0 ∷ []) $ split t' $ move t' (1 ∷ []) $ peeks t' bool (Is bool) (shows 𝓛 bool) res' (w' ∷ []) (λ is'. drop t' $ split t' $ move t' (1 ∷ []) $ drop t' $
       move t' (1 ∷ 0 ∷ []) $ fjoin t' $

@@ -33,12 +33,12 @@ use denote.Triple.Call.{calls_at, calls_at_last}
 use denote.Triple.Clauses.{ensured, lasts}
 use denote.Triple.Walked.{says}
 use Prim.Native.Nat.{◌≤◌}
-use Rattle.frames.specs.Widths.{maxPlaces}
-use Rattle.frame_check.specs.Algorithm.{linksTallied}
+use Rattle.frames.specs.Widths.{max_places}
+use Rattle.frame_check.specs.Algorithm.{links_tallied}
 use Rattle.frames.specs.contracts.Frame as M-Frame
 use Rattle.frames.proofs.Frame.TheLaws as L-Frame
 use Rattle.frames.specs.declared.Frame.{Frame}
-use Rattle.frames.proofs.Lent.{at-list, Mine, Yours, Lent, Shown, lend, home, show, back, give}
+use Rattle.frames.proofs.Lent.{at_list, Mine, Yours, Lent, Shown, lend, home, show, back, give}
 use Rattle.frame_check.specs.contracts.links.siblings_sound as callee'
 
 abbrev R-Frame : RattleType
@@ -52,26 +52,26 @@ module _ {M : Type 1} {𝓤 : Ura M} (𝓛 : Logic 𝓤) (mem : Memory → SProp
   Asked = triple_of 𝓛 callee'.signature (callee'.spec 𝓛 mem run)
 
   abbrev pub to-step-gg : (κ-frames : Lft) (q-frames : Share) (γ-frames : GName) (κ-tallies : Lft) (q-tallies : Share) (γ-tallies : GName) (b-frames o-frames n-frames : ℕ) (frames : List Frame) (b-tallies o-tallies n-tallies : ℕ) (tallies : List ℕ) (places : ℕ) (q : ℕ) → Asked.Ghost
-  to-step-gg κ-frames q-frames γ-frames κ-tallies q-tallies γ-tallies b-frames o-frames n-frames frames b-tallies o-tallies n-tallies tallies places q = (((κ-frames, (κ-tallies, tt)), (q-frames, (q-tallies, tt)), tt, (at-list b-frames o-frames γ-frames frames, (at-list b-tallies o-tallies γ-tallies tallies, (places, (q, tt)))), (slice_val (b-frames, o-frames) n-frames ∷ [], (slice_val (b-tallies, o-tallies) n-tallies ∷ [], (vint w32 places ∷ [], (vint w32 q ∷ [], tt))))), tt)
+  to-step-gg κ-frames q-frames γ-frames κ-tallies q-tallies γ-tallies b-frames o-frames n-frames frames b-tallies o-tallies n-tallies tallies places q = (((κ-frames, (κ-tallies, tt)), (q-frames, (q-tallies, tt)), tt, (at_list b-frames o-frames γ-frames frames, (at_list b-tallies o-tallies γ-tallies tallies, (places, (q, tt)))), (slice_val (b-frames, o-frames) n-frames ∷ [], (slice_val (b-tallies, o-tallies) n-tallies ∷ [], (vint w32 places ∷ [], (vint w32 q ∷ [], tt))))), tt)
 
-  pub goes-step-gg : (κ-frames : Lft) (q-frames : Share) (γ-frames : GName) (κ-tallies : Lft) (q-tallies : Share) (γ-tallies : GName) (b-frames o-frames n-frames : ℕ) (frames : List Frame) (b-tallies o-tallies n-tallies : ℕ) (tallies : List ℕ) (places : ℕ) (q : ℕ) → (places-good : places < 2 ^ 32) (q-good : q < 2 ^ 32) (ok' : (places ≡ length frames) × (places ≤ maxPlaces) × (q < places)) → ent 𝓤 (⋆ 𝓛 (‵ (flft κ-frames q-frames) ∷ ‵ (flft κ-tallies q-tallies) ∷ ‵ ((ShrSlice (named 0) κ-frames R-Frame).own_val (at-list b-frames o-frames γ-frames frames) (slice_val (b-frames, o-frames) n-frames ∷ [])) ∷ ‵ ((ShrSlice (named 0) κ-tallies u32).own_val (at-list b-tallies o-tallies γ-tallies tallies) (slice_val (b-tallies, o-tallies) n-tallies ∷ [])) ∷ [])) (Asked.pre (to-step-gg κ-frames q-frames γ-frames κ-tallies q-tallies γ-tallies b-frames o-frames n-frames frames b-tallies o-tallies n-tallies tallies places q))
-  goes-step-gg κ-frames q-frames γ-frames κ-tallies q-tallies γ-tallies b-frames o-frames n-frames frames b-tallies o-tallies n-tallies tallies places q places-good q-good ok' = qed 𝓛 (‵ (flft κ-frames q-frames) ∷ ‵ (flft κ-tallies q-tallies) ∷ ‵ ((ShrSlice (named 0) κ-frames R-Frame).own_val (at-list b-frames o-frames γ-frames frames) (slice_val (b-frames, o-frames) n-frames ∷ [])) ∷ ‵ ((ShrSlice (named 0) κ-tallies u32).own_val (at-list b-tallies o-tallies γ-tallies tallies) (slice_val (b-tallies, o-tallies) n-tallies ∷ [])) ∷ []) ∵ says ! ok' $ nothing ! $ move ! (1 ∷ 2 ∷ 0 ∷ []) $ group ! 3 $ frame ! $
+  pub goes-step-gg : (κ-frames : Lft) (q-frames : Share) (γ-frames : GName) (κ-tallies : Lft) (q-tallies : Share) (γ-tallies : GName) (b-frames o-frames n-frames : ℕ) (frames : List Frame) (b-tallies o-tallies n-tallies : ℕ) (tallies : List ℕ) (places : ℕ) (q : ℕ) → (places-good : places < 2 ^ 32) (q-good : q < 2 ^ 32) (ok' : (places ≡ length frames) × (places ≤ max_places) × (q < places)) → ent 𝓤 (⋆ 𝓛 (‵ (flft κ-frames q-frames) ∷ ‵ (flft κ-tallies q-tallies) ∷ ‵ ((ShrSlice (named 0) κ-frames R-Frame).own_val (at_list b-frames o-frames γ-frames frames) (slice_val (b-frames, o-frames) n-frames ∷ [])) ∷ ‵ ((ShrSlice (named 0) κ-tallies u32).own_val (at_list b-tallies o-tallies γ-tallies tallies) (slice_val (b-tallies, o-tallies) n-tallies ∷ [])) ∷ [])) (Asked.pre (to-step-gg κ-frames q-frames γ-frames κ-tallies q-tallies γ-tallies b-frames o-frames n-frames frames b-tallies o-tallies n-tallies tallies places q))
+  goes-step-gg κ-frames q-frames γ-frames κ-tallies q-tallies γ-tallies b-frames o-frames n-frames frames b-tallies o-tallies n-tallies tallies places q places-good q-good ok' = qed 𝓛 (‵ (flft κ-frames q-frames) ∷ ‵ (flft κ-tallies q-tallies) ∷ ‵ ((ShrSlice (named 0) κ-frames R-Frame).own_val (at_list b-frames o-frames γ-frames frames) (slice_val (b-frames, o-frames) n-frames ∷ [])) ∷ ‵ ((ShrSlice (named 0) κ-tallies u32).own_val (at_list b-tallies o-tallies γ-tallies tallies) (slice_val (b-tallies, o-tallies) n-tallies ∷ [])) ∷ []) ∵ says ! ok' $ nothing ! $ move ! (1 ∷ 2 ∷ 0 ∷ []) $ group ! 3 $ frame ! $
       nothing ! $ owned ! u32 (Is u32) (uint_Makes 𝓛 w32) q _ (refl, q-good) $ fjoin ! $ owned ! u32 (Is u32) (uint_Makes 𝓛 w32) places _ (refl, places-good) $ fjoin ! $ move ! (2 ∷ 0 ∷ []) $ fjoin ! $ move ! (1 ∷ 0 ∷ []) $ fjoin ! $ done !
 
 module _ {M : Type 1} {𝓤 : Ura M} {𝓛 : Logic 𝓤} {K : Type 0} (mem : Memory → SProp 𝓤) (run : Routine → Fun 𝓤)
     {Γ : List (Item 𝓤)} {E : Env 𝓤 𝓛.H} {C : Calls 𝓤 𝓛.H} {Λ : Loops 𝓤 𝓛.H} {post' : Post 𝓤 𝓛.H} {dest' : Place} {name' : Name} {opds' : List Operand} {rest' : Body} where
   open 𝓛 use {H}
 
-  pub step-gg : K → FmC 𝓤 H 𝓛.laws C → Triple 𝓤 (C name') (Asked 𝓛 mem run) → {κ-frames : Lft} {q-frames : Share} {γ-frames : GName} {κ-tallies : Lft} {q-tallies : Share} {γ-tallies : GName} → (b-frames o-frames n-frames : ℕ) (frames : List Frame) (b-tallies o-tallies n-tallies : ℕ) (tallies : List ℕ) (places : ℕ) (q : ℕ) → (places-good : places < 2 ^ 32) → (q-good : q < 2 ^ 32) → (places ≡ length frames) × (places ≤ maxPlaces) × (q < places) →
-      (Opds K 𝓛 (raw ((Asked 𝓛 mem run).pre (to-step-gg 𝓛 mem run κ-frames q-frames γ-frames κ-tallies q-tallies γ-tallies b-frames o-frames n-frames frames b-tallies o-tallies n-tallies tallies places q)) ∷ ‵ ((ShrSlice (named 0) κ-tallies u32).own_val (at-list b-tallies o-tallies γ-tallies tallies) (slice_val (b-tallies, o-tallies) n-tallies ∷ [])) ∷ ‵ ((ShrSlice (named 0) κ-frames R-Frame).own_val (at-list b-frames o-frames γ-frames frames) (slice_val (b-frames, o-frames) n-frames ∷ [])) ∷ Γ) E opds' (slice_val (b-frames, o-frames) n-frames ∷ slice_val (b-tallies, o-tallies) n-tallies ∷ vint w32 places ∷ vint w32 q ∷ [])) →
-      ((res' : Bool) → res' ≡ linksTallied frames tallies q → Seq K 𝓛 (‵ (Yours R-Frame κ-frames q-frames γ-frames b-frames o-frames n-frames frames) ∷ ‵ (Yours u32 κ-tallies q-tallies γ-tallies b-tallies o-tallies n-tallies tallies) ∷ Γ) (lands C Λ E dest' (vbool res') rest' post')) →
+  pub step-gg : K → FmC 𝓤 H 𝓛.laws C → Triple 𝓤 (C name') (Asked 𝓛 mem run) → {κ-frames : Lft} {q-frames : Share} {γ-frames : GName} {κ-tallies : Lft} {q-tallies : Share} {γ-tallies : GName} → (b-frames o-frames n-frames : ℕ) (frames : List Frame) (b-tallies o-tallies n-tallies : ℕ) (tallies : List ℕ) (places : ℕ) (q : ℕ) → (places-good : places < 2 ^ 32) → (q-good : q < 2 ^ 32) → (places ≡ length frames) × (places ≤ max_places) × (q < places) →
+      (Opds K 𝓛 (raw ((Asked 𝓛 mem run).pre (to-step-gg 𝓛 mem run κ-frames q-frames γ-frames κ-tallies q-tallies γ-tallies b-frames o-frames n-frames frames b-tallies o-tallies n-tallies tallies places q)) ∷ ‵ ((ShrSlice (named 0) κ-tallies u32).own_val (at_list b-tallies o-tallies γ-tallies tallies) (slice_val (b-tallies, o-tallies) n-tallies ∷ [])) ∷ ‵ ((ShrSlice (named 0) κ-frames R-Frame).own_val (at_list b-frames o-frames γ-frames frames) (slice_val (b-frames, o-frames) n-frames ∷ [])) ∷ Γ) E opds' (slice_val (b-frames, o-frames) n-frames ∷ slice_val (b-tallies, o-tallies) n-tallies ∷ vint w32 places ∷ vint w32 q ∷ [])) →
+      ((res' : Bool) → res' ≡ links_tallied frames tallies q → Seq K 𝓛 (‵ (Yours R-Frame κ-frames q-frames γ-frames b-frames o-frames n-frames frames) ∷ ‵ (Yours u32 κ-tallies q-tallies γ-tallies b-tallies o-tallies n-tallies tallies) ∷ Γ) (lands C Λ E dest' (vbool res') rest' post')) →
       Seq K 𝓛 (‵ (Yours R-Frame κ-frames q-frames γ-frames b-frames o-frames n-frames frames) ∷ ‵ (Yours u32 κ-tallies q-tallies γ-tallies b-tallies o-tallies n-tallies tallies) ∷ Γ) (runs C Λ E (seq (call name' opds' dest') rest') post')
   step-gg t' fm' known' {κ-frames} {q-frames} {γ-frames} {κ-tallies} {q-tallies} {γ-tallies} b-frames o-frames n-frames frames b-tallies o-tallies n-tallies tallies places q places-good q-good ok' os' k' =
       give t' R-Frame b-frames o-frames n-frames frames $ move t' (3 ∷ []) $ give t' u32 b-tallies o-tallies n-tallies tallies $
       move t' (3 ∷ 0 ∷ 4 ∷ 1 ∷ []) $ group t' 4 $ use1 𝓛 (raw ((Asked 𝓛 mem run).pre (to-step-gg 𝓛 mem run κ-frames q-frames γ-frames κ-tallies q-tallies γ-tallies b-frames o-frames n-frames frames b-tallies o-tallies n-tallies tallies places q))) (goes-step-gg 𝓛 mem run κ-frames q-frames γ-frames κ-tallies q-tallies γ-tallies b-frames o-frames n-frames frames b-tallies o-tallies n-tallies tallies places q places-good q-good ok') $
       calls_at t' fm' (Asked 𝓛 mem run) known' (to-step-gg 𝓛 mem run κ-frames q-frames γ-frames κ-tallies q-tallies γ-tallies b-frames o-frames n-frames frames b-tallies o-tallies n-tallies tallies places q) (os') (λ w'.
-      use1 𝓛 (later (some (λ (res' : Bool). ((‵ (flft κ-frames q-frames) ⊛ (‵ (flft κ-tallies q-tallies) ⊛ ‵ ftrue)) ⊛ ‵ (bool.own_val res' (w' ∷ []))) ⊛ raw (ensured 𝓛 callee'.ended (callee'.clauses 𝓛 mem run) (κ-frames, (κ-tallies, tt)) (at-list b-frames o-frames γ-frames frames, (at-list b-tallies o-tallies γ-tallies tallies, (places, (q, tt)))) tt res')))) (id⊢ 𝓤 _) $ await t' tt $ pick t' (λ res'. split t' $ move t' (1 ∷ []) $
-      use1 𝓛 (some (λ (zs' : Unit {0} × (Unit {0} × (Unit {0} × (Unit {0} × Unit {0})))). ‵ (lasts callee'.ended (κ-frames, (κ-tallies, tt)) (at-list b-frames o-frames γ-frames frames, (at-list b-tallies o-tallies γ-tallies tallies, (places, (q, tt)))) zs') ⊛ raw (fact 𝓤 (res' ≡ linksTallied frames tallies q)))) (id⊢ 𝓤 _) $ pick t' (λ zs'. split t' $ move t' (1 ∷ []) $ heard t' (res' ≡ linksTallied frames tallies q) (λ e'.
+      use1 𝓛 (later (some (λ (res' : Bool). ((‵ (flft κ-frames q-frames) ⊛ (‵ (flft κ-tallies q-tallies) ⊛ ‵ ftrue)) ⊛ ‵ (bool.own_val res' (w' ∷ []))) ⊛ raw (ensured 𝓛 callee'.ended (callee'.clauses 𝓛 mem run) (κ-frames, (κ-tallies, tt)) (at_list b-frames o-frames γ-frames frames, (at_list b-tallies o-tallies γ-tallies tallies, (places, (q, tt)))) tt res')))) (id⊢ 𝓤 _) $ await t' tt $ pick t' (λ res'. split t' $ move t' (1 ∷ []) $
+      use1 𝓛 (some (λ (zs' : Unit {0} × (Unit {0} × (Unit {0} × (Unit {0} × Unit {0})))). ‵ (lasts callee'.ended (κ-frames, (κ-tallies, tt)) (at_list b-frames o-frames γ-frames frames, (at_list b-tallies o-tallies γ-tallies tallies, (places, (q, tt)))) zs') ⊛ raw (fact 𝓤 (res' ≡ links_tallied frames tallies q)))) (id⊢ 𝓤 _) $ pick t' (λ zs'. split t' $ move t' (1 ∷ []) $ heard t' (res' ≡ links_tallied frames tallies q) (λ e'.
       fsplit t' $ drop t' $ fsplit t' $ drop t' $ fsplit t' $ drop t' $ fsplit t' $ drop t' $ drop t' $
       move t' (0 ∷ []) $ split t' $ move t' (1 ∷ []) $ peeks t' bool (Is bool) (shows 𝓛 bool) res' (w' ∷ []) (λ is'. drop t' $ split t' $ move t' (1 ∷ []) $ split t' $ move t' (1 ∷ []) $ drop t' $
       move t' (2 ∷ 0 ∷ []) $ fjoin t' $ move t' (2 ∷ 1 ∷ []) $ fjoin t' $

@@ -32,14 +32,14 @@ use denote.Triple.Statement.{Contract, Triple}
 use denote.Triple.Call.{calls_at, calls_at_last}
 use denote.Triple.Clauses.{ensured, lasts}
 use denote.Triple.Walked.{says}
-use Rattle.frame_check.specs.Algorithm.{counted, childTallied}
+use Rattle.frame_check.specs.Algorithm.{counted, child_tallied}
 use Rattle.frame_check.specs.contracts.Census as M-Census
 use Rattle.frame_check.proofs.Census.TheLaws as L-Census
 use Rattle.frame_check.specs.declared.Census.{Census}
 use Rattle.frames.specs.contracts.Frame as M-Frame
 use Rattle.frames.proofs.Frame.TheLaws as L-Frame
 use Rattle.frames.specs.declared.Frame.{Frame}
-use Rattle.frames.proofs.Lent.{at-list, Mine, Yours, Lent, Shown, lend, home, show, back, give}
+use Rattle.frames.proofs.Lent.{at_list, Mine, Yours, Lent, Shown, lend, home, show, back, give}
 use Rattle.frame_check.specs.contracts.tallies.tally_child as callee'
 
 abbrev R-Census : RattleType
@@ -59,10 +59,10 @@ module _ {M : Type 1} {𝓤 : Ura M} (𝓛 : Logic 𝓤) (mem : Memory → SProp
   Asked = triple_of 𝓛 callee'.signature (callee'.spec 𝓛 mem run)
 
   abbrev pub to_step : (ν-tallies : ℕ) (δ-tallies : GName) (b-tallies o-tallies n-tallies : ℕ) (tallies : List ℕ) (census : Census) (p : ℕ) (f : Frame) → Asked.Ghost
-  to_step ν-tallies δ-tallies b-tallies o-tallies n-tallies tallies census p f = ((((ν-tallies ∷ []), tt), (full_share, tt), tt, (at-list b-tallies o-tallies δ-tallies tallies, (census, (p, (f, tt)))), (slice_val (b-tallies, o-tallies) n-tallies ∷ [], (val-Census census ∷ [], (vint w32 p ∷ [], (val-Frame f ∷ [], tt))))), tt)
+  to_step ν-tallies δ-tallies b-tallies o-tallies n-tallies tallies census p f = ((((ν-tallies ∷ []), tt), (full_share, tt), tt, (at_list b-tallies o-tallies δ-tallies tallies, (census, (p, (f, tt)))), (slice_val (b-tallies, o-tallies) n-tallies ∷ [], (val-Census census ∷ [], (vint w32 p ∷ [], (val-Frame f ∷ [], tt))))), tt)
 
-  pub goes_step : (ν-tallies : ℕ) (δ-tallies : GName) (b-tallies o-tallies n-tallies : ℕ) (tallies : List ℕ) (census : Census) (p : ℕ) (f : Frame) → (census-good : Is R-Census census (val-Census census ∷ [])) (p-good : p < 2 ^ 32) (f-good : Is R-Frame f (val-Frame f ∷ [])) → ent 𝓤 (⋆ 𝓛 (‵ (flft (ν-tallies ∷ []) full_share) ∷ ‵ ((MutSlice (named 0) (ν-tallies ∷ []) u32).own_val (at-list b-tallies o-tallies δ-tallies tallies) (slice_val (b-tallies, o-tallies) n-tallies ∷ [])) ∷ [])) (Asked.pre (to_step ν-tallies δ-tallies b-tallies o-tallies n-tallies tallies census p f))
-  goes_step ν-tallies δ-tallies b-tallies o-tallies n-tallies tallies census p f census-good p-good f-good = qed 𝓛 (‵ (flft (ν-tallies ∷ []) full_share) ∷ ‵ ((MutSlice (named 0) (ν-tallies ∷ []) u32).own_val (at-list b-tallies o-tallies δ-tallies tallies) (slice_val (b-tallies, o-tallies) n-tallies ∷ [])) ∷ []) ∵ nothing ! $ move ! (1 ∷ 0 ∷ []) $ group ! 2 $ move ! (1 ∷ 0 ∷ []) $
+  pub goes_step : (ν-tallies : ℕ) (δ-tallies : GName) (b-tallies o-tallies n-tallies : ℕ) (tallies : List ℕ) (census : Census) (p : ℕ) (f : Frame) → (census-good : Is R-Census census (val-Census census ∷ [])) (p-good : p < 2 ^ 32) (f-good : Is R-Frame f (val-Frame f ∷ [])) → ent 𝓤 (⋆ 𝓛 (‵ (flft (ν-tallies ∷ []) full_share) ∷ ‵ ((MutSlice (named 0) (ν-tallies ∷ []) u32).own_val (at_list b-tallies o-tallies δ-tallies tallies) (slice_val (b-tallies, o-tallies) n-tallies ∷ [])) ∷ [])) (Asked.pre (to_step ν-tallies δ-tallies b-tallies o-tallies n-tallies tallies census p f))
+  goes_step ν-tallies δ-tallies b-tallies o-tallies n-tallies tallies census p f census-good p-good f-good = qed 𝓛 (‵ (flft (ν-tallies ∷ []) full_share) ∷ ‵ ((MutSlice (named 0) (ν-tallies ∷ []) u32).own_val (at_list b-tallies o-tallies δ-tallies tallies) (slice_val (b-tallies, o-tallies) n-tallies ∷ [])) ∷ []) ∵ nothing ! $ move ! (1 ∷ 0 ∷ []) $ group ! 2 $ move ! (1 ∷ 0 ∷ []) $
       nothing ! $ owned ! R-Frame (Is R-Frame) (LL.makes M-Frame.the_type L-Frame.the_plain 𝓛) f _ f-good $ fjoin ! $ owned ! u32 (Is u32) (uint_Makes 𝓛 w32) p _ (refl, p-good) $ fjoin ! $ owned ! R-Census (Is R-Census) (LL.makes M-Census.the_type L-Census.the_plain 𝓛) census _ census-good $ fjoin ! $ move ! (1 ∷ 0 ∷ []) $ fjoin ! $ move ! (1 ∷ 0 ∷ []) $ join ! $ frame ! $ done !
 
 module _ {M : Type 1} {𝓤 : Ura M} {𝓛 : Logic 𝓤} {K : Type 0} (mem : Memory → SProp 𝓤) (run : Routine → Fun 𝓤)
@@ -71,14 +71,14 @@ module _ {M : Type 1} {𝓤 : Ura M} {𝓛 : Logic 𝓤} {K : Type 0} (mem : Mem
 
   pub step : K → FmC 𝓤 H 𝓛.laws C → Triple 𝓤 (C name') (Asked 𝓛 mem run) → {κ-tallies : Lft} {q-tallies : Share} {γ-tallies : GName} → (b-tallies o-tallies n-tallies : ℕ) (tallies : List ℕ) (census : Census) (p : ℕ) (f : Frame) → (census-good : Is R-Census census (val-Census census ∷ [])) → (p-good : p < 2 ^ 32) → (f-good : Is R-Frame f (val-Frame f ∷ [])) → length tallies ≡ n-tallies → Room u32 n-tallies →
       ((ν-tallies : ℕ) (δ-tallies : GName) → Opds K 𝓛 (raw ((Asked 𝓛 mem run).pre (to_step 𝓛 mem run ν-tallies δ-tallies b-tallies o-tallies n-tallies tallies census p f)) ∷ ‵ (Lent u32 κ-tallies (ν-tallies ∷ []) q-tallies γ-tallies b-tallies o-tallies δ-tallies tallies) ∷ Γ) E opds' (slice_val (b-tallies, o-tallies) n-tallies ∷ val-Census census ∷ vint w32 p ∷ val-Frame f ∷ [])) →
-      ((res' : Census) (zs-tallies : List ℕ) → Is R-Census res' (val-Census res' ∷ []) → (zs-tallies ≡ childTallied tallies p f) × (res' ≡ counted census p f) → length zs-tallies ≡ length tallies → Seq K 𝓛 (‵ (Mine u32 κ-tallies q-tallies γ-tallies b-tallies o-tallies n-tallies zs-tallies) ∷ Γ) (lands C Λ E dest' (val-Census res') rest' post')) →
+      ((res' : Census) (zs-tallies : List ℕ) → Is R-Census res' (val-Census res' ∷ []) → (zs-tallies ≡ child_tallied tallies p f) × (res' ≡ counted census p f) → length zs-tallies ≡ length tallies → Seq K 𝓛 (‵ (Mine u32 κ-tallies q-tallies γ-tallies b-tallies o-tallies n-tallies zs-tallies) ∷ Γ) (lands C Λ E dest' (val-Census res') rest' post')) →
       Seq K 𝓛 (‵ (Mine u32 κ-tallies q-tallies γ-tallies b-tallies o-tallies n-tallies tallies) ∷ Γ) (runs C Λ E (seq (call name' opds' dest') rest') post')
   step t' fm' known' {κ-tallies} {q-tallies} {γ-tallies} b-tallies o-tallies n-tallies tallies census p f census-good p-good f-good len-tallies room-tallies os' k' =
       lend t' tt u32 b-tallies o-tallies n-tallies tallies len-tallies (λ ν-tallies δ-tallies.
       move t' (0 ∷ 1 ∷ []) $ group t' 2 $ use1 𝓛 (raw ((Asked 𝓛 mem run).pre (to_step 𝓛 mem run ν-tallies δ-tallies b-tallies o-tallies n-tallies tallies census p f))) (goes_step 𝓛 mem run ν-tallies δ-tallies b-tallies o-tallies n-tallies tallies census p f census-good p-good f-good) $
       calls_at t' fm' (Asked 𝓛 mem run) known' (to_step 𝓛 mem run ν-tallies δ-tallies b-tallies o-tallies n-tallies tallies census p f) (os' ν-tallies δ-tallies) (λ w'.
-      use1 𝓛 (later (some (λ (res' : Census). ((‵ (flft (ν-tallies ∷ []) full_share) ⊛ ‵ ftrue) ⊛ ‵ (R-Census.own res' (w' ∷ []))) ⊛ raw (ensured 𝓛 callee'.ended (callee'.clauses 𝓛 mem run) ((ν-tallies ∷ []), tt) (at-list b-tallies o-tallies δ-tallies tallies, (census, (p, (f, tt)))) tt res')))) (id⊢ 𝓤 _) $ await t' tt $ pick t' (λ res'. split t' $ move t' (1 ∷ []) $
-      use1 𝓛 (some (λ (zs' : List ℕ × (Unit {0} × (Unit {0} × (Unit {0} × Unit {0})))). ‵ (lasts callee'.ended ((ν-tallies ∷ []), tt) (at-list b-tallies o-tallies δ-tallies tallies, (census, (p, (f, tt)))) zs') ⊛ raw (fact 𝓤 ((zs'.0 ≡ childTallied tallies p f) × (res' ≡ counted census p f))))) (id⊢ 𝓤 _) $ pick t' (λ zs'. split t' $ move t' (1 ∷ []) $ heard t' ((zs'.0 ≡ childTallied tallies p f) × (res' ≡ counted census p f)) (λ e'.
+      use1 𝓛 (later (some (λ (res' : Census). ((‵ (flft (ν-tallies ∷ []) full_share) ⊛ ‵ ftrue) ⊛ ‵ (R-Census.own res' (w' ∷ []))) ⊛ raw (ensured 𝓛 callee'.ended (callee'.clauses 𝓛 mem run) ((ν-tallies ∷ []), tt) (at_list b-tallies o-tallies δ-tallies tallies, (census, (p, (f, tt)))) tt res')))) (id⊢ 𝓤 _) $ await t' tt $ pick t' (λ res'. split t' $ move t' (1 ∷ []) $
+      use1 𝓛 (some (λ (zs' : List ℕ × (Unit {0} × (Unit {0} × (Unit {0} × Unit {0})))). ‵ (lasts callee'.ended ((ν-tallies ∷ []), tt) (at_list b-tallies o-tallies δ-tallies tallies, (census, (p, (f, tt)))) zs') ⊛ raw (fact 𝓤 ((zs'.0 ≡ child_tallied tallies p f) × (res' ≡ counted census p f))))) (id⊢ 𝓤 _) $ pick t' (λ zs'. split t' $ move t' (1 ∷ []) $ heard t' ((zs'.0 ≡ child_tallied tallies p f) × (res' ≡ counted census p f)) (λ e'.
       fsplit t' $ fsplit t' $ move t' (1 ∷ []) $ feq_l t' (λ same-tallies. move t' (1 ∷ []) $ fsplit t' $ drop t' $ fsplit t' $ drop t' $ fsplit t' $ drop t' $ drop t' $
       move t' (1 ∷ []) $ split t' $ move t' (1 ∷ []) $ peeks t' R-Census (Is R-Census) (shows 𝓛 R-Census) res' (w' ∷ []) (λ is'. drop t' $ split t' $ move t' (1 ∷ []) $ drop t' $
       move t' (0 ∷ 2 ∷ 1 ∷ []) $ home t' tt u32 b-tallies o-tallies n-tallies tallies zs'.0 len-tallies room-tallies same-tallies $

@@ -33,15 +33,15 @@ use denote.Triple.Call.{calls_at, calls_at_last}
 use denote.Triple.Clauses.{ensured, lasts}
 use denote.Triple.Walked.{says}
 use Prim.Native.Nat.{◌≤◌}
-use Rattle.frames.specs.Widths.{maxPlaces}
-use Rattle.frame_check.specs.Algorithm.{tallyChildren, censusTo}
+use Rattle.frames.specs.Widths.{max_places}
+use Rattle.frame_check.specs.Algorithm.{tally_children, census_to}
 use Rattle.frames.specs.contracts.Frame as M-Frame
 use Rattle.frames.proofs.Frame.TheLaws as L-Frame
 use Rattle.frames.specs.declared.Frame.{Frame}
 use Rattle.frame_check.specs.contracts.Census as M-Census
 use Rattle.frame_check.proofs.Census.TheLaws as L-Census
 use Rattle.frame_check.specs.declared.Census.{Census}
-use Rattle.frames.proofs.Lent.{at-list, Mine, Yours, Lent, Shown, lend, home, show, back, give}
+use Rattle.frames.proofs.Lent.{at_list, Mine, Yours, Lent, Shown, lend, home, show, back, give}
 use Rattle.frame_check.specs.contracts.tallies.tally_children as callee'
 
 abbrev R-Frame : RattleType
@@ -61,26 +61,26 @@ module _ {M : Type 1} {𝓤 : Ura M} (𝓛 : Logic 𝓤) (mem : Memory → SProp
   Asked = triple_of 𝓛 callee'.signature (callee'.spec 𝓛 mem run)
 
   abbrev pub to-step-g : (ν-tallies : ℕ) (δ-tallies : GName) (κ-frames : Lft) (q-frames : Share) (γ-frames : GName) (b-tallies o-tallies n-tallies : ℕ) (tallies : List ℕ) (b-frames o-frames n-frames : ℕ) (frames : List Frame) (places : ℕ) → Asked.Ghost
-  to-step-g ν-tallies δ-tallies κ-frames q-frames γ-frames b-tallies o-tallies n-tallies tallies b-frames o-frames n-frames frames places = ((((ν-tallies ∷ []), (κ-frames, tt)), (full_share, (q-frames, tt)), tt, (at-list b-tallies o-tallies δ-tallies tallies, (at-list b-frames o-frames γ-frames frames, (places, tt))), (slice_val (b-tallies, o-tallies) n-tallies ∷ [], (slice_val (b-frames, o-frames) n-frames ∷ [], (vint w32 places ∷ [], tt)))), tt)
+  to-step-g ν-tallies δ-tallies κ-frames q-frames γ-frames b-tallies o-tallies n-tallies tallies b-frames o-frames n-frames frames places = ((((ν-tallies ∷ []), (κ-frames, tt)), (full_share, (q-frames, tt)), tt, (at_list b-tallies o-tallies δ-tallies tallies, (at_list b-frames o-frames γ-frames frames, (places, tt))), (slice_val (b-tallies, o-tallies) n-tallies ∷ [], (slice_val (b-frames, o-frames) n-frames ∷ [], (vint w32 places ∷ [], tt)))), tt)
 
-  pub goes-step-g : (ν-tallies : ℕ) (δ-tallies : GName) (κ-frames : Lft) (q-frames : Share) (γ-frames : GName) (b-tallies o-tallies n-tallies : ℕ) (tallies : List ℕ) (b-frames o-frames n-frames : ℕ) (frames : List Frame) (places : ℕ) → (places-good : places < 2 ^ 32) (ok' : (length tallies ≡ maxPlaces) × (places ≡ length frames) × (places ≤ maxPlaces)) → ent 𝓤 (⋆ 𝓛 (‵ (flft (ν-tallies ∷ []) full_share) ∷ ‵ (flft κ-frames q-frames) ∷ ‵ ((MutSlice (named 0) (ν-tallies ∷ []) u32).own_val (at-list b-tallies o-tallies δ-tallies tallies) (slice_val (b-tallies, o-tallies) n-tallies ∷ [])) ∷ ‵ ((ShrSlice (named 0) κ-frames R-Frame).own_val (at-list b-frames o-frames γ-frames frames) (slice_val (b-frames, o-frames) n-frames ∷ [])) ∷ [])) (Asked.pre (to-step-g ν-tallies δ-tallies κ-frames q-frames γ-frames b-tallies o-tallies n-tallies tallies b-frames o-frames n-frames frames places))
-  goes-step-g ν-tallies δ-tallies κ-frames q-frames γ-frames b-tallies o-tallies n-tallies tallies b-frames o-frames n-frames frames places places-good ok' = qed 𝓛 (‵ (flft (ν-tallies ∷ []) full_share) ∷ ‵ (flft κ-frames q-frames) ∷ ‵ ((MutSlice (named 0) (ν-tallies ∷ []) u32).own_val (at-list b-tallies o-tallies δ-tallies tallies) (slice_val (b-tallies, o-tallies) n-tallies ∷ [])) ∷ ‵ ((ShrSlice (named 0) κ-frames R-Frame).own_val (at-list b-frames o-frames γ-frames frames) (slice_val (b-frames, o-frames) n-frames ∷ [])) ∷ []) ∵ says ! ok' $ nothing ! $ move ! (1 ∷ 2 ∷ 0 ∷ []) $ group ! 3 $ frame ! $
+  pub goes-step-g : (ν-tallies : ℕ) (δ-tallies : GName) (κ-frames : Lft) (q-frames : Share) (γ-frames : GName) (b-tallies o-tallies n-tallies : ℕ) (tallies : List ℕ) (b-frames o-frames n-frames : ℕ) (frames : List Frame) (places : ℕ) → (places-good : places < 2 ^ 32) (ok' : (length tallies ≡ max_places) × (places ≡ length frames) × (places ≤ max_places)) → ent 𝓤 (⋆ 𝓛 (‵ (flft (ν-tallies ∷ []) full_share) ∷ ‵ (flft κ-frames q-frames) ∷ ‵ ((MutSlice (named 0) (ν-tallies ∷ []) u32).own_val (at_list b-tallies o-tallies δ-tallies tallies) (slice_val (b-tallies, o-tallies) n-tallies ∷ [])) ∷ ‵ ((ShrSlice (named 0) κ-frames R-Frame).own_val (at_list b-frames o-frames γ-frames frames) (slice_val (b-frames, o-frames) n-frames ∷ [])) ∷ [])) (Asked.pre (to-step-g ν-tallies δ-tallies κ-frames q-frames γ-frames b-tallies o-tallies n-tallies tallies b-frames o-frames n-frames frames places))
+  goes-step-g ν-tallies δ-tallies κ-frames q-frames γ-frames b-tallies o-tallies n-tallies tallies b-frames o-frames n-frames frames places places-good ok' = qed 𝓛 (‵ (flft (ν-tallies ∷ []) full_share) ∷ ‵ (flft κ-frames q-frames) ∷ ‵ ((MutSlice (named 0) (ν-tallies ∷ []) u32).own_val (at_list b-tallies o-tallies δ-tallies tallies) (slice_val (b-tallies, o-tallies) n-tallies ∷ [])) ∷ ‵ ((ShrSlice (named 0) κ-frames R-Frame).own_val (at_list b-frames o-frames γ-frames frames) (slice_val (b-frames, o-frames) n-frames ∷ [])) ∷ []) ∵ says ! ok' $ nothing ! $ move ! (1 ∷ 2 ∷ 0 ∷ []) $ group ! 3 $ frame ! $
       nothing ! $ owned ! u32 (Is u32) (uint_Makes 𝓛 w32) places _ (refl, places-good) $ fjoin ! $ move ! (2 ∷ 0 ∷ []) $ fjoin ! $ move ! (1 ∷ 0 ∷ []) $ fjoin ! $ done !
 
 module _ {M : Type 1} {𝓤 : Ura M} {𝓛 : Logic 𝓤} {K : Type 0} (mem : Memory → SProp 𝓤) (run : Routine → Fun 𝓤)
     {Γ : List (Item 𝓤)} {E : Env 𝓤 𝓛.H} {C : Calls 𝓤 𝓛.H} {Λ : Loops 𝓤 𝓛.H} {post' : Post 𝓤 𝓛.H} {dest' : Place} {name' : Name} {opds' : List Operand} {rest' : Body} where
   open 𝓛 use {H}
 
-  pub step-g : K → FmC 𝓤 H 𝓛.laws C → Triple 𝓤 (C name') (Asked 𝓛 mem run) → {κ-tallies : Lft} {q-tallies : Share} {γ-tallies : GName} {κ-frames : Lft} {q-frames : Share} {γ-frames : GName} → (b-tallies o-tallies n-tallies : ℕ) (tallies : List ℕ) (b-frames o-frames n-frames : ℕ) (frames : List Frame) (places : ℕ) → (places-good : places < 2 ^ 32) → (length tallies ≡ maxPlaces) × (places ≡ length frames) × (places ≤ maxPlaces) → length tallies ≡ n-tallies → Room u32 n-tallies →
-      ((ν-tallies : ℕ) (δ-tallies : GName) → Opds K 𝓛 (raw ((Asked 𝓛 mem run).pre (to-step-g 𝓛 mem run ν-tallies δ-tallies κ-frames q-frames γ-frames b-tallies o-tallies n-tallies tallies b-frames o-frames n-frames frames places)) ∷ ‵ ((ShrSlice (named 0) κ-frames R-Frame).own_val (at-list b-frames o-frames γ-frames frames) (slice_val (b-frames, o-frames) n-frames ∷ [])) ∷ ‵ (Lent u32 κ-tallies (ν-tallies ∷ []) q-tallies γ-tallies b-tallies o-tallies δ-tallies tallies) ∷ Γ) E opds' (slice_val (b-tallies, o-tallies) n-tallies ∷ slice_val (b-frames, o-frames) n-frames ∷ vint w32 places ∷ [])) →
-      ((res' : Census) (zs-tallies : List ℕ) → Is R-Census res' (val-Census res' ∷ []) → (zs-tallies ≡ tallyChildren frames tallies) × (res' ≡ censusTo frames (length frames)) → length zs-tallies ≡ length tallies → Seq K 𝓛 (‵ (Mine u32 κ-tallies q-tallies γ-tallies b-tallies o-tallies n-tallies zs-tallies) ∷ ‵ (Yours R-Frame κ-frames q-frames γ-frames b-frames o-frames n-frames frames) ∷ Γ) (lands C Λ E dest' (val-Census res') rest' post')) →
+  pub step-g : K → FmC 𝓤 H 𝓛.laws C → Triple 𝓤 (C name') (Asked 𝓛 mem run) → {κ-tallies : Lft} {q-tallies : Share} {γ-tallies : GName} {κ-frames : Lft} {q-frames : Share} {γ-frames : GName} → (b-tallies o-tallies n-tallies : ℕ) (tallies : List ℕ) (b-frames o-frames n-frames : ℕ) (frames : List Frame) (places : ℕ) → (places-good : places < 2 ^ 32) → (length tallies ≡ max_places) × (places ≡ length frames) × (places ≤ max_places) → length tallies ≡ n-tallies → Room u32 n-tallies →
+      ((ν-tallies : ℕ) (δ-tallies : GName) → Opds K 𝓛 (raw ((Asked 𝓛 mem run).pre (to-step-g 𝓛 mem run ν-tallies δ-tallies κ-frames q-frames γ-frames b-tallies o-tallies n-tallies tallies b-frames o-frames n-frames frames places)) ∷ ‵ ((ShrSlice (named 0) κ-frames R-Frame).own_val (at_list b-frames o-frames γ-frames frames) (slice_val (b-frames, o-frames) n-frames ∷ [])) ∷ ‵ (Lent u32 κ-tallies (ν-tallies ∷ []) q-tallies γ-tallies b-tallies o-tallies δ-tallies tallies) ∷ Γ) E opds' (slice_val (b-tallies, o-tallies) n-tallies ∷ slice_val (b-frames, o-frames) n-frames ∷ vint w32 places ∷ [])) →
+      ((res' : Census) (zs-tallies : List ℕ) → Is R-Census res' (val-Census res' ∷ []) → (zs-tallies ≡ tally_children frames tallies) × (res' ≡ census_to frames (length frames)) → length zs-tallies ≡ length tallies → Seq K 𝓛 (‵ (Mine u32 κ-tallies q-tallies γ-tallies b-tallies o-tallies n-tallies zs-tallies) ∷ ‵ (Yours R-Frame κ-frames q-frames γ-frames b-frames o-frames n-frames frames) ∷ Γ) (lands C Λ E dest' (val-Census res') rest' post')) →
       Seq K 𝓛 (‵ (Mine u32 κ-tallies q-tallies γ-tallies b-tallies o-tallies n-tallies tallies) ∷ ‵ (Yours R-Frame κ-frames q-frames γ-frames b-frames o-frames n-frames frames) ∷ Γ) (runs C Λ E (seq (call name' opds' dest') rest') post')
   step-g t' fm' known' {κ-tallies} {q-tallies} {γ-tallies} {κ-frames} {q-frames} {γ-frames} b-tallies o-tallies n-tallies tallies b-frames o-frames n-frames frames places places-good ok' len-tallies room-tallies os' k' =
       lend t' tt u32 b-tallies o-tallies n-tallies tallies len-tallies (λ ν-tallies δ-tallies. move t' (3 ∷ []) $ give t' R-Frame b-frames o-frames n-frames frames $
       move t' (3 ∷ 0 ∷ 4 ∷ 1 ∷ []) $ group t' 4 $ use1 𝓛 (raw ((Asked 𝓛 mem run).pre (to-step-g 𝓛 mem run ν-tallies δ-tallies κ-frames q-frames γ-frames b-tallies o-tallies n-tallies tallies b-frames o-frames n-frames frames places))) (goes-step-g 𝓛 mem run ν-tallies δ-tallies κ-frames q-frames γ-frames b-tallies o-tallies n-tallies tallies b-frames o-frames n-frames frames places places-good ok') $
       calls_at t' fm' (Asked 𝓛 mem run) known' (to-step-g 𝓛 mem run ν-tallies δ-tallies κ-frames q-frames γ-frames b-tallies o-tallies n-tallies tallies b-frames o-frames n-frames frames places) (os' ν-tallies δ-tallies) (λ w'.
-      use1 𝓛 (later (some (λ (res' : Census). ((‵ (flft (ν-tallies ∷ []) full_share) ⊛ (‵ (flft κ-frames q-frames) ⊛ ‵ ftrue)) ⊛ ‵ (R-Census.own res' (w' ∷ []))) ⊛ raw (ensured 𝓛 callee'.ended (callee'.clauses 𝓛 mem run) ((ν-tallies ∷ []), (κ-frames, tt)) (at-list b-tallies o-tallies δ-tallies tallies, (at-list b-frames o-frames γ-frames frames, (places, tt))) tt res')))) (id⊢ 𝓤 _) $ await t' tt $ pick t' (λ res'. split t' $ move t' (1 ∷ []) $
-      use1 𝓛 (some (λ (zs' : List ℕ × (Unit {0} × (Unit {0} × Unit {0}))). ‵ (lasts callee'.ended ((ν-tallies ∷ []), (κ-frames, tt)) (at-list b-tallies o-tallies δ-tallies tallies, (at-list b-frames o-frames γ-frames frames, (places, tt))) zs') ⊛ raw (fact 𝓤 ((zs'.0 ≡ tallyChildren frames tallies) × (res' ≡ censusTo frames (length frames)))))) (id⊢ 𝓤 _) $ pick t' (λ zs'. split t' $ move t' (1 ∷ []) $ heard t' ((zs'.0 ≡ tallyChildren frames tallies) × (res' ≡ censusTo frames (length frames))) (λ e'.
+      use1 𝓛 (later (some (λ (res' : Census). ((‵ (flft (ν-tallies ∷ []) full_share) ⊛ (‵ (flft κ-frames q-frames) ⊛ ‵ ftrue)) ⊛ ‵ (R-Census.own res' (w' ∷ []))) ⊛ raw (ensured 𝓛 callee'.ended (callee'.clauses 𝓛 mem run) ((ν-tallies ∷ []), (κ-frames, tt)) (at_list b-tallies o-tallies δ-tallies tallies, (at_list b-frames o-frames γ-frames frames, (places, tt))) tt res')))) (id⊢ 𝓤 _) $ await t' tt $ pick t' (λ res'. split t' $ move t' (1 ∷ []) $
+      use1 𝓛 (some (λ (zs' : List ℕ × (Unit {0} × (Unit {0} × Unit {0}))). ‵ (lasts callee'.ended ((ν-tallies ∷ []), (κ-frames, tt)) (at_list b-tallies o-tallies δ-tallies tallies, (at_list b-frames o-frames γ-frames frames, (places, tt))) zs') ⊛ raw (fact 𝓤 ((zs'.0 ≡ tally_children frames tallies) × (res' ≡ census_to frames (length frames)))))) (id⊢ 𝓤 _) $ pick t' (λ zs'. split t' $ move t' (1 ∷ []) $ heard t' ((zs'.0 ≡ tally_children frames tallies) × (res' ≡ census_to frames (length frames))) (λ e'.
       fsplit t' $ fsplit t' $ move t' (1 ∷ []) $ feq_l t' (λ same-tallies. move t' (1 ∷ []) $ fsplit t' $ drop t' $ fsplit t' $ drop t' $ drop t' $
       move t' (1 ∷ []) $ split t' $ move t' (1 ∷ []) $ peeks t' R-Census (Is R-Census) (shows 𝓛 R-Census) res' (w' ∷ []) (λ is'. drop t' $ split t' $ move t' (1 ∷ []) $ split t' $ move t' (1 ∷ []) $ drop t' $
       move t' (3 ∷ 0 ∷ []) $ fjoin t' $ move t' (1 ∷ 3 ∷ 2 ∷ []) $ home t' tt u32 b-tallies o-tallies n-tallies tallies zs'.0 len-tallies room-tallies same-tallies $

@@ -34,13 +34,13 @@ use denote.Triple.Clauses.{ensured, lasts}
 use denote.Triple.Walked.{says}
 use mathlib.Core.Bool.{◌&&◌}
 use Prim.Native.Nat.{◌≤◌}
-use Rattle.frames.specs.Widths.{maxWorkers, dequePlaces, dequeWords}
+use Rattle.frames.specs.Widths.{max_workers, deque_places, deque_words}
 use Rattle.frames.specs.Deques.{size}
-use Rattle.frame_check.specs.Algorithm.{tallyDeque, dequeSound}
+use Rattle.frame_check.specs.Algorithm.{tally_deque, deque_sound}
 use Rattle.frames.specs.contracts.Frame as M-Frame
 use Rattle.frames.proofs.Frame.TheLaws as L-Frame
 use Rattle.frames.specs.declared.Frame.{Frame}
-use Rattle.frames.proofs.Lent.{at-list, Mine, Yours, Lent, Shown, lend, home, show, back, give}
+use Rattle.frames.proofs.Lent.{at_list, Mine, Yours, Lent, Shown, lend, home, show, back, give}
 use Rattle.frame_check.specs.contracts.deques.tally_deque as callee'
 
 abbrev R-Frame : RattleType
@@ -54,26 +54,26 @@ module _ {M : Type 1} {𝓤 : Ura M} (𝓛 : Logic 𝓤) (mem : Memory → SProp
   Asked = triple_of 𝓛 callee'.signature (callee'.spec 𝓛 mem run)
 
   abbrev pub to-step-gg : (ν-tallies : ℕ) (δ-tallies : GName) (κ-deques : Lft) (q-deques : Share) (γ-deques : GName) (κ-frames : Lft) (q-frames : Share) (γ-frames : GName) (b-tallies o-tallies n-tallies : ℕ) (tallies : List ℕ) (b-deques o-deques n-deques : ℕ) (deques : List ℕ) (b-frames o-frames n-frames : ℕ) (frames : List Frame) (before : Bool) (places : ℕ) (w : ℕ) → Asked.Ghost
-  to-step-gg ν-tallies δ-tallies κ-deques q-deques γ-deques κ-frames q-frames γ-frames b-tallies o-tallies n-tallies tallies b-deques o-deques n-deques deques b-frames o-frames n-frames frames before places w = ((((ν-tallies ∷ []), (κ-deques, (κ-frames, tt))), (full_share, (q-deques, (q-frames, tt))), tt, (before, (at-list b-tallies o-tallies δ-tallies tallies, (at-list b-deques o-deques γ-deques deques, (at-list b-frames o-frames γ-frames frames, (places, (w, tt)))))), (vbool before ∷ [], (slice_val (b-tallies, o-tallies) n-tallies ∷ [], (slice_val (b-deques, o-deques) n-deques ∷ [], (slice_val (b-frames, o-frames) n-frames ∷ [], (vint w32 places ∷ [], (vint w32 w ∷ [], tt))))))), tt)
+  to-step-gg ν-tallies δ-tallies κ-deques q-deques γ-deques κ-frames q-frames γ-frames b-tallies o-tallies n-tallies tallies b-deques o-deques n-deques deques b-frames o-frames n-frames frames before places w = ((((ν-tallies ∷ []), (κ-deques, (κ-frames, tt))), (full_share, (q-deques, (q-frames, tt))), tt, (before, (at_list b-tallies o-tallies δ-tallies tallies, (at_list b-deques o-deques γ-deques deques, (at_list b-frames o-frames γ-frames frames, (places, (w, tt)))))), (vbool before ∷ [], (slice_val (b-tallies, o-tallies) n-tallies ∷ [], (slice_val (b-deques, o-deques) n-deques ∷ [], (slice_val (b-frames, o-frames) n-frames ∷ [], (vint w32 places ∷ [], (vint w32 w ∷ [], tt))))))), tt)
 
-  pub goes-step-gg : (ν-tallies : ℕ) (δ-tallies : GName) (κ-deques : Lft) (q-deques : Share) (γ-deques : GName) (κ-frames : Lft) (q-frames : Share) (γ-frames : GName) (b-tallies o-tallies n-tallies : ℕ) (tallies : List ℕ) (b-deques o-deques n-deques : ℕ) (deques : List ℕ) (b-frames o-frames n-frames : ℕ) (frames : List Frame) (before : Bool) (places : ℕ) (w : ℕ) → (places-good : places < 2 ^ 32) (w-good : w < 2 ^ 32) (ok' : (length deques ≡ dequeWords) × (places ≡ length frames) × (w < maxWorkers) × (size deques w ≤ dequePlaces)) → ent 𝓤 (⋆ 𝓛 (‵ (flft (ν-tallies ∷ []) full_share) ∷ ‵ (flft κ-deques q-deques) ∷ ‵ (flft κ-frames q-frames) ∷ ‵ ((MutSlice (named 0) (ν-tallies ∷ []) u32).own_val (at-list b-tallies o-tallies δ-tallies tallies) (slice_val (b-tallies, o-tallies) n-tallies ∷ [])) ∷ ‵ ((ShrSlice (named 0) κ-deques u32).own_val (at-list b-deques o-deques γ-deques deques) (slice_val (b-deques, o-deques) n-deques ∷ [])) ∷ ‵ ((ShrSlice (named 0) κ-frames R-Frame).own_val (at-list b-frames o-frames γ-frames frames) (slice_val (b-frames, o-frames) n-frames ∷ [])) ∷ [])) (Asked.pre (to-step-gg ν-tallies δ-tallies κ-deques q-deques γ-deques κ-frames q-frames γ-frames b-tallies o-tallies n-tallies tallies b-deques o-deques n-deques deques b-frames o-frames n-frames frames before places w))
-  goes-step-gg ν-tallies δ-tallies κ-deques q-deques γ-deques κ-frames q-frames γ-frames b-tallies o-tallies n-tallies tallies b-deques o-deques n-deques deques b-frames o-frames n-frames frames before places w places-good w-good ok' = qed 𝓛 (‵ (flft (ν-tallies ∷ []) full_share) ∷ ‵ (flft κ-deques q-deques) ∷ ‵ (flft κ-frames q-frames) ∷ ‵ ((MutSlice (named 0) (ν-tallies ∷ []) u32).own_val (at-list b-tallies o-tallies δ-tallies tallies) (slice_val (b-tallies, o-tallies) n-tallies ∷ [])) ∷ ‵ ((ShrSlice (named 0) κ-deques u32).own_val (at-list b-deques o-deques γ-deques deques) (slice_val (b-deques, o-deques) n-deques ∷ [])) ∷ ‵ ((ShrSlice (named 0) κ-frames R-Frame).own_val (at-list b-frames o-frames γ-frames frames) (slice_val (b-frames, o-frames) n-frames ∷ [])) ∷ []) ∵ says ! ok' $ nothing ! $ move ! (1 ∷ 2 ∷ 3 ∷ 0 ∷ []) $ group ! 4 $ frame ! $
+  pub goes-step-gg : (ν-tallies : ℕ) (δ-tallies : GName) (κ-deques : Lft) (q-deques : Share) (γ-deques : GName) (κ-frames : Lft) (q-frames : Share) (γ-frames : GName) (b-tallies o-tallies n-tallies : ℕ) (tallies : List ℕ) (b-deques o-deques n-deques : ℕ) (deques : List ℕ) (b-frames o-frames n-frames : ℕ) (frames : List Frame) (before : Bool) (places : ℕ) (w : ℕ) → (places-good : places < 2 ^ 32) (w-good : w < 2 ^ 32) (ok' : (length deques ≡ deque_words) × (places ≡ length frames) × (w < max_workers) × (size deques w ≤ deque_places)) → ent 𝓤 (⋆ 𝓛 (‵ (flft (ν-tallies ∷ []) full_share) ∷ ‵ (flft κ-deques q-deques) ∷ ‵ (flft κ-frames q-frames) ∷ ‵ ((MutSlice (named 0) (ν-tallies ∷ []) u32).own_val (at_list b-tallies o-tallies δ-tallies tallies) (slice_val (b-tallies, o-tallies) n-tallies ∷ [])) ∷ ‵ ((ShrSlice (named 0) κ-deques u32).own_val (at_list b-deques o-deques γ-deques deques) (slice_val (b-deques, o-deques) n-deques ∷ [])) ∷ ‵ ((ShrSlice (named 0) κ-frames R-Frame).own_val (at_list b-frames o-frames γ-frames frames) (slice_val (b-frames, o-frames) n-frames ∷ [])) ∷ [])) (Asked.pre (to-step-gg ν-tallies δ-tallies κ-deques q-deques γ-deques κ-frames q-frames γ-frames b-tallies o-tallies n-tallies tallies b-deques o-deques n-deques deques b-frames o-frames n-frames frames before places w))
+  goes-step-gg ν-tallies δ-tallies κ-deques q-deques γ-deques κ-frames q-frames γ-frames b-tallies o-tallies n-tallies tallies b-deques o-deques n-deques deques b-frames o-frames n-frames frames before places w places-good w-good ok' = qed 𝓛 (‵ (flft (ν-tallies ∷ []) full_share) ∷ ‵ (flft κ-deques q-deques) ∷ ‵ (flft κ-frames q-frames) ∷ ‵ ((MutSlice (named 0) (ν-tallies ∷ []) u32).own_val (at_list b-tallies o-tallies δ-tallies tallies) (slice_val (b-tallies, o-tallies) n-tallies ∷ [])) ∷ ‵ ((ShrSlice (named 0) κ-deques u32).own_val (at_list b-deques o-deques γ-deques deques) (slice_val (b-deques, o-deques) n-deques ∷ [])) ∷ ‵ ((ShrSlice (named 0) κ-frames R-Frame).own_val (at_list b-frames o-frames γ-frames frames) (slice_val (b-frames, o-frames) n-frames ∷ [])) ∷ []) ∵ says ! ok' $ nothing ! $ move ! (1 ∷ 2 ∷ 3 ∷ 0 ∷ []) $ group ! 4 $ frame ! $
       nothing ! $ owned ! u32 (Is u32) (uint_Makes 𝓛 w32) w _ (refl, w-good) $ fjoin ! $ owned ! u32 (Is u32) (uint_Makes 𝓛 w32) places _ (refl, places-good) $ fjoin ! $ move ! (3 ∷ 0 ∷ []) $ fjoin ! $ move ! (2 ∷ 0 ∷ []) $ fjoin ! $ move ! (1 ∷ 0 ∷ []) $ fjoin ! $ owned ! bool (Is bool) (bool_Makes 𝓛) before _ refl $ fjoin ! $ done !
 
 module _ {M : Type 1} {𝓤 : Ura M} {𝓛 : Logic 𝓤} {K : Type 0} (mem : Memory → SProp 𝓤) (run : Routine → Fun 𝓤)
     {Γ : List (Item 𝓤)} {E : Env 𝓤 𝓛.H} {C : Calls 𝓤 𝓛.H} {Λ : Loops 𝓤 𝓛.H} {post' : Post 𝓤 𝓛.H} {dest' : Place} {name' : Name} {opds' : List Operand} {rest' : Body} where
   open 𝓛 use {H}
 
-  pub step-gg : K → FmC 𝓤 H 𝓛.laws C → Triple 𝓤 (C name') (Asked 𝓛 mem run) → {κ-tallies : Lft} {q-tallies : Share} {γ-tallies : GName} {κ-deques : Lft} {q-deques : Share} {γ-deques : GName} {κ-frames : Lft} {q-frames : Share} {γ-frames : GName} → (b-tallies o-tallies n-tallies : ℕ) (tallies : List ℕ) (b-deques o-deques n-deques : ℕ) (deques : List ℕ) (b-frames o-frames n-frames : ℕ) (frames : List Frame) (before : Bool) (places : ℕ) (w : ℕ) → (places-good : places < 2 ^ 32) → (w-good : w < 2 ^ 32) → (length deques ≡ dequeWords) × (places ≡ length frames) × (w < maxWorkers) × (size deques w ≤ dequePlaces) → length tallies ≡ n-tallies → Room u32 n-tallies →
-      ((ν-tallies : ℕ) (δ-tallies : GName) → Opds K 𝓛 (raw ((Asked 𝓛 mem run).pre (to-step-gg 𝓛 mem run ν-tallies δ-tallies κ-deques q-deques γ-deques κ-frames q-frames γ-frames b-tallies o-tallies n-tallies tallies b-deques o-deques n-deques deques b-frames o-frames n-frames frames before places w)) ∷ ‵ ((ShrSlice (named 0) κ-frames R-Frame).own_val (at-list b-frames o-frames γ-frames frames) (slice_val (b-frames, o-frames) n-frames ∷ [])) ∷ ‵ ((ShrSlice (named 0) κ-deques u32).own_val (at-list b-deques o-deques γ-deques deques) (slice_val (b-deques, o-deques) n-deques ∷ [])) ∷ ‵ (Lent u32 κ-tallies (ν-tallies ∷ []) q-tallies γ-tallies b-tallies o-tallies δ-tallies tallies) ∷ Γ) E opds' (vbool before ∷ slice_val (b-tallies, o-tallies) n-tallies ∷ slice_val (b-deques, o-deques) n-deques ∷ slice_val (b-frames, o-frames) n-frames ∷ vint w32 places ∷ vint w32 w ∷ [])) →
-      ((res' : Bool) (zs-tallies : List ℕ) → (zs-tallies ≡ tallyDeque deques w tallies) × (res' ≡ (before && dequeSound deques frames w)) → length zs-tallies ≡ length tallies → Seq K 𝓛 (‵ (Mine u32 κ-tallies q-tallies γ-tallies b-tallies o-tallies n-tallies zs-tallies) ∷ ‵ (Yours u32 κ-deques q-deques γ-deques b-deques o-deques n-deques deques) ∷ ‵ (Yours R-Frame κ-frames q-frames γ-frames b-frames o-frames n-frames frames) ∷ Γ) (lands C Λ E dest' (vbool res') rest' post')) →
+  pub step-gg : K → FmC 𝓤 H 𝓛.laws C → Triple 𝓤 (C name') (Asked 𝓛 mem run) → {κ-tallies : Lft} {q-tallies : Share} {γ-tallies : GName} {κ-deques : Lft} {q-deques : Share} {γ-deques : GName} {κ-frames : Lft} {q-frames : Share} {γ-frames : GName} → (b-tallies o-tallies n-tallies : ℕ) (tallies : List ℕ) (b-deques o-deques n-deques : ℕ) (deques : List ℕ) (b-frames o-frames n-frames : ℕ) (frames : List Frame) (before : Bool) (places : ℕ) (w : ℕ) → (places-good : places < 2 ^ 32) → (w-good : w < 2 ^ 32) → (length deques ≡ deque_words) × (places ≡ length frames) × (w < max_workers) × (size deques w ≤ deque_places) → length tallies ≡ n-tallies → Room u32 n-tallies →
+      ((ν-tallies : ℕ) (δ-tallies : GName) → Opds K 𝓛 (raw ((Asked 𝓛 mem run).pre (to-step-gg 𝓛 mem run ν-tallies δ-tallies κ-deques q-deques γ-deques κ-frames q-frames γ-frames b-tallies o-tallies n-tallies tallies b-deques o-deques n-deques deques b-frames o-frames n-frames frames before places w)) ∷ ‵ ((ShrSlice (named 0) κ-frames R-Frame).own_val (at_list b-frames o-frames γ-frames frames) (slice_val (b-frames, o-frames) n-frames ∷ [])) ∷ ‵ ((ShrSlice (named 0) κ-deques u32).own_val (at_list b-deques o-deques γ-deques deques) (slice_val (b-deques, o-deques) n-deques ∷ [])) ∷ ‵ (Lent u32 κ-tallies (ν-tallies ∷ []) q-tallies γ-tallies b-tallies o-tallies δ-tallies tallies) ∷ Γ) E opds' (vbool before ∷ slice_val (b-tallies, o-tallies) n-tallies ∷ slice_val (b-deques, o-deques) n-deques ∷ slice_val (b-frames, o-frames) n-frames ∷ vint w32 places ∷ vint w32 w ∷ [])) →
+      ((res' : Bool) (zs-tallies : List ℕ) → (zs-tallies ≡ tally_deque deques w tallies) × (res' ≡ (before && deque_sound deques frames w)) → length zs-tallies ≡ length tallies → Seq K 𝓛 (‵ (Mine u32 κ-tallies q-tallies γ-tallies b-tallies o-tallies n-tallies zs-tallies) ∷ ‵ (Yours u32 κ-deques q-deques γ-deques b-deques o-deques n-deques deques) ∷ ‵ (Yours R-Frame κ-frames q-frames γ-frames b-frames o-frames n-frames frames) ∷ Γ) (lands C Λ E dest' (vbool res') rest' post')) →
       Seq K 𝓛 (‵ (Mine u32 κ-tallies q-tallies γ-tallies b-tallies o-tallies n-tallies tallies) ∷ ‵ (Yours u32 κ-deques q-deques γ-deques b-deques o-deques n-deques deques) ∷ ‵ (Yours R-Frame κ-frames q-frames γ-frames b-frames o-frames n-frames frames) ∷ Γ) (runs C Λ E (seq (call name' opds' dest') rest') post')
   step-gg t' fm' known' {κ-tallies} {q-tallies} {γ-tallies} {κ-deques} {q-deques} {γ-deques} {κ-frames} {q-frames} {γ-frames} b-tallies o-tallies n-tallies tallies b-deques o-deques n-deques deques b-frames o-frames n-frames frames before places w places-good w-good ok' len-tallies room-tallies os' k' =
       lend t' tt u32 b-tallies o-tallies n-tallies tallies len-tallies (λ ν-tallies δ-tallies. move t' (3 ∷ []) $ give t' u32 b-deques o-deques n-deques deques $ move t' (6 ∷ []) $ give t' R-Frame b-frames o-frames n-frames frames $
       move t' (6 ∷ 3 ∷ 0 ∷ 7 ∷ 4 ∷ 1 ∷ []) $ group t' 6 $ use1 𝓛 (raw ((Asked 𝓛 mem run).pre (to-step-gg 𝓛 mem run ν-tallies δ-tallies κ-deques q-deques γ-deques κ-frames q-frames γ-frames b-tallies o-tallies n-tallies tallies b-deques o-deques n-deques deques b-frames o-frames n-frames frames before places w))) (goes-step-gg 𝓛 mem run ν-tallies δ-tallies κ-deques q-deques γ-deques κ-frames q-frames γ-frames b-tallies o-tallies n-tallies tallies b-deques o-deques n-deques deques b-frames o-frames n-frames frames before places w places-good w-good ok') $
       calls_at t' fm' (Asked 𝓛 mem run) known' (to-step-gg 𝓛 mem run ν-tallies δ-tallies κ-deques q-deques γ-deques κ-frames q-frames γ-frames b-tallies o-tallies n-tallies tallies b-deques o-deques n-deques deques b-frames o-frames n-frames frames before places w) (os' ν-tallies δ-tallies) (λ w'.
-      use1 𝓛 (later (some (λ (res' : Bool). ((‵ (flft (ν-tallies ∷ []) full_share) ⊛ (‵ (flft κ-deques q-deques) ⊛ (‵ (flft κ-frames q-frames) ⊛ ‵ ftrue))) ⊛ ‵ (bool.own_val res' (w' ∷ []))) ⊛ raw (ensured 𝓛 callee'.ended (callee'.clauses 𝓛 mem run) ((ν-tallies ∷ []), (κ-deques, (κ-frames, tt))) (before, (at-list b-tallies o-tallies δ-tallies tallies, (at-list b-deques o-deques γ-deques deques, (at-list b-frames o-frames γ-frames frames, (places, (w, tt)))))) tt res')))) (id⊢ 𝓤 _) $ await t' tt $ pick t' (λ res'. split t' $ move t' (1 ∷ []) $
-      use1 𝓛 (some (λ (zs' : Unit {0} × (List ℕ × (Unit {0} × (Unit {0} × (Unit {0} × (Unit {0} × Unit {0})))))). ‵ (lasts callee'.ended ((ν-tallies ∷ []), (κ-deques, (κ-frames, tt))) (before, (at-list b-tallies o-tallies δ-tallies tallies, (at-list b-deques o-deques γ-deques deques, (at-list b-frames o-frames γ-frames frames, (places, (w, tt)))))) zs') ⊛ raw (fact 𝓤 ((zs'.1.0 ≡ tallyDeque deques w tallies) × (res' ≡ (before && dequeSound deques frames w)))))) (id⊢ 𝓤 _) $ pick t' (λ zs'. split t' $ move t' (1 ∷ []) $ heard t' ((zs'.1.0 ≡ tallyDeque deques w tallies) × (res' ≡ (before && dequeSound deques frames w))) (λ e'.
+      use1 𝓛 (later (some (λ (res' : Bool). ((‵ (flft (ν-tallies ∷ []) full_share) ⊛ (‵ (flft κ-deques q-deques) ⊛ (‵ (flft κ-frames q-frames) ⊛ ‵ ftrue))) ⊛ ‵ (bool.own_val res' (w' ∷ []))) ⊛ raw (ensured 𝓛 callee'.ended (callee'.clauses 𝓛 mem run) ((ν-tallies ∷ []), (κ-deques, (κ-frames, tt))) (before, (at_list b-tallies o-tallies δ-tallies tallies, (at_list b-deques o-deques γ-deques deques, (at_list b-frames o-frames γ-frames frames, (places, (w, tt)))))) tt res')))) (id⊢ 𝓤 _) $ await t' tt $ pick t' (λ res'. split t' $ move t' (1 ∷ []) $
+      use1 𝓛 (some (λ (zs' : Unit {0} × (List ℕ × (Unit {0} × (Unit {0} × (Unit {0} × (Unit {0} × Unit {0})))))). ‵ (lasts callee'.ended ((ν-tallies ∷ []), (κ-deques, (κ-frames, tt))) (before, (at_list b-tallies o-tallies δ-tallies tallies, (at_list b-deques o-deques γ-deques deques, (at_list b-frames o-frames γ-frames frames, (places, (w, tt)))))) zs') ⊛ raw (fact 𝓤 ((zs'.1.0 ≡ tally_deque deques w tallies) × (res' ≡ (before && deque_sound deques frames w)))))) (id⊢ 𝓤 _) $ pick t' (λ zs'. split t' $ move t' (1 ∷ []) $ heard t' ((zs'.1.0 ≡ tally_deque deques w tallies) × (res' ≡ (before && deque_sound deques frames w))) (λ e'.
       fsplit t' $ drop t' $ fsplit t' $ fsplit t' $ move t' (1 ∷ []) $ feq_l t' (λ same-tallies. move t' (1 ∷ []) $ fsplit t' $ drop t' $ fsplit t' $ drop t' $ fsplit t' $ drop t' $ fsplit t' $ drop t' $ drop t' $
       move t' (1 ∷ []) $ split t' $ move t' (1 ∷ []) $ peeks t' bool (Is bool) (shows 𝓛 bool) res' (w' ∷ []) (λ is'. drop t' $ split t' $ move t' (1 ∷ []) $ split t' $ move t' (1 ∷ []) $ split t' $ move t' (1 ∷ []) $ drop t' $
       move t' (4 ∷ 0 ∷ []) $ fjoin t' $ move t' (4 ∷ 1 ∷ []) $ fjoin t' $ move t' (2 ∷ 4 ∷ 3 ∷ []) $ home t' tt u32 b-tallies o-tallies n-tallies tallies zs'.1.0 len-tallies room-tallies same-tallies $

@@ -32,10 +32,10 @@ use denote.Triple.Statement.{Contract, Triple}
 use denote.Triple.Call.{calls_at, calls_at_last}
 use denote.Triple.Clauses.{ensured, lasts}
 use denote.Triple.Walked.{says}
-use Rattle.frames.specs.Widths.{maxWorkers, dequePlaces, dequeWords}
+use Rattle.frames.specs.Widths.{max_workers, deque_places, deque_words}
 use Rattle.frames.specs.Deques.{place}
-use Rattle.frame_check.specs.Algorithm.{dequeStep, bump}
-use Rattle.frames.proofs.Lent.{at-list, Mine, Yours, Lent, Shown, lend, home, show, back, give}
+use Rattle.frame_check.specs.Algorithm.{deque_step, bump}
+use Rattle.frames.proofs.Lent.{at_list, Mine, Yours, Lent, Shown, lend, home, show, back, give}
 use Rattle.frame_check.specs.contracts.deques.tally_place as callee'
 
 module _ {M : Type 1} {𝓤 : Ura M} (𝓛 : Logic 𝓤) (mem : Memory → SProp 𝓤) (run : Routine → Fun 𝓤) where
@@ -43,26 +43,26 @@ module _ {M : Type 1} {𝓤 : Ura M} (𝓛 : Logic 𝓤) (mem : Memory → SProp
   Asked = triple_of 𝓛 callee'.signature (callee'.spec 𝓛 mem run)
 
   abbrev pub to-step-g : (ν-tallies : ℕ) (δ-tallies : GName) (κ-deques : Lft) (q-deques : Share) (γ-deques : GName) (b-tallies o-tallies n-tallies : ℕ) (tallies : List ℕ) (b-deques o-deques n-deques : ℕ) (deques : List ℕ) (w : ℕ) (k : ℕ) → Asked.Ghost
-  to-step-g ν-tallies δ-tallies κ-deques q-deques γ-deques b-tallies o-tallies n-tallies tallies b-deques o-deques n-deques deques w k = ((((ν-tallies ∷ []), (κ-deques, tt)), (full_share, (q-deques, tt)), tt, (at-list b-tallies o-tallies δ-tallies tallies, (at-list b-deques o-deques γ-deques deques, (w, (k, tt)))), (slice_val (b-tallies, o-tallies) n-tallies ∷ [], (slice_val (b-deques, o-deques) n-deques ∷ [], (vint w32 w ∷ [], (vint w32 k ∷ [], tt))))), tt)
+  to-step-g ν-tallies δ-tallies κ-deques q-deques γ-deques b-tallies o-tallies n-tallies tallies b-deques o-deques n-deques deques w k = ((((ν-tallies ∷ []), (κ-deques, tt)), (full_share, (q-deques, tt)), tt, (at_list b-tallies o-tallies δ-tallies tallies, (at_list b-deques o-deques γ-deques deques, (w, (k, tt)))), (slice_val (b-tallies, o-tallies) n-tallies ∷ [], (slice_val (b-deques, o-deques) n-deques ∷ [], (vint w32 w ∷ [], (vint w32 k ∷ [], tt))))), tt)
 
-  pub goes-step-g : (ν-tallies : ℕ) (δ-tallies : GName) (κ-deques : Lft) (q-deques : Share) (γ-deques : GName) (b-tallies o-tallies n-tallies : ℕ) (tallies : List ℕ) (b-deques o-deques n-deques : ℕ) (deques : List ℕ) (w : ℕ) (k : ℕ) → (w-good : w < 2 ^ 32) (k-good : k < 2 ^ 32) (ok' : (length deques ≡ dequeWords) × (w < maxWorkers) × (k < dequePlaces)) → ent 𝓤 (⋆ 𝓛 (‵ (flft (ν-tallies ∷ []) full_share) ∷ ‵ (flft κ-deques q-deques) ∷ ‵ ((MutSlice (named 0) (ν-tallies ∷ []) u32).own_val (at-list b-tallies o-tallies δ-tallies tallies) (slice_val (b-tallies, o-tallies) n-tallies ∷ [])) ∷ ‵ ((ShrSlice (named 0) κ-deques u32).own_val (at-list b-deques o-deques γ-deques deques) (slice_val (b-deques, o-deques) n-deques ∷ [])) ∷ [])) (Asked.pre (to-step-g ν-tallies δ-tallies κ-deques q-deques γ-deques b-tallies o-tallies n-tallies tallies b-deques o-deques n-deques deques w k))
-  goes-step-g ν-tallies δ-tallies κ-deques q-deques γ-deques b-tallies o-tallies n-tallies tallies b-deques o-deques n-deques deques w k w-good k-good ok' = qed 𝓛 (‵ (flft (ν-tallies ∷ []) full_share) ∷ ‵ (flft κ-deques q-deques) ∷ ‵ ((MutSlice (named 0) (ν-tallies ∷ []) u32).own_val (at-list b-tallies o-tallies δ-tallies tallies) (slice_val (b-tallies, o-tallies) n-tallies ∷ [])) ∷ ‵ ((ShrSlice (named 0) κ-deques u32).own_val (at-list b-deques o-deques γ-deques deques) (slice_val (b-deques, o-deques) n-deques ∷ [])) ∷ []) ∵ says ! ok' $ nothing ! $ move ! (1 ∷ 2 ∷ 0 ∷ []) $ group ! 3 $ frame ! $
+  pub goes-step-g : (ν-tallies : ℕ) (δ-tallies : GName) (κ-deques : Lft) (q-deques : Share) (γ-deques : GName) (b-tallies o-tallies n-tallies : ℕ) (tallies : List ℕ) (b-deques o-deques n-deques : ℕ) (deques : List ℕ) (w : ℕ) (k : ℕ) → (w-good : w < 2 ^ 32) (k-good : k < 2 ^ 32) (ok' : (length deques ≡ deque_words) × (w < max_workers) × (k < deque_places)) → ent 𝓤 (⋆ 𝓛 (‵ (flft (ν-tallies ∷ []) full_share) ∷ ‵ (flft κ-deques q-deques) ∷ ‵ ((MutSlice (named 0) (ν-tallies ∷ []) u32).own_val (at_list b-tallies o-tallies δ-tallies tallies) (slice_val (b-tallies, o-tallies) n-tallies ∷ [])) ∷ ‵ ((ShrSlice (named 0) κ-deques u32).own_val (at_list b-deques o-deques γ-deques deques) (slice_val (b-deques, o-deques) n-deques ∷ [])) ∷ [])) (Asked.pre (to-step-g ν-tallies δ-tallies κ-deques q-deques γ-deques b-tallies o-tallies n-tallies tallies b-deques o-deques n-deques deques w k))
+  goes-step-g ν-tallies δ-tallies κ-deques q-deques γ-deques b-tallies o-tallies n-tallies tallies b-deques o-deques n-deques deques w k w-good k-good ok' = qed 𝓛 (‵ (flft (ν-tallies ∷ []) full_share) ∷ ‵ (flft κ-deques q-deques) ∷ ‵ ((MutSlice (named 0) (ν-tallies ∷ []) u32).own_val (at_list b-tallies o-tallies δ-tallies tallies) (slice_val (b-tallies, o-tallies) n-tallies ∷ [])) ∷ ‵ ((ShrSlice (named 0) κ-deques u32).own_val (at_list b-deques o-deques γ-deques deques) (slice_val (b-deques, o-deques) n-deques ∷ [])) ∷ []) ∵ says ! ok' $ nothing ! $ move ! (1 ∷ 2 ∷ 0 ∷ []) $ group ! 3 $ frame ! $
       nothing ! $ owned ! u32 (Is u32) (uint_Makes 𝓛 w32) k _ (refl, k-good) $ fjoin ! $ owned ! u32 (Is u32) (uint_Makes 𝓛 w32) w _ (refl, w-good) $ fjoin ! $ move ! (2 ∷ 0 ∷ []) $ fjoin ! $ move ! (1 ∷ 0 ∷ []) $ fjoin ! $ done !
 
 module _ {M : Type 1} {𝓤 : Ura M} {𝓛 : Logic 𝓤} {K : Type 0} (mem : Memory → SProp 𝓤) (run : Routine → Fun 𝓤)
     {Γ : List (Item 𝓤)} {E : Env 𝓤 𝓛.H} {C : Calls 𝓤 𝓛.H} {Λ : Loops 𝓤 𝓛.H} {post' : Post 𝓤 𝓛.H} {dest' : Place} {name' : Name} {opds' : List Operand} {rest' : Body} where
   open 𝓛 use {H}
 
-  pub step-g : K → FmC 𝓤 H 𝓛.laws C → Triple 𝓤 (C name') (Asked 𝓛 mem run) → {κ-tallies : Lft} {q-tallies : Share} {γ-tallies : GName} {κ-deques : Lft} {q-deques : Share} {γ-deques : GName} → (b-tallies o-tallies n-tallies : ℕ) (tallies : List ℕ) (b-deques o-deques n-deques : ℕ) (deques : List ℕ) (w : ℕ) (k : ℕ) → (w-good : w < 2 ^ 32) → (k-good : k < 2 ^ 32) → (length deques ≡ dequeWords) × (w < maxWorkers) × (k < dequePlaces) → length tallies ≡ n-tallies → Room u32 n-tallies →
-      ((ν-tallies : ℕ) (δ-tallies : GName) → Opds K 𝓛 (raw ((Asked 𝓛 mem run).pre (to-step-g 𝓛 mem run ν-tallies δ-tallies κ-deques q-deques γ-deques b-tallies o-tallies n-tallies tallies b-deques o-deques n-deques deques w k)) ∷ ‵ ((ShrSlice (named 0) κ-deques u32).own_val (at-list b-deques o-deques γ-deques deques) (slice_val (b-deques, o-deques) n-deques ∷ [])) ∷ ‵ (Lent u32 κ-tallies (ν-tallies ∷ []) q-tallies γ-tallies b-tallies o-tallies δ-tallies tallies) ∷ Γ) E opds' (slice_val (b-tallies, o-tallies) n-tallies ∷ slice_val (b-deques, o-deques) n-deques ∷ vint w32 w ∷ vint w32 k ∷ [])) →
-      ((res' : ℕ) (zs-tallies : List ℕ) → res' < 2 ^ 32 → (zs-tallies ≡ bump dequeStep tallies (place deques w k)) × (res' ≡ place deques w k) → length zs-tallies ≡ length tallies → Seq K 𝓛 (‵ (Mine u32 κ-tallies q-tallies γ-tallies b-tallies o-tallies n-tallies zs-tallies) ∷ ‵ (Yours u32 κ-deques q-deques γ-deques b-deques o-deques n-deques deques) ∷ Γ) (lands C Λ E dest' (vint w32 res') rest' post')) →
+  pub step-g : K → FmC 𝓤 H 𝓛.laws C → Triple 𝓤 (C name') (Asked 𝓛 mem run) → {κ-tallies : Lft} {q-tallies : Share} {γ-tallies : GName} {κ-deques : Lft} {q-deques : Share} {γ-deques : GName} → (b-tallies o-tallies n-tallies : ℕ) (tallies : List ℕ) (b-deques o-deques n-deques : ℕ) (deques : List ℕ) (w : ℕ) (k : ℕ) → (w-good : w < 2 ^ 32) → (k-good : k < 2 ^ 32) → (length deques ≡ deque_words) × (w < max_workers) × (k < deque_places) → length tallies ≡ n-tallies → Room u32 n-tallies →
+      ((ν-tallies : ℕ) (δ-tallies : GName) → Opds K 𝓛 (raw ((Asked 𝓛 mem run).pre (to-step-g 𝓛 mem run ν-tallies δ-tallies κ-deques q-deques γ-deques b-tallies o-tallies n-tallies tallies b-deques o-deques n-deques deques w k)) ∷ ‵ ((ShrSlice (named 0) κ-deques u32).own_val (at_list b-deques o-deques γ-deques deques) (slice_val (b-deques, o-deques) n-deques ∷ [])) ∷ ‵ (Lent u32 κ-tallies (ν-tallies ∷ []) q-tallies γ-tallies b-tallies o-tallies δ-tallies tallies) ∷ Γ) E opds' (slice_val (b-tallies, o-tallies) n-tallies ∷ slice_val (b-deques, o-deques) n-deques ∷ vint w32 w ∷ vint w32 k ∷ [])) →
+      ((res' : ℕ) (zs-tallies : List ℕ) → res' < 2 ^ 32 → (zs-tallies ≡ bump deque_step tallies (place deques w k)) × (res' ≡ place deques w k) → length zs-tallies ≡ length tallies → Seq K 𝓛 (‵ (Mine u32 κ-tallies q-tallies γ-tallies b-tallies o-tallies n-tallies zs-tallies) ∷ ‵ (Yours u32 κ-deques q-deques γ-deques b-deques o-deques n-deques deques) ∷ Γ) (lands C Λ E dest' (vint w32 res') rest' post')) →
       Seq K 𝓛 (‵ (Mine u32 κ-tallies q-tallies γ-tallies b-tallies o-tallies n-tallies tallies) ∷ ‵ (Yours u32 κ-deques q-deques γ-deques b-deques o-deques n-deques deques) ∷ Γ) (runs C Λ E (seq (call name' opds' dest') rest') post')
   step-g t' fm' known' {κ-tallies} {q-tallies} {γ-tallies} {κ-deques} {q-deques} {γ-deques} b-tallies o-tallies n-tallies tallies b-deques o-deques n-deques deques w k w-good k-good ok' len-tallies room-tallies os' k' =
       lend t' tt u32 b-tallies o-tallies n-tallies tallies len-tallies (λ ν-tallies δ-tallies. move t' (3 ∷ []) $ give t' u32 b-deques o-deques n-deques deques $
       move t' (3 ∷ 0 ∷ 4 ∷ 1 ∷ []) $ group t' 4 $ use1 𝓛 (raw ((Asked 𝓛 mem run).pre (to-step-g 𝓛 mem run ν-tallies δ-tallies κ-deques q-deques γ-deques b-tallies o-tallies n-tallies tallies b-deques o-deques n-deques deques w k))) (goes-step-g 𝓛 mem run ν-tallies δ-tallies κ-deques q-deques γ-deques b-tallies o-tallies n-tallies tallies b-deques o-deques n-deques deques w k w-good k-good ok') $
       calls_at t' fm' (Asked 𝓛 mem run) known' (to-step-g 𝓛 mem run ν-tallies δ-tallies κ-deques q-deques γ-deques b-tallies o-tallies n-tallies tallies b-deques o-deques n-deques deques w k) (os' ν-tallies δ-tallies) (λ w'.
-      use1 𝓛 (later (some (λ (res' : ℕ). ((‵ (flft (ν-tallies ∷ []) full_share) ⊛ (‵ (flft κ-deques q-deques) ⊛ ‵ ftrue)) ⊛ ‵ (u32.own_val res' (w' ∷ []))) ⊛ raw (ensured 𝓛 callee'.ended (callee'.clauses 𝓛 mem run) ((ν-tallies ∷ []), (κ-deques, tt)) (at-list b-tallies o-tallies δ-tallies tallies, (at-list b-deques o-deques γ-deques deques, (w, (k, tt)))) tt res')))) (id⊢ 𝓤 _) $ await t' tt $ pick t' (λ res'. split t' $ move t' (1 ∷ []) $
-      use1 𝓛 (some (λ (zs' : List ℕ × (Unit {0} × (Unit {0} × (Unit {0} × Unit {0})))). ‵ (lasts callee'.ended ((ν-tallies ∷ []), (κ-deques, tt)) (at-list b-tallies o-tallies δ-tallies tallies, (at-list b-deques o-deques γ-deques deques, (w, (k, tt)))) zs') ⊛ raw (fact 𝓤 ((zs'.0 ≡ bump dequeStep tallies (place deques w k)) × (res' ≡ place deques w k))))) (id⊢ 𝓤 _) $ pick t' (λ zs'. split t' $ move t' (1 ∷ []) $ heard t' ((zs'.0 ≡ bump dequeStep tallies (place deques w k)) × (res' ≡ place deques w k)) (λ e'.
+      use1 𝓛 (later (some (λ (res' : ℕ). ((‵ (flft (ν-tallies ∷ []) full_share) ⊛ (‵ (flft κ-deques q-deques) ⊛ ‵ ftrue)) ⊛ ‵ (u32.own_val res' (w' ∷ []))) ⊛ raw (ensured 𝓛 callee'.ended (callee'.clauses 𝓛 mem run) ((ν-tallies ∷ []), (κ-deques, tt)) (at_list b-tallies o-tallies δ-tallies tallies, (at_list b-deques o-deques γ-deques deques, (w, (k, tt)))) tt res')))) (id⊢ 𝓤 _) $ await t' tt $ pick t' (λ res'. split t' $ move t' (1 ∷ []) $
+      use1 𝓛 (some (λ (zs' : List ℕ × (Unit {0} × (Unit {0} × (Unit {0} × Unit {0})))). ‵ (lasts callee'.ended ((ν-tallies ∷ []), (κ-deques, tt)) (at_list b-tallies o-tallies δ-tallies tallies, (at_list b-deques o-deques γ-deques deques, (w, (k, tt)))) zs') ⊛ raw (fact 𝓤 ((zs'.0 ≡ bump deque_step tallies (place deques w k)) × (res' ≡ place deques w k))))) (id⊢ 𝓤 _) $ pick t' (λ zs'. split t' $ move t' (1 ∷ []) $ heard t' ((zs'.0 ≡ bump deque_step tallies (place deques w k)) × (res' ≡ place deques w k)) (λ e'.
       fsplit t' $ fsplit t' $ move t' (1 ∷ []) $ feq_l t' (λ same-tallies. move t' (1 ∷ []) $ fsplit t' $ drop t' $ fsplit t' $ drop t' $ fsplit t' $ drop t' $ drop t' $
       move t' (1 ∷ []) $ split t' $ move t' (1 ∷ []) $ peeks t' u32 (Is u32) (shows 𝓛 u32) res' (w' ∷ []) (λ is'. drop t' $ split t' $ move t' (1 ∷ []) $ split t' $ move t' (1 ∷ []) $ drop t' $
       move t' (3 ∷ 0 ∷ []) $ fjoin t' $ move t' (1 ∷ 3 ∷ 2 ∷ []) $ home t' tt u32 b-tallies o-tallies n-tallies tallies zs'.0 len-tallies room-tallies same-tallies $

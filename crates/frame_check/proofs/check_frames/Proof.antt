@@ -44,16 +44,16 @@ use denote.Triple.Statement.{Triple}
 use denote.Triple.Table.{entered, cited}
 use denote.Triple.Walked.{says, needs, Stays, stay_slice, stay_none, stay_none_slice, walk_of, Walks, ends_at, walked, Goes-slice, Goes-none, Goes-none_slice, walk_Meets}
 use borrow.Author.Rules.{scaled_Fits}
-use Rattle.frames.proofs.Lent.{at-list, Mine, Yours, ty_at, exit-unless, exit-if, leave-if, fork, skipped, regroup, matched, matched-last, const, is_true, is_false, not-not, differ, widen, less-fits, after, turn-of, take_out, put_in, put_back, look-out, look-back, free_all}
+use Rattle.frames.proofs.Lent.{at_list, Mine, Yours, ty_at, exit_unless, exit_if, leave_if, fork, skipped, regroup, matched, matched_last, const, is_true, is_false, not_not, differ, widen, less_fits, after, turn_of_lem, take_out, put_in, put_back, look_out, look_back, free_all}
 use lib.ListN.{replicate}
 use types.Part.{rep}
 use denote.Plain.{uint_Lawful}
 use denote.Array.{Array, array_val, array_vals, Array-Tells, Array-Makes}
-use Rattle.frames.proofs.Local.{listVal, array-is, array-fits, open-local, shut-local}
+use Rattle.frames.proofs.Local.{list_val, array_is, array_fits, open_local, shut_local}
 use mathlib.Core.Bool.{cond}
-use Rattle.frames.specs.Widths.{maxPlaces, dequeWords}
-use Rattle.soundness.specs.Soundness.{framesSound}
-use Rattle.frame_check.specs.Algorithm.{liveEnd}
+use Rattle.frames.specs.Widths.{max_places, deque_words}
+use Rattle.soundness.specs.Soundness.{frames_sound}
+use Rattle.frame_check.specs.Algorithm.{live_end}
 use Rattle.frame_check.specs.declared.FramesChecked.TheVariants.{Bad, Good}
 use Rattle.frame_check.proofs.Called.check_with as S-check-with
 use Rattle.frame_check.proofs.check_with.Symbol as D-check-with
@@ -97,7 +97,7 @@ module _ {M : Type 1} {𝓤 : Ura M} (𝓛 : Logic 𝓤) (mem : Memory → SProp
   n-frames = length frames
 
   abbrev args' : ℕ × (ℕ × (Bor (List ℕ) × (Bor (List Frame) × Unit {0})))
-  args' = (workers, (first', (at-list b-deques o-deques γ-deques deques, (at-list b-frames o-frames γ-frames frames, tt))))
+  args' = (workers, (first', (at_list b-deques o-deques γ-deques deques, (at_list b-frames o-frames γ-frames frames, tt))))
 
   abbrev vals' : Vals f'.signature (κ-deques, (κ-frames, tt))
   vals' = (vint w32 workers ∷ [], (vint w32 first' ∷ [], (slice_val (b-deques, o-deques) (length deques) ∷ [], (slice_val (b-frames, o-frames) (length frames) ∷ [], tt))))
@@ -117,7 +117,7 @@ module _ {M : Type 1} {𝓤 : Ura M} (𝓛 : Logic 𝓤) (mem : Memory → SProp
   room-tallies : Room u32 n-tallies
   room-tallies = (lit< tt, lit< tt)
 
-  exits' : (res' : FramesChecked) → Is R-FramesChecked res' (val-FramesChecked res' ∷ []) → res' ≡ cond (framesSound workers first' deques frames) (Good (liveEnd frames)) Bad → ent 𝓤 (⋆ 𝓛 (‵ (Yours u32 κ-deques q-deques γ-deques b-deques o-deques n-deques deques) ∷ ‵ (Yours R-Frame κ-frames q-frames γ-frames b-frames o-frames n-frames frames) ∷ [])) (Post (val-FramesChecked res'))
+  exits' : (res' : FramesChecked) → Is R-FramesChecked res' (val-FramesChecked res' ∷ []) → res' ≡ cond (frames_sound workers first' deques frames) (Good (live_end frames)) Bad → ent 𝓤 (⋆ 𝓛 (‵ (Yours u32 κ-deques q-deques γ-deques b-deques o-deques n-deques deques) ∷ ‵ (Yours R-Frame κ-frames q-frames γ-frames b-frames o-frames n-frames frames) ∷ [])) (Post (val-FramesChecked res'))
   exits' res' good' e' =
       qed 𝓛 (‵ (Yours u32 κ-deques q-deques γ-deques b-deques o-deques n-deques deques) ∷ ‵ (Yours R-Frame κ-frames q-frames γ-frames b-frames o-frames n-frames frames) ∷ []) ∵
       suffices ! _ (ends_at 𝓛 f'.ended stayed (f'.clauses 𝓛 mem run) bound' (val-FramesChecked res') res' (tt, (tt, (tt, (tt, tt)))) (tt, (tt, (tt, (tt, tt))))) $ says ! e' $
@@ -129,16 +129,16 @@ module _ {M : Type 1} {𝓤 : Ura M} (𝓛 : Logic 𝓤) (mem : Memory → SProp
     abbrev fm : FmC 𝓤 H 𝓛.laws 𝓣.C
     fm = fm_of 𝓤 H 𝓛.laws 𝓣
 
-    walk : (length deques ≡ dequeWords) × (length frames ≤ maxPlaces) → ent 𝓤 (on_entry 𝓛 f'.signature (κ-deques, (κ-frames, tt)) (q-deques, (q-frames, tt)) args' vals') (WpFn 𝓤 H 𝓣.C 𝓣.Λ code.function (vint w32 workers ∷ vint w32 first' ∷ slice_val (b-deques, o-deques) (length deques) ∷ slice_val (b-frames, o-frames) (length frames) ∷ []) Post)
+    walk : (length deques ≡ deque_words) × (length frames ≤ max_places) → ent 𝓤 (on_entry 𝓛 f'.signature (κ-deques, (κ-frames, tt)) (q-deques, (q-frames, tt)) args' vals') (WpFn 𝓤 H 𝓣.C 𝓣.Λ code.function (vint w32 workers ∷ vint w32 first' ∷ slice_val (b-deques, o-deques) (length deques) ∷ slice_val (b-frames, o-frames) (length frames) ∷ []) Post)
     walk ok' =
         qed 𝓛 ((‵ (flft κ-deques q-deques) ⊛ ‵ (flft κ-frames q-frames) ⊛ ‵ ftrue) ∷ ‵ (owns (u32 ∷ u32 ∷ ShrSlice (named 0) κ-deques u32 ∷ ShrSlice (named 1) κ-frames R-Frame ∷ []) args' vals') ∷ []) ∵ enter ! 𝓣.C 𝓣.Λ code.function (vint w32 workers ∷ vint w32 first' ∷ slice_val (b-deques, o-deques) (length deques) ∷ slice_val (b-frames, o-frames) (length frames) ∷ []) _ $
         alloc1 ! (λ l₀. alloc1 ! (λ l₁. alloc1 ! (λ l₂. alloc1 ! (λ l₃. alloc1 ! (λ l₄. alloc1 ! (λ b-tallies. alloc1 ! (λ l₆. alloc1 ! (λ l₇. alloc0 ! $ params1 ! $
         pass1 ! (init ! 12 refl (tt, record { fits = workers-fits })) $ pass1 ! (init ! 10 refl (tt, record { fits = first'-fits })) $ pass1 ! (init ! 8 refl (tt, (tt, (record { fits = room-deques.0 }, tt)))) $ pass1 ! (init ! 6 refl (tt, (tt, (record { fits = room-frames.0 }, tt)))) $ pass0 ! $
         move ! (17 ∷ []) $ fsplit ! $ drop ! $ fsplit ! $ drop ! $ fsplit ! $ move ! (1 ∷ []) $ fsplit ! $ move ! (1 ∷ []) $ drop ! $ move ! (18 ∷ []) $ split ! $ move ! (1 ∷ []) $ split ! $ move ! (1 ∷ []) $ drop ! $ move ! (2 ∷ 0 ∷ []) $ fjoin ! $ move ! (2 ∷ 1 ∷ []) $ fjoin ! $
         -- [deques; frames; the locals]
-        assigns ! (rep ! 256 (const ! _ tt)) (from ! (stop !)) (init ! 6 refl (array-fits 𝓛 u32 (uint_Lawful 𝓛 w32) 256 (replicate 256 0) _ (array-is u32 256 0 (vint w32 0) (refl, (lit< tt))))) $
+        assigns ! (rep ! 256 (const ! _ tt)) (from ! (stop !)) (init ! 6 refl (array_fits 𝓛 u32 (uint_Lawful 𝓛 w32) 256 (replicate 256 0) _ (array_is u32 256 0 (vint w32 0) (refl, (lit< tt))))) $
         move ! (6 ∷ []) $
-        open-local ! tt u32 tt (uint_Makes 𝓛 w32) n-tallies b-tallies (replicate 256 0) ((array_val (replicate 256 (vint w32 0)))) (array-is u32 256 0 (vint w32 0) (refl, (lit< tt))) room-tallies (λ ν-tallies γ-tallies tallies tallies-is tallies-length.
+        open_local ! tt u32 tt (uint_Makes 𝓛 w32) n-tallies b-tallies (replicate 256 0) ((array_val (replicate 256 (vint w32 0)))) (array_is u32 256 0 (vint w32 0) (refl, (lit< tt))) room-tallies (λ ν-tallies γ-tallies tallies tallies-is tallies-length.
         move ! (0 ∷ 2 ∷ 3 ∷ 4 ∷ 5 ∷ 6 ∷ 7 ∷ 1 ∷ []) $
         assigns ! (addr ! (from ! (stop !))) (from ! (stop !)) (init ! 5 refl (tt, tt)) $
         assigns ! (agg ! (and_then ! (load ! (from ! (stop !)) (look ! 5 refl)) (and_then ! (const ! _ tt) (no_more !)))) (from ! (stop !)) (init ! 3 refl (tt, (tt, (record { fits = room-tallies.0 }, tt)))) $
@@ -148,7 +148,7 @@ module _ {M : Type 1} {𝓤 : Ura M} (𝓛 : Logic 𝓤) (mem : Memory → SProp
         (λ ν-0 δ-0. and_then ! (load ! (from ! (stop !)) (look ! 16 refl)) (and_then ! (load ! (from ! (stop !)) (look ! 14 refl)) (and_then ! (load ! (from ! (stop !)) (look ! 12 refl)) (and_then ! (load ! (from ! (stop !)) (look ! 10 refl)) (and_then ! (load ! (from ! (stop !)) (look ! 4 refl)) (no_more !)))))) (λ r-1 tallies-1 r-1-good r-1-is same-tallies-1.
         land ! (from ! (stop !)) (init ! 17 refl ((EL.lawful M-FramesChecked.the_type L-FramesChecked.the_laws 𝓛 tt).typed r-1 _ r-1-good).0) $
         move ! (2 ∷ 7 ∷ []) $
-        shut-local ! tt u32 n-tallies b-tallies tallies-1 (λ v-tallies v-tallies-is.
+        shut_local ! tt u32 n-tallies b-tallies tallies-1 (λ v-tallies v-tallies-is.
         move ! (1 ∷ 2 ∷ 3 ∷ 4 ∷ 5 ∷ 6 ∷ 0 ∷ []) $
         returns_within ! Post refl (look ! 16 refl) $ forget ! 2 refl $ forget ! 4 refl $ forget ! 6 refl $ forget ! 8 refl $ forget ! 10 refl $ forget ! 12 refl $ forget ! 14 refl $ forget ! 16 refl $
         free_all ! 2 refl $
@@ -161,7 +161,7 @@ module _ {M : Type 1} {𝓤 : Ura M} (𝓛 : Logic 𝓤) (mem : Memory → SProp
   walks known-check-with = walked 𝓛 f'.ended stayed (f'.clauses 𝓛 mem run) (WpFn 𝓤 H 𝓣.C 𝓣.Λ code.function)
       (λ κs. (uint_vals w32, (uint_vals w32, (shr_slice_vals, (shr_slice_vals, tt)))))
       (λ κs. (uint_Tells w32, (uint_Tells w32, (shr_slice_Tells (named 0) κs.0 u32, (shr_slice_Tells (named 1) κs.1.0 R-Frame, tt)))))
-      (λ κs qs bounds a g are. needs 𝓤 ((length a.1.1.0.now ≡ dequeWords) × (length a.1.1.1.0.now ≤ maxPlaces)) _
+      (λ κs qs bounds a g are. needs 𝓤 ((length a.1.1.0.now ≡ deque_words) × (length a.1.1.1.0.now ≤ max_places)) _
       (walk 𝓛 mem run κs.0 qs.0 a.1.1.0.ref_ptr.0 a.1.1.0.ref_ptr.1 0 a.1.1.0.now κs.1.0 qs.1.0 a.1.1.1.0.ref_ptr.0 a.1.1.1.0.ref_ptr.1 0 a.1.1.1.0.now a.0 are.0.1 a.1.0 are.1.0.1 are.1.1.0.0.1 are.1.1.1.0.0.1 𝓣 known-check-with))
 
   meets : Triple 𝓤 (𝓣.C #check-with) (S-check-with.Asked 𝓛 mem run) → Meets 𝓛 f'.signature (WpFn 𝓤 H 𝓣.C 𝓣.Λ code.function) (f'.spec 𝓛 mem run)

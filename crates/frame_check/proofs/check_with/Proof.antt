@@ -44,11 +44,11 @@ use denote.Triple.Statement.{Triple}
 use denote.Triple.Table.{entered, cited}
 use denote.Triple.Walked.{says, needs, Stays, stay_slice, stay_none, stay_none_slice, walk_of, Walks, ends_at, walked, Goes-slice, Goes-none, Goes-none_slice, walk_Meets}
 use borrow.Author.Rules.{scaled_Fits}
-use Rattle.frames.proofs.Lent.{at-list, Mine, Yours, ty_at, exit-unless, exit-if, leave-if, fork, skipped, regroup, matched, matched-last, const, is_true, is_false, not-not, differ, widen, less-fits, after, turn-of, take_out, put_in, put_back, look-out, look-back, free_all}
+use Rattle.frames.proofs.Lent.{at_list, Mine, Yours, ty_at, exit_unless, exit_if, leave_if, fork, skipped, regroup, matched, matched_last, const, is_true, is_false, not_not, differ, widen, less_fits, after, turn_of_lem, take_out, put_in, put_back, look_out, look_back, free_all}
 use mathlib.Core.Bool.{cond}
-use Rattle.frames.specs.Widths.{maxPlaces, dequeWords}
-use Rattle.soundness.specs.Soundness.{framesSound}
-use Rattle.frame_check.specs.Algorithm.{liveEnd, zeros}
+use Rattle.frames.specs.Widths.{max_places, deque_words}
+use Rattle.soundness.specs.Soundness.{frames_sound}
+use Rattle.frame_check.specs.Algorithm.{live_end, zeros}
 use Rattle.frame_check.specs.declared.FramesChecked.TheVariants.{Bad, Good}
 use Rattle.frame_check.proofs.Called.deques_fit as S-deques-fit
 use Rattle.frame_check.proofs.deques.deques_fit.Symbol as D-deques-fit
@@ -136,7 +136,7 @@ module _ {M : Type 1} {𝓤 : Ura M} (𝓛 : Logic 𝓤) (mem : Memory → SProp
   n-tallies = length tallies
 
   abbrev args' : ℕ × (ℕ × (Bor (List ℕ) × (Bor (List Frame) × (Bor (List ℕ) × Unit {0}))))
-  args' = (workers, (first', (at-list b-deques o-deques γ-deques deques, (at-list b-frames o-frames γ-frames frames, (at-list b-tallies o-tallies γ-tallies tallies, tt)))))
+  args' = (workers, (first', (at_list b-deques o-deques γ-deques deques, (at_list b-frames o-frames γ-frames frames, (at_list b-tallies o-tallies γ-tallies tallies, tt)))))
 
   abbrev vals' : Vals f'.signature (κ-deques, (κ-frames, (κ-tallies, tt)))
   vals' = (vint w32 workers ∷ [], (vint w32 first' ∷ [], (slice_val (b-deques, o-deques) (length deques) ∷ [], (slice_val (b-frames, o-frames) (length frames) ∷ [], (slice_val (b-tallies, o-tallies) (length tallies) ∷ [], tt)))))
@@ -147,7 +147,7 @@ module _ {M : Type 1} {𝓤 : Ura M} (𝓛 : Logic 𝓤) (mem : Memory → SProp
   abbrev Post : Val → SProp 𝓤
   Post = (walk_of 𝓛 f'.ended stayed (f'.clauses 𝓛 mem run)).post bound'
 
-  exits' : (res' : FramesChecked) (zs-tallies : List ℕ) → Is R-FramesChecked res' (val-FramesChecked res' ∷ []) → res' ≡ cond (framesSound workers first' deques frames) (Good (liveEnd frames)) Bad → length zs-tallies ≡ length tallies → ent 𝓤 (⋆ 𝓛 (‵ (Yours u32 κ-deques q-deques γ-deques b-deques o-deques n-deques deques) ∷ ‵ (Yours R-Frame κ-frames q-frames γ-frames b-frames o-frames n-frames frames) ∷ ‵ (Mine u32 κ-tallies q-tallies γ-tallies b-tallies o-tallies n-tallies zs-tallies) ∷ [])) (Post (val-FramesChecked res'))
+  exits' : (res' : FramesChecked) (zs-tallies : List ℕ) → Is R-FramesChecked res' (val-FramesChecked res' ∷ []) → res' ≡ cond (frames_sound workers first' deques frames) (Good (live_end frames)) Bad → length zs-tallies ≡ length tallies → ent 𝓤 (⋆ 𝓛 (‵ (Yours u32 κ-deques q-deques γ-deques b-deques o-deques n-deques deques) ∷ ‵ (Yours R-Frame κ-frames q-frames γ-frames b-frames o-frames n-frames frames) ∷ ‵ (Mine u32 κ-tallies q-tallies γ-tallies b-tallies o-tallies n-tallies zs-tallies) ∷ [])) (Post (val-FramesChecked res'))
   exits' res' zs-tallies good' e' same-tallies =
       qed 𝓛 (‵ (Yours u32 κ-deques q-deques γ-deques b-deques o-deques n-deques deques) ∷ ‵ (Yours R-Frame κ-frames q-frames γ-frames b-frames o-frames n-frames frames) ∷ ‵ (Mine u32 κ-tallies q-tallies γ-tallies b-tallies o-tallies n-tallies zs-tallies) ∷ []) ∵
       suffices ! _ (ends_at 𝓛 f'.ended stayed (f'.clauses 𝓛 mem run) bound' (val-FramesChecked res') res' (tt, (tt, (tt, (tt, (zs-tallies, tt))))) (tt, (tt, (tt, (tt, (same-tallies, tt)))))) $ says ! e' $
@@ -159,7 +159,7 @@ module _ {M : Type 1} {𝓤 : Ura M} (𝓛 : Logic 𝓤) (mem : Memory → SProp
     abbrev fm : FmC 𝓤 H 𝓛.laws 𝓣.C
     fm = fm_of 𝓤 H 𝓛.laws 𝓣
 
-    walk : (length deques ≡ dequeWords) × (length frames ≤ maxPlaces) × (tallies ≡ zeros) → ent 𝓤 (on_entry 𝓛 f'.signature (κ-deques, (κ-frames, (κ-tallies, tt))) (q-deques, (q-frames, (q-tallies, tt))) args' vals') (WpFn 𝓤 H 𝓣.C 𝓣.Λ code.function (vint w32 workers ∷ vint w32 first' ∷ slice_val (b-deques, o-deques) (length deques) ∷ slice_val (b-frames, o-frames) (length frames) ∷ slice_val (b-tallies, o-tallies) (length tallies) ∷ []) Post)
+    walk : (length deques ≡ deque_words) × (length frames ≤ max_places) × (tallies ≡ zeros) → ent 𝓤 (on_entry 𝓛 f'.signature (κ-deques, (κ-frames, (κ-tallies, tt))) (q-deques, (q-frames, (q-tallies, tt))) args' vals') (WpFn 𝓤 H 𝓣.C 𝓣.Λ code.function (vint w32 workers ∷ vint w32 first' ∷ slice_val (b-deques, o-deques) (length deques) ∷ slice_val (b-frames, o-frames) (length frames) ∷ slice_val (b-tallies, o-tallies) (length tallies) ∷ []) Post)
     walk ok' =
         qed 𝓛 ((‵ (flft κ-deques q-deques) ⊛ ‵ (flft κ-frames q-frames) ⊛ ‵ (flft κ-tallies q-tallies) ⊛ ‵ ftrue) ∷ ‵ (owns (u32 ∷ u32 ∷ ShrSlice (named 0) κ-deques u32 ∷ ShrSlice (named 1) κ-frames R-Frame ∷ MutSlice (named 2) κ-tallies u32 ∷ []) args' vals') ∷ []) ∵ enter ! 𝓣.C 𝓣.Λ code.function (vint w32 workers ∷ vint w32 first' ∷ slice_val (b-deques, o-deques) (length deques) ∷ slice_val (b-frames, o-frames) (length frames) ∷ slice_val (b-tallies, o-tallies) (length tallies) ∷ []) _ $
         alloc1 ! (λ l₀. alloc1 ! (λ l₁. alloc1 ! (λ l₂. alloc1 ! (λ l₃. alloc1 ! (λ l₄. alloc1 ! (λ l₅. alloc1 ! (λ l₆. alloc1 ! (λ l₇. alloc1 ! (λ l₈. alloc1 ! (λ l₉. alloc1 ! (λ l₁₀. alloc1 ! (λ l₁₁. alloc1 ! (λ l₁₂. alloc1 ! (λ l₁₃. alloc1 ! (λ l₁₄. alloc1 ! (λ l₁₅. alloc1 ! (λ l₁₆. alloc1 ! (λ l₁₇. alloc1 ! (λ l₁₈. alloc1 ! (λ l₁₉. alloc1 ! (λ l₂₀. alloc1 ! (λ l₂₁. alloc0 ! $ params1 ! $
@@ -173,7 +173,7 @@ module _ {M : Type 1} {𝓤 : Ura M} (𝓛 : Logic 𝓤) (mem : Memory → SProp
         (and_then ! (load ! (from ! (stop !)) (look ! 44 refl)) (and_then ! (load ! (from ! (stop !)) (look ! 34 refl)) (and_then ! (load ! (from ! (stop !)) (look ! 40 refl)) (no_more !)))) (λ r-2 r-2-is.
         land ! (from ! (stop !)) (init ! 17 refl (tt, tt)) $
         assigns ! (un ! (load ! (from ! (stop !)) (look ! 17 refl)) tt) (from ! (stop !)) (init ! 15 refl (tt, tt)) $
-        leave-if ! (load ! (from ! (stop !)) (look ! 15 refl))
+        leave_if ! (load ! (from ! (stop !)) (look ! 15 refl))
         (λ test-3.
         -- _0 = frame_check::found(false, 0)
         S-found.step mem run ! fm known-found false 0 (lit< tt)
@@ -187,15 +187,15 @@ module _ {M : Type 1} {𝓤 : Ura M} (𝓛 : Logic 𝓤) (mem : Memory → SProp
         assigns ! (agg ! (and_then ! (load ! (from ! (stop !)) (look ! 13 refl)) (and_then ! (load ! (from ! (fld ! refl (stop !))) (look_in ! 35 (sub ! 1 refl (whole !)))) (no_more !)))) (from ! (stop !)) (init ! 11 refl (tt, (tt, (record { fits = room-tallies.0 }, tt)))) $
         -- _7 = frame_check::tallies::tally_children(_17, _4, _6)
         move ! (2 ∷ 1 ∷ []) $
-        S-tally-children.step-g mem run ! fm known-tally-children b-tallies o-tallies n-tallies tallies b-frames o-frames n-frames frames (length frames) (F.small-1 workers first' deques frames tallies workers-fits first'-fits room-deques.0 room-frames.0 room-tallies.0 ok') (F.needs-6 workers first' deques frames tallies workers-fits first'-fits room-deques.0 room-frames.0 room-tallies.0 ok' r-2 r-2-is (is_true r-2 (not-not r-2 test-3))) (refl) room-tallies
+        S-tally-children.step-g mem run ! fm known-tally-children b-tallies o-tallies n-tallies tallies b-frames o-frames n-frames frames (length frames) (F.small-1 workers first' deques frames tallies workers-fits first'-fits room-deques.0 room-frames.0 room-tallies.0 ok') (F.needs-6 workers first' deques frames tallies workers-fits first'-fits room-deques.0 room-frames.0 room-tallies.0 ok' r-2 r-2-is (is_true r-2 (not_not r-2 test-3))) (refl) room-tallies
         (λ ν-0 δ-0. and_then ! (load ! (from ! (stop !)) (look ! 12 refl)) (and_then ! (load ! (from ! (stop !)) (look ! 38 refl)) (and_then ! (load ! (from ! (stop !)) (look ! 34 refl)) (no_more !)))) (λ census tallies-6 census-good census-is same-tallies-6.
         land ! (from ! (stop !)) (init ! 31 refl ((LL.lawful M-Census.the_type L-Census.the_laws 𝓛).typed census _ census-good).0) $
         assigns ! (addr ! (from ! (fld ! refl (hop ! (look_in ! 35 (sub ! 0 refl (whole !))) (stop !))))) (from ! (stop !)) (init ! 9 refl (tt, tt)) $
         assigns ! (agg ! (and_then ! (load ! (from ! (stop !)) (look ! 9 refl)) (and_then ! (load ! (from ! (fld ! refl (stop !))) (look_in ! 35 (sub ! 1 refl (whole !)))) (no_more !)))) (from ! (stop !)) (init ! 7 refl (tt, (tt, (record { fits = room-tallies.0 }, tt)))) $
         -- _8 = frame_check::deques::tally_deques(_19, _3, _4, _6)
         move ! (0 ∷ 2 ∷ 1 ∷ []) $
-        S-tally-deques.step-gg mem run ! fm known-tally-deques b-tallies o-tallies n-tallies tallies-6 b-deques o-deques n-deques deques b-frames o-frames n-frames frames (length frames) (F.small-1 workers first' deques frames tallies workers-fits first'-fits room-deques.0 room-frames.0 room-tallies.0 ok') (F.needs-7 workers first' deques frames tallies workers-fits first'-fits room-deques.0 room-frames.0 room-tallies.0 ok' r-2 r-2-is (is_true r-2 (not-not r-2 test-3)) census tallies-6 census-is same-tallies-6) (same-tallies-6) room-tallies
-        (λ ν-0 δ-0. and_then ! (load ! (from ! (stop !)) (look ! 8 refl)) (and_then ! (load ! (from ! (stop !)) (look ! 40 refl)) (and_then ! (load ! (from ! (stop !)) (look ! 38 refl)) (and_then ! (load ! (from ! (stop !)) (look ! 34 refl)) (no_more !))))) (λ placed tallies-7 placed-is same-tallies-7.
+        S-tally-deques.step-gg mem run ! fm known-tally-deques b-tallies o-tallies n-tallies tallies-6 b-deques o-deques n-deques deques b-frames o-frames n-frames frames (length frames) (F.small-1 workers first' deques frames tallies workers-fits first'-fits room-deques.0 room-frames.0 room-tallies.0 ok') (F.needs-7 workers first' deques frames tallies workers-fits first'-fits room-deques.0 room-frames.0 room-tallies.0 ok' r-2 r-2-is (is_true r-2 (not_not r-2 test-3)) census tallies-6 census-is same-tallies-6) (same-tallies-6) room-tallies
+        (λ ν-0 δ-0. and_then ! (load ! (from ! (stop !)) (look ! 8 refl)) (and_then ! (load ! (from ! (stop !)) (look ! 40 refl)) (and_then ! (load ! (from ! (stop !)) (look ! 38 refl)) (and_then ! (load ! (from ! (stop !)) (look ! 34 refl)) (no_more !))))) (λ placed tallies-7 placed_is same-tallies-7.
         land ! (from ! (stop !)) (init ! 29 refl (tt, tt)) $
         -- _9 = frame_check::free_count(_7, _6)
         S-free-count.step mem run ! fm known-free-count census (length frames) census-good (F.small-1 workers first' deques frames tallies workers-fits first'-fits room-deques.0 room-frames.0 room-tallies.0 ok')
@@ -203,8 +203,8 @@ module _ {M : Type 1} {𝓤 : Ura M} (𝓛 : Logic 𝓤) (mem : Memory → SProp
         land ! (from ! (stop !)) (init ! 27 refl (tt, record { fits = count_fits })) $
         -- _10 = frame_check::places::follow_free(_4, _6, _9, _2)
         move ! (2 ∷ []) $
-        S-follow-free.step-g mem run ! fm known-follow-free b-frames o-frames n-frames frames (length frames) count first' (F.small-1 workers first' deques frames tallies workers-fits first'-fits room-deques.0 room-frames.0 room-tallies.0 ok') count_fits first'-fits (F.needs-9 workers first' deques frames tallies workers-fits first'-fits room-deques.0 room-frames.0 room-tallies.0 ok' r-2 r-2-is (is_true r-2 (not-not r-2 test-3)) census tallies-6 census-is same-tallies-6 placed tallies-7 placed-is same-tallies-7 count count_fits count-is)
-        (and_then ! (load ! (from ! (stop !)) (look ! 38 refl)) (and_then ! (load ! (from ! (stop !)) (look ! 34 refl)) (and_then ! (load ! (from ! (stop !)) (look ! 28 refl)) (and_then ! (load ! (from ! (stop !)) (look ! 42 refl)) (no_more !))))) (λ chained chained-is.
+        S-follow-free.step-g mem run ! fm known-follow-free b-frames o-frames n-frames frames (length frames) count first' (F.small-1 workers first' deques frames tallies workers-fits first'-fits room-deques.0 room-frames.0 room-tallies.0 ok') count_fits first'-fits (F.needs-9 workers first' deques frames tallies workers-fits first'-fits room-deques.0 room-frames.0 room-tallies.0 ok' r-2 r-2-is (is_true r-2 (not_not r-2 test-3)) census tallies-6 census-is same-tallies-6 placed tallies-7 placed_is same-tallies-7 count count_fits count-is)
+        (and_then ! (load ! (from ! (stop !)) (look ! 38 refl)) (and_then ! (load ! (from ! (stop !)) (look ! 34 refl)) (and_then ! (load ! (from ! (stop !)) (look ! 28 refl)) (and_then ! (load ! (from ! (stop !)) (look ! 42 refl)) (no_more !))))) (λ chained chained_is.
         land ! (from ! (stop !)) (init ! 25 refl (tt, tt)) $
         -- _11 = frame_check::live_end(_7)
         S-live-end.step mem run ! fm known-live-end census census-good
@@ -213,8 +213,8 @@ module _ {M : Type 1} {𝓤 : Ura M} (𝓛 : Logic 𝓤) (mem : Memory → SProp
         assigns ! (addr ! (from ! (fld ! refl (hop ! (look_in ! 35 (sub ! 0 refl (whole !))) (stop !))))) (from ! (stop !)) (init ! 5 refl (tt, tt)) $
         assigns ! (agg ! (and_then ! (load ! (from ! (stop !)) (look ! 5 refl)) (and_then ! (load ! (from ! (fld ! refl (stop !))) (look_in ! 35 (sub ! 1 refl (whole !)))) (no_more !)))) (from ! (stop !)) (init ! 3 refl (tt, (tt, (record { fits = room-tallies.0 }, tt)))) $
         -- _12 = frame_check::places::places_sound(_4, _21, _6, _11)
-        S-places-sound.step-gs mem run ! fm known-places-sound b-frames o-frames n-frames frames b-tallies o-tallies n-tallies tallies-7 (length frames) end (F.small-1 workers first' deques frames tallies workers-fits first'-fits room-deques.0 room-frames.0 room-tallies.0 ok') end_fits (F.needs-11 workers first' deques frames tallies workers-fits first'-fits room-deques.0 room-frames.0 room-tallies.0 ok' r-2 r-2-is (is_true r-2 (not-not r-2 test-3)) census tallies-6 census-is same-tallies-6 placed tallies-7 placed-is same-tallies-7 count count_fits count-is chained chained-is end end_fits end_is) (same-tallies-7 ∙ same-tallies-6) room-tallies
-        (λ ν-0 δ-0. and_then ! (load ! (from ! (stop !)) (look ! 38 refl)) (and_then ! (load ! (from ! (stop !)) (look ! 4 refl)) (and_then ! (load ! (from ! (stop !)) (look ! 34 refl)) (and_then ! (load ! (from ! (stop !)) (look ! 24 refl)) (no_more !))))) (λ sound sound-is.
+        S-places-sound.step-gs mem run ! fm known-places-sound b-frames o-frames n-frames frames b-tallies o-tallies n-tallies tallies-7 (length frames) end (F.small-1 workers first' deques frames tallies workers-fits first'-fits room-deques.0 room-frames.0 room-tallies.0 ok') end_fits (F.needs-11 workers first' deques frames tallies workers-fits first'-fits room-deques.0 room-frames.0 room-tallies.0 ok' r-2 r-2-is (is_true r-2 (not_not r-2 test-3)) census tallies-6 census-is same-tallies-6 placed tallies-7 placed_is same-tallies-7 count count_fits count-is chained chained_is end end_fits end_is) (same-tallies-7 ∙ same-tallies-6) room-tallies
+        (λ ν-0 δ-0. and_then ! (load ! (from ! (stop !)) (look ! 38 refl)) (and_then ! (load ! (from ! (stop !)) (look ! 4 refl)) (and_then ! (load ! (from ! (stop !)) (look ! 34 refl)) (and_then ! (load ! (from ! (stop !)) (look ! 24 refl)) (no_more !))))) (λ sound sound_is.
         land ! (from ! (stop !)) (init ! 21 refl (tt, tt)) $
         -- _0 = frame_check::conclude(_7, _8, _10, _12)
         S-conclude.step mem run ! fm known-conclude census placed chained sound census-good
@@ -223,7 +223,7 @@ module _ {M : Type 1} {𝓤 : Ura M} (𝓛 : Logic 𝓤) (mem : Memory → SProp
         returns_within ! Post refl (look ! 45 refl) $ forget ! 3 refl $ forget ! 5 refl $ forget ! 7 refl $ forget ! 9 refl $ forget ! 11 refl $ forget ! 13 refl $ forget ! 15 refl $ forget ! 17 refl $ forget ! 19 refl $ forget ! 21 refl $ forget ! 23 refl $ forget ! 25 refl $ forget ! 27 refl $ forget ! 29 refl $ forget ! 31 refl $ forget ! 33 refl $ forget ! 35 refl $ forget ! 37 refl $ forget ! 39 refl $ forget ! 41 refl $ forget ! 43 refl $ forget ! 45 refl $
         free_all ! 3 refl $
         move ! (2 ∷ 0 ∷ 1 ∷ []) $
-        by ! (exits' r-12 tallies-7 r-12-good (F.out-13 workers first' deques frames tallies workers-fits first'-fits room-deques.0 room-frames.0 room-tallies.0 ok' r-2 r-2-is (is_true r-2 (not-not r-2 test-3)) census tallies-6 census-is same-tallies-6 placed tallies-7 placed-is same-tallies-7 count count_fits count-is chained chained-is end end_fits end_is sound sound-is r-12 r-12-is) (same-tallies-7 ∙ same-tallies-6)))))))))))))))))))))))))))))))))
+        by ! (exits' r-12 tallies-7 r-12-good (F.out-13 workers first' deques frames tallies workers-fits first'-fits room-deques.0 room-frames.0 room-tallies.0 ok' r-2 r-2-is (is_true r-2 (not_not r-2 test-3)) census tallies-6 census-is same-tallies-6 placed tallies-7 placed_is same-tallies-7 count count_fits count-is chained chained_is end end_fits end_is sound sound_is r-12 r-12-is) (same-tallies-7 ∙ same-tallies-6)))))))))))))))))))))))))))))))))
 
 module _ {M : Type 1} {𝓤 : Ura M} (𝓛 : Logic 𝓤) (mem : Memory → SProp 𝓤) (run : Routine → Fun 𝓤) (𝓣 : Tables 𝓤 𝓛.H) where
   open 𝓛 use {H}
@@ -232,7 +232,7 @@ module _ {M : Type 1} {𝓤 : Ura M} (𝓛 : Logic 𝓤) (mem : Memory → SProp
   walks known-deques-fit known-found known-tally-children known-tally-deques known-free-count known-follow-free known-live-end known-places-sound known-conclude = walked 𝓛 f'.ended stayed (f'.clauses 𝓛 mem run) (WpFn 𝓤 H 𝓣.C 𝓣.Λ code.function)
       (λ κs. (uint_vals w32, (uint_vals w32, (shr_slice_vals, (shr_slice_vals, (shr_slice_vals, tt))))))
       (λ κs. (uint_Tells w32, (uint_Tells w32, (shr_slice_Tells (named 0) κs.0 u32, (shr_slice_Tells (named 1) κs.1.0 R-Frame, (mut_slice_Tells (named 2) κs.1.1.0 u32, tt))))))
-      (λ κs qs bounds a g are. needs 𝓤 ((length a.1.1.0.now ≡ dequeWords) × (length a.1.1.1.0.now ≤ maxPlaces) × (a.1.1.1.1.0.now ≡ zeros)) _
+      (λ κs qs bounds a g are. needs 𝓤 ((length a.1.1.0.now ≡ deque_words) × (length a.1.1.1.0.now ≤ max_places) × (a.1.1.1.1.0.now ≡ zeros)) _
       (walk 𝓛 mem run κs.0 qs.0 a.1.1.0.ref_ptr.0 a.1.1.0.ref_ptr.1 a.1.1.0.ghost_name a.1.1.0.now κs.1.0 qs.1.0 a.1.1.1.0.ref_ptr.0 a.1.1.1.0.ref_ptr.1 a.1.1.1.0.ghost_name a.1.1.1.0.now κs.1.1.0 qs.1.1.0 a.1.1.1.1.0.ref_ptr.0 a.1.1.1.1.0.ref_ptr.1 a.1.1.1.1.0.ghost_name a.1.1.1.1.0.now a.0 are.0.1 a.1.0 are.1.0.1 are.1.1.0.0.1 are.1.1.1.0.0.1 are.1.1.1.1.0.0.1 𝓣 known-deques-fit known-found known-tally-children known-tally-deques known-free-count known-follow-free known-live-end known-places-sound known-conclude))
 
   meets : Triple 𝓤 (𝓣.C #deques-fit) (S-deques-fit.Asked 𝓛 mem run) → Triple 𝓤 (𝓣.C #found) (S-found.Asked 𝓛 mem run) → Triple 𝓤 (𝓣.C #tally-children) (S-tally-children.Asked 𝓛 mem run) → Triple 𝓤 (𝓣.C #tally-deques) (S-tally-deques.Asked 𝓛 mem run) → Triple 𝓤 (𝓣.C #free-count) (S-free-count.Asked 𝓛 mem run) → Triple 𝓤 (𝓣.C #follow-free) (S-follow-free.Asked 𝓛 mem run) → Triple 𝓤 (𝓣.C #live-end) (S-live-end.Asked 𝓛 mem run) → Triple 𝓤 (𝓣.C #places-sound) (S-places-sound.Asked 𝓛 mem run) → Triple 𝓤 (𝓣.C #conclude) (S-conclude.Asked 𝓛 mem run) → Meets 𝓛 f'.signature (WpFn 𝓤 H 𝓣.C 𝓣.Λ code.function) (f'.spec 𝓛 mem run)
@@ -250,7 +250,7 @@ check-with-spec 𝓤 𝓛 𝓜 𝓡 =
     (cited 𝓤 𝓛.H (S-found.Asked 𝓛 𝓜.mem 𝓡.run) 𝓜 𝓡 code.env #found D-found.routine code.calls-frame-check::found (T-found.met 𝓤 𝓛 𝓜 𝓡))
     (cited 𝓤 𝓛.H (S-tally-children.Asked 𝓛 𝓜.mem 𝓡.run) 𝓜 𝓡 code.env #tally-children D-tally-children.routine code.calls-frame-check::tallies::tally-children (T-tally-children.met 𝓤 𝓛 𝓜 𝓡))
     (cited 𝓤 𝓛.H (S-tally-deques.Asked 𝓛 𝓜.mem 𝓡.run) 𝓜 𝓡 code.env #tally-deques D-tally-deques.routine code.calls-frame-check::deques::tally-deques (T-tally-deques.met 𝓤 𝓛 𝓜 𝓡))
-    (cited 𝓤 𝓛.H (S-free-count.Asked 𝓛 𝓜.mem 𝓡.run) 𝓜 𝓡 code.env #free-count D-free-count.routine code.calls-frame-check::free-count (T-free-count.met 𝓤 𝓛 𝓜 𝓡))
+    (cited 𝓤 𝓛.H (S-free-count.Asked 𝓛 𝓜.mem 𝓡.run) 𝓜 𝓡 code.env #free-count D-free-count.routine code.calls-frame-check::free_count (T-free-count.met 𝓤 𝓛 𝓜 𝓡))
     (cited 𝓤 𝓛.H (S-follow-free.Asked 𝓛 𝓜.mem 𝓡.run) 𝓜 𝓡 code.env #follow-free D-follow-free.routine code.calls-frame-check::places::follow-free (T-follow-free.met 𝓤 𝓛 𝓜 𝓡))
     (cited 𝓤 𝓛.H (S-live-end.Asked 𝓛 𝓜.mem 𝓡.run) 𝓜 𝓡 code.env #live-end D-live-end.routine code.calls-frame-check::live-end (T-live-end.met 𝓤 𝓛 𝓜 𝓡))
     (cited 𝓤 𝓛.H (S-places-sound.Asked 𝓛 𝓜.mem 𝓡.run) 𝓜 𝓡 code.env #places-sound D-places-sound.routine code.calls-frame-check::places::places-sound (T-places-sound.met 𝓤 𝓛 𝓜 𝓡))

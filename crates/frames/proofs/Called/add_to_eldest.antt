@@ -39,7 +39,7 @@ use Rattle.words.specs.Basics.{plus, minus}
 use Rattle.frames.specs.contracts.Frame as M-Frame
 use Rattle.frames.proofs.Frame.TheLaws as L-Frame
 use Rattle.frames.specs.declared.Frame.{Frame}
-use Rattle.frames.proofs.Lent.{at-list, Mine, Yours, Lent, Shown, lend, home, show, back, give}
+use Rattle.frames.proofs.Lent.{at_list, Mine, Yours, Lent, Shown, lend, home, show, back, give}
 use Rattle.frames.specs.contracts.siblings.add_to_eldest as callee'
 
 abbrev R-Frame : RattleType
@@ -53,10 +53,10 @@ module _ {M : Type 1} {𝓤 : Ura M} (𝓛 : Logic 𝓤) (mem : Memory → SProp
   Asked = triple_of 𝓛 callee'.signature (callee'.spec 𝓛 mem run)
 
   abbrev pub to_step : (ν-eldests : ℕ) (δ-eldests : GName) (b-eldests o-eldests n-eldests : ℕ) (eldests : List ℕ) (c : ℕ) (f : Frame) → Asked.Ghost
-  to_step ν-eldests δ-eldests b-eldests o-eldests n-eldests eldests c f = ((((ν-eldests ∷ []), tt), (full_share, tt), tt, (at-list b-eldests o-eldests δ-eldests eldests, (c, (f, tt))), (slice_val (b-eldests, o-eldests) n-eldests ∷ [], (vint w32 c ∷ [], (val-Frame f ∷ [], tt)))), tt)
+  to_step ν-eldests δ-eldests b-eldests o-eldests n-eldests eldests c f = ((((ν-eldests ∷ []), tt), (full_share, tt), tt, (at_list b-eldests o-eldests δ-eldests eldests, (c, (f, tt))), (slice_val (b-eldests, o-eldests) n-eldests ∷ [], (vint w32 c ∷ [], (val-Frame f ∷ [], tt)))), tt)
 
-  pub goes_step : (ν-eldests : ℕ) (δ-eldests : GName) (b-eldests o-eldests n-eldests : ℕ) (eldests : List ℕ) (c : ℕ) (f : Frame) → (c-good : c < 2 ^ 32) (f-good : Is R-Frame f (val-Frame f ∷ [])) → ent 𝓤 (⋆ 𝓛 (‵ (flft (ν-eldests ∷ []) full_share) ∷ ‵ ((MutSlice (named 0) (ν-eldests ∷ []) u32).own_val (at-list b-eldests o-eldests δ-eldests eldests) (slice_val (b-eldests, o-eldests) n-eldests ∷ [])) ∷ [])) (Asked.pre (to_step ν-eldests δ-eldests b-eldests o-eldests n-eldests eldests c f))
-  goes_step ν-eldests δ-eldests b-eldests o-eldests n-eldests eldests c f c-good f-good = qed 𝓛 (‵ (flft (ν-eldests ∷ []) full_share) ∷ ‵ ((MutSlice (named 0) (ν-eldests ∷ []) u32).own_val (at-list b-eldests o-eldests δ-eldests eldests) (slice_val (b-eldests, o-eldests) n-eldests ∷ [])) ∷ []) ∵ nothing ! $ move ! (1 ∷ 0 ∷ []) $ group ! 2 $ move ! (1 ∷ 0 ∷ []) $
+  pub goes_step : (ν-eldests : ℕ) (δ-eldests : GName) (b-eldests o-eldests n-eldests : ℕ) (eldests : List ℕ) (c : ℕ) (f : Frame) → (c-good : c < 2 ^ 32) (f-good : Is R-Frame f (val-Frame f ∷ [])) → ent 𝓤 (⋆ 𝓛 (‵ (flft (ν-eldests ∷ []) full_share) ∷ ‵ ((MutSlice (named 0) (ν-eldests ∷ []) u32).own_val (at_list b-eldests o-eldests δ-eldests eldests) (slice_val (b-eldests, o-eldests) n-eldests ∷ [])) ∷ [])) (Asked.pre (to_step ν-eldests δ-eldests b-eldests o-eldests n-eldests eldests c f))
+  goes_step ν-eldests δ-eldests b-eldests o-eldests n-eldests eldests c f c-good f-good = qed 𝓛 (‵ (flft (ν-eldests ∷ []) full_share) ∷ ‵ ((MutSlice (named 0) (ν-eldests ∷ []) u32).own_val (at_list b-eldests o-eldests δ-eldests eldests) (slice_val (b-eldests, o-eldests) n-eldests ∷ [])) ∷ []) ∵ nothing ! $ move ! (1 ∷ 0 ∷ []) $ group ! 2 $ move ! (1 ∷ 0 ∷ []) $
       nothing ! $ owned ! R-Frame (Is R-Frame) (LL.makes M-Frame.the_type L-Frame.the_plain 𝓛) f _ f-good $ fjoin ! $ owned ! u32 (Is u32) (uint_Makes 𝓛 w32) c _ (refl, c-good) $ fjoin ! $ move ! (1 ∷ 0 ∷ []) $ fjoin ! $ move ! (1 ∷ 0 ∷ []) $ join ! $ frame ! $ done !
 
 module _ {M : Type 1} {𝓤 : Ura M} {𝓛 : Logic 𝓤} {K : Type 0} (mem : Memory → SProp 𝓤) (run : Routine → Fun 𝓤)
@@ -71,8 +71,8 @@ module _ {M : Type 1} {𝓤 : Ura M} {𝓛 : Logic 𝓤} {K : Type 0} (mem : Mem
       lend t' tt u32 b-eldests o-eldests n-eldests eldests len-eldests (λ ν-eldests δ-eldests.
       move t' (0 ∷ 1 ∷ []) $ group t' 2 $ use1 𝓛 (raw ((Asked 𝓛 mem run).pre (to_step 𝓛 mem run ν-eldests δ-eldests b-eldests o-eldests n-eldests eldests c f))) (goes_step 𝓛 mem run ν-eldests δ-eldests b-eldests o-eldests n-eldests eldests c f c-good f-good) $
       calls_at t' fm' (Asked 𝓛 mem run) known' (to_step 𝓛 mem run ν-eldests δ-eldests b-eldests o-eldests n-eldests eldests c f) (os' ν-eldests δ-eldests) (λ w'.
-      use1 𝓛 (later (some (λ (res' : Unit {0}). ((‵ (flft (ν-eldests ∷ []) full_share) ⊛ ‵ ftrue) ⊛ ‵ (unit.own_val res' (w' ∷ []))) ⊛ raw (ensured 𝓛 callee'.ended (callee'.clauses 𝓛 mem run) ((ν-eldests ∷ []), tt) (at-list b-eldests o-eldests δ-eldests eldests, (c, (f, tt))) tt res')))) (id⊢ 𝓤 _) $ await t' tt $ pick t' (λ res'. split t' $ move t' (1 ∷ []) $
-      use1 𝓛 (some (λ (zs' : List ℕ × (Unit {0} × (Unit {0} × Unit {0}))). ‵ (lasts callee'.ended ((ν-eldests ∷ []), tt) (at-list b-eldests o-eldests δ-eldests eldests, (c, (f, tt))) zs') ⊛ raw (fact 𝓤 (zs'.0 ≡ cond (eqb f.live 1) (set eldests f.parent (minus (plus (get_or eldests f.parent 0) c) f.younger)) eldests)))) (id⊢ 𝓤 _) $ pick t' (λ zs'. split t' $ move t' (1 ∷ []) $ heard t' (zs'.0 ≡ cond (eqb f.live 1) (set eldests f.parent (minus (plus (get_or eldests f.parent 0) c) f.younger)) eldests) (λ e'.
+      use1 𝓛 (later (some (λ (res' : Unit {0}). ((‵ (flft (ν-eldests ∷ []) full_share) ⊛ ‵ ftrue) ⊛ ‵ (unit.own_val res' (w' ∷ []))) ⊛ raw (ensured 𝓛 callee'.ended (callee'.clauses 𝓛 mem run) ((ν-eldests ∷ []), tt) (at_list b-eldests o-eldests δ-eldests eldests, (c, (f, tt))) tt res')))) (id⊢ 𝓤 _) $ await t' tt $ pick t' (λ res'. split t' $ move t' (1 ∷ []) $
+      use1 𝓛 (some (λ (zs' : List ℕ × (Unit {0} × (Unit {0} × Unit {0}))). ‵ (lasts callee'.ended ((ν-eldests ∷ []), tt) (at_list b-eldests o-eldests δ-eldests eldests, (c, (f, tt))) zs') ⊛ raw (fact 𝓤 (zs'.0 ≡ cond (eqb f.live 1) (set eldests f.parent (minus (plus (get_or eldests f.parent 0) c) f.younger)) eldests)))) (id⊢ 𝓤 _) $ pick t' (λ zs'. split t' $ move t' (1 ∷ []) $ heard t' (zs'.0 ≡ cond (eqb f.live 1) (set eldests f.parent (minus (plus (get_or eldests f.parent 0) c) f.younger)) eldests) (λ e'.
       fsplit t' $ fsplit t' $ move t' (1 ∷ []) $ feq_l t' (λ same-eldests. move t' (1 ∷ []) $ fsplit t' $ drop t' $ fsplit t' $ drop t' $ drop t' $
       move t' (1 ∷ []) $ split t' $ move t' (1 ∷ []) $ peeks t' unit (Is unit) (shows 𝓛 unit) res' (w' ∷ []) (λ is'. drop t' $ split t' $ move t' (1 ∷ []) $ drop t' $
       move t' (0 ∷ 2 ∷ 1 ∷ []) $ home t' tt u32 b-eldests o-eldests n-eldests eldests zs'.0 len-eldests room-eldests same-eldests $

@@ -33,12 +33,12 @@ use denote.Triple.Call.{calls_at, calls_at_last}
 use denote.Triple.Clauses.{ensured, lasts}
 use denote.Triple.Walked.{says}
 use Prim.Native.Nat.{◌≤◌}
-use Rattle.frames.specs.Widths.{maxPlaces}
-use Rattle.frames.specs.Siblings.{firstFrom}
+use Rattle.frames.specs.Widths.{max_places}
+use Rattle.frames.specs.Siblings.{first_from}
 use Rattle.frames.specs.contracts.Frame as M-Frame
 use Rattle.frames.proofs.Frame.TheLaws as L-Frame
 use Rattle.frames.specs.declared.Frame.{Frame}
-use Rattle.frames.proofs.Lent.{at-list, Mine, Yours, Lent, Shown, lend, home, show, back, give}
+use Rattle.frames.proofs.Lent.{at_list, Mine, Yours, Lent, Shown, lend, home, show, back, give}
 use Rattle.frames.specs.contracts.siblings.first_from as callee'
 
 abbrev R-Frame : RattleType
@@ -52,26 +52,26 @@ module _ {M : Type 1} {𝓤 : Ura M} (𝓛 : Logic 𝓤) (mem : Memory → SProp
   Asked = triple_of 𝓛 callee'.signature (callee'.spec 𝓛 mem run)
 
   abbrev pub to-step-g : (κ-frames : Lft) (q-frames : Share) (γ-frames : GName) (b-frames o-frames n-frames : ℕ) (frames : List Frame) (q : ℕ) → Asked.Ghost
-  to-step-g κ-frames q-frames γ-frames b-frames o-frames n-frames frames q = (((κ-frames, tt), (q-frames, tt), tt, (at-list b-frames o-frames γ-frames frames, (q, tt)), (slice_val (b-frames, o-frames) n-frames ∷ [], (vint w32 q ∷ [], tt))), tt)
+  to-step-g κ-frames q-frames γ-frames b-frames o-frames n-frames frames q = (((κ-frames, tt), (q-frames, tt), tt, (at_list b-frames o-frames γ-frames frames, (q, tt)), (slice_val (b-frames, o-frames) n-frames ∷ [], (vint w32 q ∷ [], tt))), tt)
 
-  pub goes-step-g : (κ-frames : Lft) (q-frames : Share) (γ-frames : GName) (b-frames o-frames n-frames : ℕ) (frames : List Frame) (q : ℕ) → (q-good : q < 2 ^ 32) (ok' : length frames ≤ maxPlaces) → ent 𝓤 (⋆ 𝓛 (‵ (flft κ-frames q-frames) ∷ ‵ ((ShrSlice (named 0) κ-frames R-Frame).own_val (at-list b-frames o-frames γ-frames frames) (slice_val (b-frames, o-frames) n-frames ∷ [])) ∷ [])) (Asked.pre (to-step-g κ-frames q-frames γ-frames b-frames o-frames n-frames frames q))
-  goes-step-g κ-frames q-frames γ-frames b-frames o-frames n-frames frames q q-good ok' = qed 𝓛 (‵ (flft κ-frames q-frames) ∷ ‵ ((ShrSlice (named 0) κ-frames R-Frame).own_val (at-list b-frames o-frames γ-frames frames) (slice_val (b-frames, o-frames) n-frames ∷ [])) ∷ []) ∵ says ! ok' $ nothing ! $ move ! (1 ∷ 0 ∷ []) $ group ! 2 $ frame ! $
+  pub goes-step-g : (κ-frames : Lft) (q-frames : Share) (γ-frames : GName) (b-frames o-frames n-frames : ℕ) (frames : List Frame) (q : ℕ) → (q-good : q < 2 ^ 32) (ok' : length frames ≤ max_places) → ent 𝓤 (⋆ 𝓛 (‵ (flft κ-frames q-frames) ∷ ‵ ((ShrSlice (named 0) κ-frames R-Frame).own_val (at_list b-frames o-frames γ-frames frames) (slice_val (b-frames, o-frames) n-frames ∷ [])) ∷ [])) (Asked.pre (to-step-g κ-frames q-frames γ-frames b-frames o-frames n-frames frames q))
+  goes-step-g κ-frames q-frames γ-frames b-frames o-frames n-frames frames q q-good ok' = qed 𝓛 (‵ (flft κ-frames q-frames) ∷ ‵ ((ShrSlice (named 0) κ-frames R-Frame).own_val (at_list b-frames o-frames γ-frames frames) (slice_val (b-frames, o-frames) n-frames ∷ [])) ∷ []) ∵ says ! ok' $ nothing ! $ move ! (1 ∷ 0 ∷ []) $ group ! 2 $ frame ! $
       nothing ! $ owned ! u32 (Is u32) (uint_Makes 𝓛 w32) q _ (refl, q-good) $ fjoin ! $ move ! (1 ∷ 0 ∷ []) $ fjoin ! $ done !
 
 module _ {M : Type 1} {𝓤 : Ura M} {𝓛 : Logic 𝓤} {K : Type 0} (mem : Memory → SProp 𝓤) (run : Routine → Fun 𝓤)
     {Γ : List (Item 𝓤)} {E : Env 𝓤 𝓛.H} {C : Calls 𝓤 𝓛.H} {Λ : Loops 𝓤 𝓛.H} {post' : Post 𝓤 𝓛.H} {dest' : Place} {name' : Name} {opds' : List Operand} {rest' : Body} where
   open 𝓛 use {H}
 
-  pub step-g : K → FmC 𝓤 H 𝓛.laws C → Triple 𝓤 (C name') (Asked 𝓛 mem run) → {κ-frames : Lft} {q-frames : Share} {γ-frames : GName} → (b-frames o-frames n-frames : ℕ) (frames : List Frame) (q : ℕ) → (q-good : q < 2 ^ 32) → length frames ≤ maxPlaces →
-      (Opds K 𝓛 (raw ((Asked 𝓛 mem run).pre (to-step-g 𝓛 mem run κ-frames q-frames γ-frames b-frames o-frames n-frames frames q)) ∷ ‵ ((ShrSlice (named 0) κ-frames R-Frame).own_val (at-list b-frames o-frames γ-frames frames) (slice_val (b-frames, o-frames) n-frames ∷ [])) ∷ Γ) E opds' (slice_val (b-frames, o-frames) n-frames ∷ vint w32 q ∷ [])) →
-      ((res' : ℕ) → res' < 2 ^ 32 → res' ≡ firstFrom (length frames) frames q → Seq K 𝓛 (‵ (Yours R-Frame κ-frames q-frames γ-frames b-frames o-frames n-frames frames) ∷ Γ) (lands C Λ E dest' (vint w32 res') rest' post')) →
+  pub step-g : K → FmC 𝓤 H 𝓛.laws C → Triple 𝓤 (C name') (Asked 𝓛 mem run) → {κ-frames : Lft} {q-frames : Share} {γ-frames : GName} → (b-frames o-frames n-frames : ℕ) (frames : List Frame) (q : ℕ) → (q-good : q < 2 ^ 32) → length frames ≤ max_places →
+      (Opds K 𝓛 (raw ((Asked 𝓛 mem run).pre (to-step-g 𝓛 mem run κ-frames q-frames γ-frames b-frames o-frames n-frames frames q)) ∷ ‵ ((ShrSlice (named 0) κ-frames R-Frame).own_val (at_list b-frames o-frames γ-frames frames) (slice_val (b-frames, o-frames) n-frames ∷ [])) ∷ Γ) E opds' (slice_val (b-frames, o-frames) n-frames ∷ vint w32 q ∷ [])) →
+      ((res' : ℕ) → res' < 2 ^ 32 → res' ≡ first_from (length frames) frames q → Seq K 𝓛 (‵ (Yours R-Frame κ-frames q-frames γ-frames b-frames o-frames n-frames frames) ∷ Γ) (lands C Λ E dest' (vint w32 res') rest' post')) →
       Seq K 𝓛 (‵ (Yours R-Frame κ-frames q-frames γ-frames b-frames o-frames n-frames frames) ∷ Γ) (runs C Λ E (seq (call name' opds' dest') rest') post')
   step-g t' fm' known' {κ-frames} {q-frames} {γ-frames} b-frames o-frames n-frames frames q q-good ok' os' k' =
       give t' R-Frame b-frames o-frames n-frames frames $
       move t' (0 ∷ 1 ∷ []) $ group t' 2 $ use1 𝓛 (raw ((Asked 𝓛 mem run).pre (to-step-g 𝓛 mem run κ-frames q-frames γ-frames b-frames o-frames n-frames frames q))) (goes-step-g 𝓛 mem run κ-frames q-frames γ-frames b-frames o-frames n-frames frames q q-good ok') $
       calls_at t' fm' (Asked 𝓛 mem run) known' (to-step-g 𝓛 mem run κ-frames q-frames γ-frames b-frames o-frames n-frames frames q) (os') (λ w'.
-      use1 𝓛 (later (some (λ (res' : ℕ). ((‵ (flft κ-frames q-frames) ⊛ ‵ ftrue) ⊛ ‵ (u32.own_val res' (w' ∷ []))) ⊛ raw (ensured 𝓛 callee'.ended (callee'.clauses 𝓛 mem run) (κ-frames, tt) (at-list b-frames o-frames γ-frames frames, (q, tt)) tt res')))) (id⊢ 𝓤 _) $ await t' tt $ pick t' (λ res'. split t' $ move t' (1 ∷ []) $
-      use1 𝓛 (some (λ (zs' : Unit {0} × (Unit {0} × Unit {0})). ‵ (lasts callee'.ended (κ-frames, tt) (at-list b-frames o-frames γ-frames frames, (q, tt)) zs') ⊛ raw (fact 𝓤 (res' ≡ firstFrom (length frames) frames q)))) (id⊢ 𝓤 _) $ pick t' (λ zs'. split t' $ move t' (1 ∷ []) $ heard t' (res' ≡ firstFrom (length frames) frames q) (λ e'.
+      use1 𝓛 (later (some (λ (res' : ℕ). ((‵ (flft κ-frames q-frames) ⊛ ‵ ftrue) ⊛ ‵ (u32.own_val res' (w' ∷ []))) ⊛ raw (ensured 𝓛 callee'.ended (callee'.clauses 𝓛 mem run) (κ-frames, tt) (at_list b-frames o-frames γ-frames frames, (q, tt)) tt res')))) (id⊢ 𝓤 _) $ await t' tt $ pick t' (λ res'. split t' $ move t' (1 ∷ []) $
+      use1 𝓛 (some (λ (zs' : Unit {0} × (Unit {0} × Unit {0})). ‵ (lasts callee'.ended (κ-frames, tt) (at_list b-frames o-frames γ-frames frames, (q, tt)) zs') ⊛ raw (fact 𝓤 (res' ≡ first_from (length frames) frames q)))) (id⊢ 𝓤 _) $ pick t' (λ zs'. split t' $ move t' (1 ∷ []) $ heard t' (res' ≡ first_from (length frames) frames q) (λ e'.
       fsplit t' $ drop t' $ fsplit t' $ drop t' $ drop t' $
       move t' (0 ∷ []) $ split t' $ move t' (1 ∷ []) $ peeks t' u32 (Is u32) (shows 𝓛 u32) res' (w' ∷ []) (λ is'. drop t' $ split t' $ move t' (1 ∷ []) $ drop t' $
       move t' (1 ∷ 0 ∷ []) $ fjoin t' $

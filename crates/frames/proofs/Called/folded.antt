@@ -32,12 +32,12 @@ use denote.Triple.Statement.{Contract, Triple}
 use denote.Triple.Call.{calls_at, calls_at_last}
 use denote.Triple.Clauses.{ensured, lasts}
 use denote.Triple.Walked.{says}
-use Rattle.reducers.specs.Reducers.{foldView}
-use Rattle.frames.specs.Frames.{withView}
+use Rattle.reducers.specs.Reducers.{fold_view}
+use Rattle.frames.specs.Frames.{with_view}
 use Rattle.frames.specs.contracts.Frame as M-Frame
 use Rattle.frames.proofs.Frame.TheLaws as L-Frame
 use Rattle.frames.specs.declared.Frame.{Frame}
-use Rattle.frames.proofs.Lent.{at-list, Mine, Yours, Lent, Shown, lend, home, show, back, give}
+use Rattle.frames.proofs.Lent.{at_list, Mine, Yours, Lent, Shown, lend, home, show, back, give}
 use Rattle.frames.specs.contracts.records.folded as callee'
 
 abbrev R-Frame : RattleType
@@ -63,13 +63,13 @@ module _ {M : Type 1} {𝓤 : Ura M} {𝓛 : Logic 𝓤} {K : Type 0} (mem : Mem
 
   pub step : K → FmC 𝓤 H 𝓛.laws C → Triple 𝓤 (C name') (Asked 𝓛 mem run) → (f : Frame) (r : ℕ) (v : ℕ) → (f-good : Is R-Frame f (val-Frame f ∷ [])) → (r-good : r < 2 ^ 32) → (v-good : v < 2 ^ 32) →
       (Opds K 𝓛 (raw ((Asked 𝓛 mem run).pre (to_step 𝓛 mem run f r v)) ∷ Γ) E opds' (val-Frame f ∷ vint w32 r ∷ vint w32 v ∷ [])) →
-      ((res' : Frame) → Is R-Frame res' (val-Frame res' ∷ []) → res' ≡ withView f (foldView f.view r v) → Seq K 𝓛 (Γ) (lands C Λ E dest' (val-Frame res') rest' post')) →
+      ((res' : Frame) → Is R-Frame res' (val-Frame res' ∷ []) → res' ≡ with_view f (fold_view f.view r v) → Seq K 𝓛 (Γ) (lands C Λ E dest' (val-Frame res') rest' post')) →
       Seq K 𝓛 (Γ) (runs C Λ E (seq (call name' opds' dest') rest') post')
   step t' fm' known' f r v f-good r-good v-good os' k' =
       nothing t' $ use1 𝓛 (raw ((Asked 𝓛 mem run).pre (to_step 𝓛 mem run f r v))) (goes_step 𝓛 mem run f r v f-good r-good v-good) $
       calls_at t' fm' (Asked 𝓛 mem run) known' (to_step 𝓛 mem run f r v) (os') (λ w'.
       use1 𝓛 (later (some (λ (res' : Frame). (‵ ftrue ⊛ ‵ (R-Frame.own res' (w' ∷ []))) ⊛ raw (ensured 𝓛 callee'.ended (callee'.clauses 𝓛 mem run) tt (f, (r, (v, tt))) tt res')))) (id⊢ 𝓤 _) $ await t' tt $ pick t' (λ res'. split t' $ move t' (1 ∷ []) $
-      use1 𝓛 (some (λ (zs' : Unit {0} × (Unit {0} × (Unit {0} × Unit {0}))). ‵ (lasts callee'.ended tt (f, (r, (v, tt))) zs') ⊛ raw (fact 𝓤 (res' ≡ withView f (foldView f.view r v))))) (id⊢ 𝓤 _) $ pick t' (λ zs'. split t' $ move t' (1 ∷ []) $ heard t' (res' ≡ withView f (foldView f.view r v)) (λ e'.
+      use1 𝓛 (some (λ (zs' : Unit {0} × (Unit {0} × (Unit {0} × Unit {0}))). ‵ (lasts callee'.ended tt (f, (r, (v, tt))) zs') ⊛ raw (fact 𝓤 (res' ≡ with_view f (fold_view f.view r v))))) (id⊢ 𝓤 _) $ pick t' (λ zs'. split t' $ move t' (1 ∷ []) $ heard t' (res' ≡ with_view f (fold_view f.view r v)) (λ e'.
       fsplit t' $ drop t' $ fsplit t' $ drop t' $ fsplit t' $ drop t' $ drop t' $
       move t' (0 ∷ []) $ split t' $ move t' (1 ∷ []) $ peeks t' R-Frame (Is R-Frame) (shows 𝓛 R-Frame) res' (w' ∷ []) (λ is'. drop t' $ drop t' $
       subst (λ (v' : Val). Seq K 𝓛 (Γ) (lands C Λ E dest' v' rest' post')) (sym (ap only (LL.tells M-Frame.the_type L-Frame.the_laws res' _ is'))) (k' res' (subst (Is R-Frame res') (LL.tells M-Frame.the_type L-Frame.the_laws res' _ is') is') e'))))))

@@ -36,7 +36,7 @@ use Rattle.frames.specs.declared.Returned.TheVariants.{Idle}
 use Rattle.frames.specs.contracts.Returned as M-Returned
 use Rattle.frames.proofs.Returned.TheLaws as L-Returned
 use Rattle.frames.specs.declared.Returned.{Returned}
-use Rattle.frames.proofs.Lent.{at-list, Mine, Yours, Lent, Shown, lend, home, show, back, give}
+use Rattle.frames.proofs.Lent.{at_list, Mine, Yours, Lent, Shown, lend, home, show, back, give}
 use Rattle.frames.specs.contracts.steps.idle as callee'
 
 abbrev R-Returned : RattleType

@@ -32,11 +32,11 @@ use denote.Triple.Statement.{Contract, Triple}
 use denote.Triple.Call.{calls_at, calls_at_last}
 use denote.Triple.Clauses.{ensured, lasts}
 use denote.Triple.Walked.{says}
-use Rattle.frames.specs.Frames.{mainFrame}
+use Rattle.frames.specs.Frames.{main_frame}
 use Rattle.frames.specs.contracts.Frame as M-Frame
 use Rattle.frames.proofs.Frame.TheLaws as L-Frame
 use Rattle.frames.specs.declared.Frame.{Frame}
-use Rattle.frames.proofs.Lent.{at-list, Mine, Yours, Lent, Shown, lend, home, show, back, give}
+use Rattle.frames.proofs.Lent.{at_list, Mine, Yours, Lent, Shown, lend, home, show, back, give}
 use Rattle.frames.specs.contracts.records.main_frame as callee'
 
 abbrev R-Frame : RattleType
@@ -62,13 +62,13 @@ module _ {M : Type 1} {𝓤 : Ura M} {𝓛 : Logic 𝓤} {K : Type 0} (mem : Mem
 
   pub step : K → FmC 𝓤 H 𝓛.laws C → Triple 𝓤 (C name') (Asked 𝓛 mem run) → (root : ℕ) → (root-good : root < 2 ^ 32) →
       (Opds K 𝓛 (raw ((Asked 𝓛 mem run).pre (to_step 𝓛 mem run root)) ∷ Γ) E opds' (vint w32 root ∷ [])) →
-      ((res' : Frame) → Is R-Frame res' (val-Frame res' ∷ []) → res' ≡ mainFrame root → Seq K 𝓛 (Γ) (lands C Λ E dest' (val-Frame res') rest' post')) →
+      ((res' : Frame) → Is R-Frame res' (val-Frame res' ∷ []) → res' ≡ main_frame root → Seq K 𝓛 (Γ) (lands C Λ E dest' (val-Frame res') rest' post')) →
       Seq K 𝓛 (Γ) (runs C Λ E (seq (call name' opds' dest') rest') post')
   step t' fm' known' root root-good os' k' =
       nothing t' $ use1 𝓛 (raw ((Asked 𝓛 mem run).pre (to_step 𝓛 mem run root))) (goes_step 𝓛 mem run root root-good) $
       calls_at t' fm' (Asked 𝓛 mem run) known' (to_step 𝓛 mem run root) (os') (λ w'.
       use1 𝓛 (later (some (λ (res' : Frame). (‵ ftrue ⊛ ‵ (R-Frame.own res' (w' ∷ []))) ⊛ raw (ensured 𝓛 callee'.ended (callee'.clauses 𝓛 mem run) tt (root, tt) tt res')))) (id⊢ 𝓤 _) $ await t' tt $ pick t' (λ res'. split t' $ move t' (1 ∷ []) $
-      use1 𝓛 (some (λ (zs' : Unit {0} × Unit {0}). ‵ (lasts callee'.ended tt (root, tt) zs') ⊛ raw (fact 𝓤 (res' ≡ mainFrame root)))) (id⊢ 𝓤 _) $ pick t' (λ zs'. split t' $ move t' (1 ∷ []) $ heard t' (res' ≡ mainFrame root) (λ e'.
+      use1 𝓛 (some (λ (zs' : Unit {0} × Unit {0}). ‵ (lasts callee'.ended tt (root, tt) zs') ⊛ raw (fact 𝓤 (res' ≡ main_frame root)))) (id⊢ 𝓤 _) $ pick t' (λ zs'. split t' $ move t' (1 ∷ []) $ heard t' (res' ≡ main_frame root) (λ e'.
       fsplit t' $ drop t' $ drop t' $
       move t' (0 ∷ []) $ split t' $ move t' (1 ∷ []) $ peeks t' R-Frame (Is R-Frame) (shows 𝓛 R-Frame) res' (w' ∷ []) (λ is'. drop t' $ drop t' $
       subst (λ (v' : Val). Seq K 𝓛 (Γ) (lands C Λ E dest' v' rest' post')) (sym (ap only (LL.tells M-Frame.the_type L-Frame.the_laws res' _ is'))) (k' res' (subst (Is R-Frame res') (LL.tells M-Frame.the_type L-Frame.the_laws res' _ is') is') e'))))))

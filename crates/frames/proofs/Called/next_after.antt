@@ -34,14 +34,14 @@ use denote.Triple.Clauses.{ensured, lasts}
 use denote.Triple.Walked.{says}
 use mathlib.Core.Logic.{◌≢◌}
 use Prim.Native.Nat.{◌≤◌}
-use Rattle.frames.specs.Widths.{maxPlaces}
-use Rattle.frames.specs.Frames.{frameAt}
-use Rattle.frames.specs.Siblings.{nextAfter}
+use Rattle.frames.specs.Widths.{max_places}
+use Rattle.frames.specs.Frames.{frame_at}
+use Rattle.frames.specs.Siblings.{next_after}
 use Rattle.frames.specs.Ranges.{EndsIn}
 use Rattle.frames.specs.contracts.Frame as M-Frame
 use Rattle.frames.proofs.Frame.TheLaws as L-Frame
 use Rattle.frames.specs.declared.Frame.{Frame}
-use Rattle.frames.proofs.Lent.{at-list, Mine, Yours, Lent, Shown, lend, home, show, back, give}
+use Rattle.frames.proofs.Lent.{at_list, Mine, Yours, Lent, Shown, lend, home, show, back, give}
 use Rattle.frames.specs.contracts.siblings.next_after as callee'
 
 abbrev R-Frame : RattleType
@@ -55,26 +55,26 @@ module _ {M : Type 1} {𝓤 : Ura M} (𝓛 : Logic 𝓤) (mem : Memory → SProp
   Asked = triple_of 𝓛 callee'.signature (callee'.spec 𝓛 mem run)
 
   abbrev pub to-step-s : (ν-frames : ℕ) (δ-frames : GName) (b-frames o-frames n-frames : ℕ) (frames : List Frame) (p : ℕ) (q : ℕ) → Asked.Ghost
-  to-step-s ν-frames δ-frames b-frames o-frames n-frames frames p q = ((((ν-frames ∷ []), tt), (full_share, tt), tt, (at-list b-frames o-frames δ-frames frames, (p, (q, tt))), (slice_val (b-frames, o-frames) n-frames ∷ [], (vint w32 p ∷ [], (vint w32 q ∷ [], tt)))), tt)
+  to-step-s ν-frames δ-frames b-frames o-frames n-frames frames p q = ((((ν-frames ∷ []), tt), (full_share, tt), tt, (at_list b-frames o-frames δ-frames frames, (p, (q, tt))), (slice_val (b-frames, o-frames) n-frames ∷ [], (vint w32 p ∷ [], (vint w32 q ∷ [], tt)))), tt)
 
-  pub goes-step-s : (ν-frames : ℕ) (δ-frames : GName) (b-frames o-frames n-frames : ℕ) (frames : List Frame) (p : ℕ) (q : ℕ) → (p-good : p < 2 ^ 32) (q-good : q < 2 ^ 32) (ok' : EndsIn frames p q × (length frames ≤ maxPlaces) × ((frameAt frames q).outstanding ≢ 1)) → ent 𝓤 (⋆ 𝓛 (‵ (flft (ν-frames ∷ []) full_share) ∷ ‵ ((ShrSlice (named 0) (ν-frames ∷ []) R-Frame).own_val (at-list b-frames o-frames δ-frames frames) (slice_val (b-frames, o-frames) n-frames ∷ [])) ∷ [])) (Asked.pre (to-step-s ν-frames δ-frames b-frames o-frames n-frames frames p q))
-  goes-step-s ν-frames δ-frames b-frames o-frames n-frames frames p q p-good q-good ok' = qed 𝓛 (‵ (flft (ν-frames ∷ []) full_share) ∷ ‵ ((ShrSlice (named 0) (ν-frames ∷ []) R-Frame).own_val (at-list b-frames o-frames δ-frames frames) (slice_val (b-frames, o-frames) n-frames ∷ [])) ∷ []) ∵ says ! ok' $ nothing ! $ move ! (1 ∷ 0 ∷ []) $ group ! 2 $ frame ! $
+  pub goes-step-s : (ν-frames : ℕ) (δ-frames : GName) (b-frames o-frames n-frames : ℕ) (frames : List Frame) (p : ℕ) (q : ℕ) → (p-good : p < 2 ^ 32) (q-good : q < 2 ^ 32) (ok' : EndsIn frames p q × (length frames ≤ max_places) × ((frame_at frames q).outstanding ≢ 1)) → ent 𝓤 (⋆ 𝓛 (‵ (flft (ν-frames ∷ []) full_share) ∷ ‵ ((ShrSlice (named 0) (ν-frames ∷ []) R-Frame).own_val (at_list b-frames o-frames δ-frames frames) (slice_val (b-frames, o-frames) n-frames ∷ [])) ∷ [])) (Asked.pre (to-step-s ν-frames δ-frames b-frames o-frames n-frames frames p q))
+  goes-step-s ν-frames δ-frames b-frames o-frames n-frames frames p q p-good q-good ok' = qed 𝓛 (‵ (flft (ν-frames ∷ []) full_share) ∷ ‵ ((ShrSlice (named 0) (ν-frames ∷ []) R-Frame).own_val (at_list b-frames o-frames δ-frames frames) (slice_val (b-frames, o-frames) n-frames ∷ [])) ∷ []) ∵ says ! ok' $ nothing ! $ move ! (1 ∷ 0 ∷ []) $ group ! 2 $ frame ! $
       nothing ! $ owned ! u32 (Is u32) (uint_Makes 𝓛 w32) q _ (refl, q-good) $ fjoin ! $ owned ! u32 (Is u32) (uint_Makes 𝓛 w32) p _ (refl, p-good) $ fjoin ! $ move ! (1 ∷ 0 ∷ []) $ fjoin ! $ done !
 
 module _ {M : Type 1} {𝓤 : Ura M} {𝓛 : Logic 𝓤} {K : Type 0} (mem : Memory → SProp 𝓤) (run : Routine → Fun 𝓤)
     {Γ : List (Item 𝓤)} {E : Env 𝓤 𝓛.H} {C : Calls 𝓤 𝓛.H} {Λ : Loops 𝓤 𝓛.H} {post' : Post 𝓤 𝓛.H} {dest' : Place} {name' : Name} {opds' : List Operand} {rest' : Body} where
   open 𝓛 use {H}
 
-  pub step-s : K → FmC 𝓤 H 𝓛.laws C → Triple 𝓤 (C name') (Asked 𝓛 mem run) → {κ-frames : Lft} {q-frames : Share} {γ-frames : GName} → (b-frames o-frames n-frames : ℕ) (frames : List Frame) (p : ℕ) (q : ℕ) → (p-good : p < 2 ^ 32) → (q-good : q < 2 ^ 32) → EndsIn frames p q × (length frames ≤ maxPlaces) × ((frameAt frames q).outstanding ≢ 1) → length frames ≡ n-frames → Room R-Frame n-frames →
+  pub step-s : K → FmC 𝓤 H 𝓛.laws C → Triple 𝓤 (C name') (Asked 𝓛 mem run) → {κ-frames : Lft} {q-frames : Share} {γ-frames : GName} → (b-frames o-frames n-frames : ℕ) (frames : List Frame) (p : ℕ) (q : ℕ) → (p-good : p < 2 ^ 32) → (q-good : q < 2 ^ 32) → EndsIn frames p q × (length frames ≤ max_places) × ((frame_at frames q).outstanding ≢ 1) → length frames ≡ n-frames → Room R-Frame n-frames →
       ((ν-frames : ℕ) (δ-frames : GName) → Opds K 𝓛 (raw ((Asked 𝓛 mem run).pre (to-step-s 𝓛 mem run ν-frames δ-frames b-frames o-frames n-frames frames p q)) ∷ ‵ (Shown R-Frame κ-frames (ν-frames ∷ []) q-frames γ-frames b-frames o-frames frames) ∷ Γ) E opds' (slice_val (b-frames, o-frames) n-frames ∷ vint w32 p ∷ vint w32 q ∷ [])) →
-      ((res' : ℕ) → res' < 2 ^ 32 → res' ≡ nextAfter frames p → Seq K 𝓛 (‵ (Mine R-Frame κ-frames q-frames γ-frames b-frames o-frames n-frames frames) ∷ Γ) (lands C Λ E dest' (vint w32 res') rest' post')) →
+      ((res' : ℕ) → res' < 2 ^ 32 → res' ≡ next_after frames p → Seq K 𝓛 (‵ (Mine R-Frame κ-frames q-frames γ-frames b-frames o-frames n-frames frames) ∷ Γ) (lands C Λ E dest' (vint w32 res') rest' post')) →
       Seq K 𝓛 (‵ (Mine R-Frame κ-frames q-frames γ-frames b-frames o-frames n-frames frames) ∷ Γ) (runs C Λ E (seq (call name' opds' dest') rest') post')
   step-s t' fm' known' {κ-frames} {q-frames} {γ-frames} b-frames o-frames n-frames frames p q p-good q-good ok' len-frames room-frames os' k' =
       show t' tt R-Frame b-frames o-frames n-frames frames len-frames (λ ν-frames δ-frames.
       move t' (0 ∷ 1 ∷ []) $ group t' 2 $ use1 𝓛 (raw ((Asked 𝓛 mem run).pre (to-step-s 𝓛 mem run ν-frames δ-frames b-frames o-frames n-frames frames p q))) (goes-step-s 𝓛 mem run ν-frames δ-frames b-frames o-frames n-frames frames p q p-good q-good ok') $
       calls_at t' fm' (Asked 𝓛 mem run) known' (to-step-s 𝓛 mem run ν-frames δ-frames b-frames o-frames n-frames frames p q) (os' ν-frames δ-frames) (λ w'.
-      use1 𝓛 (later (some (λ (res' : ℕ). ((‵ (flft (ν-frames ∷ []) full_share) ⊛ ‵ ftrue) ⊛ ‵ (u32.own_val res' (w' ∷ []))) ⊛ raw (ensured 𝓛 callee'.ended (callee'.clauses 𝓛 mem run) ((ν-frames ∷ []), tt) (at-list b-frames o-frames δ-frames frames, (p, (q, tt))) tt res')))) (id⊢ 𝓤 _) $ await t' tt $ pick t' (λ res'. split t' $ move t' (1 ∷ []) $
-      use1 𝓛 (some (λ (zs' : Unit {0} × (Unit {0} × (Unit {0} × Unit {0}))). ‵ (lasts callee'.ended ((ν-frames ∷ []), tt) (at-list b-frames o-frames δ-frames frames, (p, (q, tt))) zs') ⊛ raw (fact 𝓤 (res' ≡ nextAfter frames p)))) (id⊢ 𝓤 _) $ pick t' (λ zs'. split t' $ move t' (1 ∷ []) $ heard t' (res' ≡ nextAfter frames p) (λ e'.
+      use1 𝓛 (later (some (λ (res' : ℕ). ((‵ (flft (ν-frames ∷ []) full_share) ⊛ ‵ ftrue) ⊛ ‵ (u32.own_val res' (w' ∷ []))) ⊛ raw (ensured 𝓛 callee'.ended (callee'.clauses 𝓛 mem run) ((ν-frames ∷ []), tt) (at_list b-frames o-frames δ-frames frames, (p, (q, tt))) tt res')))) (id⊢ 𝓤 _) $ await t' tt $ pick t' (λ res'. split t' $ move t' (1 ∷ []) $
+      use1 𝓛 (some (λ (zs' : Unit {0} × (Unit {0} × (Unit {0} × Unit {0}))). ‵ (lasts callee'.ended ((ν-frames ∷ []), tt) (at_list b-frames o-frames δ-frames frames, (p, (q, tt))) zs') ⊛ raw (fact 𝓤 (res' ≡ next_after frames p)))) (id⊢ 𝓤 _) $ pick t' (λ zs'. split t' $ move t' (1 ∷ []) $ heard t' (res' ≡ next_after frames p) (λ e'.
       fsplit t' $ drop t' $ fsplit t' $ drop t' $ fsplit t' $ drop t' $ drop t' $
       move t' (0 ∷ []) $ split t' $ move t' (1 ∷ []) $ peeks t' u32 (Is u32) (shows 𝓛 u32) res' (w' ∷ []) (λ is'. drop t' $ split t' $ move t' (1 ∷ []) $ drop t' $
       move t' (0 ∷ 1 ∷ []) $ back t' tt R-Frame b-frames o-frames n-frames frames len-frames room-frames $

@@ -33,8 +33,8 @@ use denote.Triple.Call.{calls_at, calls_at_last}
 use denote.Triple.Clauses.{ensured, lasts}
 use denote.Triple.Walked.{says}
 use Prim.Native.Nat.{◌-◌, ◌≤◌}
-use Rattle.frames.specs.Widths.{maxPlaces}
-use Rattle.frames.proofs.Lent.{at-list, Mine, Yours, Lent, Shown, lend, home, show, back, give}
+use Rattle.frames.specs.Widths.{max_places}
+use Rattle.frames.proofs.Lent.{at_list, Mine, Yours, Lent, Shown, lend, home, show, back, give}
 use Rattle.frames.specs.contracts.start.others as callee'
 
 module _ {M : Type 1} {𝓤 : Ura M} (𝓛 : Logic 𝓤) (mem : Memory → SProp 𝓤) (run : Routine → Fun 𝓤) where
@@ -44,7 +44,7 @@ module _ {M : Type 1} {𝓤 : Ura M} (𝓛 : Logic 𝓤) (mem : Memory → SProp
   abbrev pub to_step : (places : ℕ) → Asked.Ghost
   to_step places = ((tt, tt, tt, (places, tt), (vint w64 places ∷ [], tt)), tt)
 
-  pub goes_step : (places : ℕ) → (places-good : places < 2 ^ 64) (ok' : (0 < places) × (places ≤ maxPlaces)) → ent 𝓤 (⋆ 𝓛 (‵ ftrue ∷ [])) (Asked.pre (to_step places))
+  pub goes_step : (places : ℕ) → (places-good : places < 2 ^ 64) (ok' : (0 < places) × (places ≤ max_places)) → ent 𝓤 (⋆ 𝓛 (‵ ftrue ∷ [])) (Asked.pre (to_step places))
   goes_step places places-good ok' = qed 𝓛 (‵ ftrue ∷ []) ∵ says ! ok' $ frame ! $
       nothing ! $ owned ! usize (Is usize) (uint_Makes 𝓛 w64) places _ (refl, places-good) $ fjoin ! $ done !
 
@@ -52,7 +52,7 @@ module _ {M : Type 1} {𝓤 : Ura M} {𝓛 : Logic 𝓤} {K : Type 0} (mem : Mem
     {Γ : List (Item 𝓤)} {E : Env 𝓤 𝓛.H} {C : Calls 𝓤 𝓛.H} {Λ : Loops 𝓤 𝓛.H} {post' : Post 𝓤 𝓛.H} {dest' : Place} {name' : Name} {opds' : List Operand} {rest' : Body} where
   open 𝓛 use {H}
 
-  pub step : K → FmC 𝓤 H 𝓛.laws C → Triple 𝓤 (C name') (Asked 𝓛 mem run) → (places : ℕ) → (places-good : places < 2 ^ 64) → (0 < places) × (places ≤ maxPlaces) →
+  pub step : K → FmC 𝓤 H 𝓛.laws C → Triple 𝓤 (C name') (Asked 𝓛 mem run) → (places : ℕ) → (places-good : places < 2 ^ 64) → (0 < places) × (places ≤ max_places) →
       (Opds K 𝓛 (raw ((Asked 𝓛 mem run).pre (to_step 𝓛 mem run places)) ∷ Γ) E opds' (vint w64 places ∷ [])) →
       ((res' : ℕ) → res' < 2 ^ 32 → res' ≡ places - 1 → Seq K 𝓛 (Γ) (lands C Λ E dest' (vint w32 res') rest' post')) →
       Seq K 𝓛 (Γ) (runs C Λ E (seq (call name' opds' dest') rest') post')

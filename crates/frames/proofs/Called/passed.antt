@@ -36,7 +36,7 @@ use Rattle.frames.specs.declared.Synced.TheVariants.{Passed}
 use Rattle.frames.specs.contracts.Synced as M-Synced
 use Rattle.frames.proofs.Synced.TheLaws as L-Synced
 use Rattle.frames.specs.declared.Synced.{Synced}
-use Rattle.frames.proofs.Lent.{at-list, Mine, Yours, Lent, Shown, lend, home, show, back, give}
+use Rattle.frames.proofs.Lent.{at_list, Mine, Yours, Lent, Shown, lend, home, show, back, give}
 use Rattle.frames.specs.contracts.steps.passed as callee'
 
 abbrev R-Synced : RattleType

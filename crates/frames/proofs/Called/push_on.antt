@@ -32,9 +32,9 @@ use denote.Triple.Statement.{Contract, Triple}
 use denote.Triple.Call.{calls_at, calls_at_last}
 use denote.Triple.Clauses.{ensured, lasts}
 use denote.Triple.Walked.{says}
-use Rattle.frames.specs.Widths.{maxWorkers, dequePlaces, dequeWords}
+use Rattle.frames.specs.Widths.{max_workers, deque_places, deque_words}
 use Rattle.frames.specs.Deques.{size, push}
-use Rattle.frames.proofs.Lent.{at-list, Mine, Yours, Lent, Shown, lend, home, show, back, give}
+use Rattle.frames.proofs.Lent.{at_list, Mine, Yours, Lent, Shown, lend, home, show, back, give}
 use Rattle.frames.specs.contracts.deques.push_on as callee'
 
 module _ {M : Type 1} {𝓤 : Ura M} (𝓛 : Logic 𝓤) (mem : Memory → SProp 𝓤) (run : Routine → Fun 𝓤) where
@@ -42,17 +42,17 @@ module _ {M : Type 1} {𝓤 : Ura M} (𝓛 : Logic 𝓤) (mem : Memory → SProp
   Asked = triple_of 𝓛 callee'.signature (callee'.spec 𝓛 mem run)
 
   abbrev pub to_step : (ν-deques : ℕ) (δ-deques : GName) (b-deques o-deques n-deques : ℕ) (deques : List ℕ) (w : ℕ) (n : ℕ) (p : ℕ) → Asked.Ghost
-  to_step ν-deques δ-deques b-deques o-deques n-deques deques w n p = ((((ν-deques ∷ []), tt), (full_share, tt), tt, (at-list b-deques o-deques δ-deques deques, (w, (n, (p, tt)))), (slice_val (b-deques, o-deques) n-deques ∷ [], (vint w32 w ∷ [], (vint w32 n ∷ [], (vint w32 p ∷ [], tt))))), tt)
+  to_step ν-deques δ-deques b-deques o-deques n-deques deques w n p = ((((ν-deques ∷ []), tt), (full_share, tt), tt, (at_list b-deques o-deques δ-deques deques, (w, (n, (p, tt)))), (slice_val (b-deques, o-deques) n-deques ∷ [], (vint w32 w ∷ [], (vint w32 n ∷ [], (vint w32 p ∷ [], tt))))), tt)
 
-  pub goes_step : (ν-deques : ℕ) (δ-deques : GName) (b-deques o-deques n-deques : ℕ) (deques : List ℕ) (w : ℕ) (n : ℕ) (p : ℕ) → (w-good : w < 2 ^ 32) (n-good : n < 2 ^ 32) (p-good : p < 2 ^ 32) (ok' : (length deques ≡ dequeWords) × (w < maxWorkers) × (n ≡ size deques w) × (n < dequePlaces)) → ent 𝓤 (⋆ 𝓛 (‵ (flft (ν-deques ∷ []) full_share) ∷ ‵ ((MutSlice (named 0) (ν-deques ∷ []) u32).own_val (at-list b-deques o-deques δ-deques deques) (slice_val (b-deques, o-deques) n-deques ∷ [])) ∷ [])) (Asked.pre (to_step ν-deques δ-deques b-deques o-deques n-deques deques w n p))
-  goes_step ν-deques δ-deques b-deques o-deques n-deques deques w n p w-good n-good p-good ok' = qed 𝓛 (‵ (flft (ν-deques ∷ []) full_share) ∷ ‵ ((MutSlice (named 0) (ν-deques ∷ []) u32).own_val (at-list b-deques o-deques δ-deques deques) (slice_val (b-deques, o-deques) n-deques ∷ [])) ∷ []) ∵ says ! ok' $ nothing ! $ move ! (1 ∷ 0 ∷ []) $ group ! 2 $ frame ! $
+  pub goes_step : (ν-deques : ℕ) (δ-deques : GName) (b-deques o-deques n-deques : ℕ) (deques : List ℕ) (w : ℕ) (n : ℕ) (p : ℕ) → (w-good : w < 2 ^ 32) (n-good : n < 2 ^ 32) (p-good : p < 2 ^ 32) (ok' : (length deques ≡ deque_words) × (w < max_workers) × (n ≡ size deques w) × (n < deque_places)) → ent 𝓤 (⋆ 𝓛 (‵ (flft (ν-deques ∷ []) full_share) ∷ ‵ ((MutSlice (named 0) (ν-deques ∷ []) u32).own_val (at_list b-deques o-deques δ-deques deques) (slice_val (b-deques, o-deques) n-deques ∷ [])) ∷ [])) (Asked.pre (to_step ν-deques δ-deques b-deques o-deques n-deques deques w n p))
+  goes_step ν-deques δ-deques b-deques o-deques n-deques deques w n p w-good n-good p-good ok' = qed 𝓛 (‵ (flft (ν-deques ∷ []) full_share) ∷ ‵ ((MutSlice (named 0) (ν-deques ∷ []) u32).own_val (at_list b-deques o-deques δ-deques deques) (slice_val (b-deques, o-deques) n-deques ∷ [])) ∷ []) ∵ says ! ok' $ nothing ! $ move ! (1 ∷ 0 ∷ []) $ group ! 2 $ frame ! $
       nothing ! $ owned ! u32 (Is u32) (uint_Makes 𝓛 w32) p _ (refl, p-good) $ fjoin ! $ owned ! u32 (Is u32) (uint_Makes 𝓛 w32) n _ (refl, n-good) $ fjoin ! $ owned ! u32 (Is u32) (uint_Makes 𝓛 w32) w _ (refl, w-good) $ fjoin ! $ move ! (1 ∷ 0 ∷ []) $ fjoin ! $ done !
 
 module _ {M : Type 1} {𝓤 : Ura M} {𝓛 : Logic 𝓤} {K : Type 0} (mem : Memory → SProp 𝓤) (run : Routine → Fun 𝓤)
     {Γ : List (Item 𝓤)} {E : Env 𝓤 𝓛.H} {C : Calls 𝓤 𝓛.H} {Λ : Loops 𝓤 𝓛.H} {post' : Post 𝓤 𝓛.H} {dest' : Place} {name' : Name} {opds' : List Operand} {rest' : Body} where
   open 𝓛 use {H}
 
-  pub step : K → FmC 𝓤 H 𝓛.laws C → Triple 𝓤 (C name') (Asked 𝓛 mem run) → {κ-deques : Lft} {q-deques : Share} {γ-deques : GName} → (b-deques o-deques n-deques : ℕ) (deques : List ℕ) (w : ℕ) (n : ℕ) (p : ℕ) → (w-good : w < 2 ^ 32) → (n-good : n < 2 ^ 32) → (p-good : p < 2 ^ 32) → (length deques ≡ dequeWords) × (w < maxWorkers) × (n ≡ size deques w) × (n < dequePlaces) → length deques ≡ n-deques → Room u32 n-deques →
+  pub step : K → FmC 𝓤 H 𝓛.laws C → Triple 𝓤 (C name') (Asked 𝓛 mem run) → {κ-deques : Lft} {q-deques : Share} {γ-deques : GName} → (b-deques o-deques n-deques : ℕ) (deques : List ℕ) (w : ℕ) (n : ℕ) (p : ℕ) → (w-good : w < 2 ^ 32) → (n-good : n < 2 ^ 32) → (p-good : p < 2 ^ 32) → (length deques ≡ deque_words) × (w < max_workers) × (n ≡ size deques w) × (n < deque_places) → length deques ≡ n-deques → Room u32 n-deques →
       ((ν-deques : ℕ) (δ-deques : GName) → Opds K 𝓛 (raw ((Asked 𝓛 mem run).pre (to_step 𝓛 mem run ν-deques δ-deques b-deques o-deques n-deques deques w n p)) ∷ ‵ (Lent u32 κ-deques (ν-deques ∷ []) q-deques γ-deques b-deques o-deques δ-deques deques) ∷ Γ) E opds' (slice_val (b-deques, o-deques) n-deques ∷ vint w32 w ∷ vint w32 n ∷ vint w32 p ∷ [])) →
       ((zs-deques : List ℕ) → zs-deques ≡ push deques w p → length zs-deques ≡ length deques → Seq K 𝓛 (‵ (Mine u32 κ-deques q-deques γ-deques b-deques o-deques n-deques zs-deques) ∷ Γ) (lands C Λ E dest' (vunit) rest' post')) →
       Seq K 𝓛 (‵ (Mine u32 κ-deques q-deques γ-deques b-deques o-deques n-deques deques) ∷ Γ) (runs C Λ E (seq (call name' opds' dest') rest') post')
@@ -60,8 +60,8 @@ module _ {M : Type 1} {𝓤 : Ura M} {𝓛 : Logic 𝓤} {K : Type 0} (mem : Mem
       lend t' tt u32 b-deques o-deques n-deques deques len-deques (λ ν-deques δ-deques.
       move t' (0 ∷ 1 ∷ []) $ group t' 2 $ use1 𝓛 (raw ((Asked 𝓛 mem run).pre (to_step 𝓛 mem run ν-deques δ-deques b-deques o-deques n-deques deques w n p))) (goes_step 𝓛 mem run ν-deques δ-deques b-deques o-deques n-deques deques w n p w-good n-good p-good ok') $
       calls_at t' fm' (Asked 𝓛 mem run) known' (to_step 𝓛 mem run ν-deques δ-deques b-deques o-deques n-deques deques w n p) (os' ν-deques δ-deques) (λ w'.
-      use1 𝓛 (later (some (λ (res' : Unit {0}). ((‵ (flft (ν-deques ∷ []) full_share) ⊛ ‵ ftrue) ⊛ ‵ (unit.own_val res' (w' ∷ []))) ⊛ raw (ensured 𝓛 callee'.ended (callee'.clauses 𝓛 mem run) ((ν-deques ∷ []), tt) (at-list b-deques o-deques δ-deques deques, (w, (n, (p, tt)))) tt res')))) (id⊢ 𝓤 _) $ await t' tt $ pick t' (λ res'. split t' $ move t' (1 ∷ []) $
-      use1 𝓛 (some (λ (zs' : List ℕ × (Unit {0} × (Unit {0} × (Unit {0} × Unit {0})))). ‵ (lasts callee'.ended ((ν-deques ∷ []), tt) (at-list b-deques o-deques δ-deques deques, (w, (n, (p, tt)))) zs') ⊛ raw (fact 𝓤 (zs'.0 ≡ push deques w p)))) (id⊢ 𝓤 _) $ pick t' (λ zs'. split t' $ move t' (1 ∷ []) $ heard t' (zs'.0 ≡ push deques w p) (λ e'.
+      use1 𝓛 (later (some (λ (res' : Unit {0}). ((‵ (flft (ν-deques ∷ []) full_share) ⊛ ‵ ftrue) ⊛ ‵ (unit.own_val res' (w' ∷ []))) ⊛ raw (ensured 𝓛 callee'.ended (callee'.clauses 𝓛 mem run) ((ν-deques ∷ []), tt) (at_list b-deques o-deques δ-deques deques, (w, (n, (p, tt)))) tt res')))) (id⊢ 𝓤 _) $ await t' tt $ pick t' (λ res'. split t' $ move t' (1 ∷ []) $
+      use1 𝓛 (some (λ (zs' : List ℕ × (Unit {0} × (Unit {0} × (Unit {0} × Unit {0})))). ‵ (lasts callee'.ended ((ν-deques ∷ []), tt) (at_list b-deques o-deques δ-deques deques, (w, (n, (p, tt)))) zs') ⊛ raw (fact 𝓤 (zs'.0 ≡ push deques w p)))) (id⊢ 𝓤 _) $ pick t' (λ zs'. split t' $ move t' (1 ∷ []) $ heard t' (zs'.0 ≡ push deques w p) (λ e'.
       fsplit t' $ fsplit t' $ move t' (1 ∷ []) $ feq_l t' (λ same-deques. move t' (1 ∷ []) $ fsplit t' $ drop t' $ fsplit t' $ drop t' $ fsplit t' $ drop t' $ drop t' $
       move t' (1 ∷ []) $ split t' $ move t' (1 ∷ []) $ peeks t' unit (Is unit) (shows 𝓛 unit) res' (w' ∷ []) (λ is'. drop t' $ split t' $ move t' (1 ∷ []) $ drop t' $
       move t' (0 ∷ 2 ∷ 1 ∷ []) $ home t' tt u32 b-deques o-deques n-deques deques zs'.0 len-deques room-deques same-deques $

@@ -4,18 +4,18 @@ use Rattle.std.proofs.Common.{sym, ap, ◌∙◌, subst, arith}
 use Rattle.std.proofs.Math.Decide.{ℕ_discrete}
 use Rattle.words.specs.Basics.{none, count, Chain}
 use Rattle.words.specs.Counting.{hit, miss}
-use Rattle.words.specs.Chains.{chain-cong}
-use Rattle.words.specs.Linked.{without, count-without-same, count-without-other, count-end-same, count-end-other, chain-moved, chain-end, chain-without}
+use Rattle.words.specs.Chains.{chain_cong}
+use Rattle.words.specs.Linked.{without, count-without-same, count-without_other, count_end_same, count_end_other, chain_moved, chain_end, chain_without}
 use Rattle.frames.specs.declared.Frame.{Frame}
-use Rattle.frames.specs.Siblings.{head_or, liveChild, younger, Children}
-use Rattle.frames.specs.Theory.Siblings.{chain_first, children-in, children-lacks}
+use Rattle.frames.specs.Siblings.{head_or, live_child, younger, Children}
+use Rattle.frames.specs.Theory.Siblings.{chain_first, children_in, children-lacks}
 
-pub children-same : {fs gs : List Frame} {q : ℕ} {cs : List ℕ} → length gs ≡ length fs → ((c : ℕ) → c < length fs → (liveChild gs q c ≡ liveChild fs q c) × (liveChild fs q c ≡ true → younger gs c ≡ younger fs c)) → Children fs q cs → Children gs q cs
+pub children-same : {fs gs : List Frame} {q : ℕ} {cs : List ℕ} → length gs ≡ length fs → ((c : ℕ) → c < length fs → (live_child gs q c ≡ live_child fs q c) × (live_child fs q c ≡ true → younger gs c ≡ younger fs c)) → Children fs q cs → Children gs q cs
 children-same {fs} {gs} {q} {cs} l h s = record {
   few = omega (arith, l, s.few);
   chain =
       subst (λ (n : ℕ). Chain (younger gs) n (head_or none cs) cs) (sym l)
-      (chain-cong (length fs) (younger fs) (younger gs) cs (head_or none cs) (λ c b o. (h c b).1 (children-in s c o).1) s.chain);
+      (chain_cong (length fs) (younger fs) (younger gs) cs (head_or none cs) (λ c b o. (h c b).1 (children_in s c o).1) s.chain);
   each = λ c b. let d : c < length fs = omega (arith, l, b) in s.each c d ∙ ap (λ t. cond t 1 0) (sym (h c d).0);
 }
 
@@ -23,16 +23,16 @@ children-same {fs} {gs} {q} {cs} l h s = record {
 pub record ChildAdded (fs gs : List Frame) (q g : ℕ) : Type 0 where
   pub same_length : length gs ≡ length fs
   pub within : g < length fs
-  pub new : liveChild fs q g ≡ false
-  pub child : liveChild gs q g ≡ true
+  pub new : live_child fs q g ≡ false
+  pub child : live_child gs q g ≡ true
   pub last : younger gs g ≡ none
-  pub others : (c : ℕ) → c < length fs → c ≢ g → liveChild gs q c ≡ liveChild fs q c
-  pub links : (c : ℕ) → c < length fs → c ≢ g → liveChild fs q c ≡ true → younger gs c ≡ cond (eqb (younger fs c) none) g (younger fs c)
+  pub others : (c : ℕ) → c < length fs → c ≢ g → live_child gs q c ≡ live_child fs q c
+  pub links : (c : ℕ) → c < length fs → c ≢ g → live_child fs q c ≡ true → younger gs c ≡ cond (eqb (younger fs c) none) g (younger fs c)
 
-pub children-more : {fs gs : List Frame} {q g : ℕ} {cs : List ℕ} → ChildAdded fs gs q g → Children fs q cs → Children gs q (cs ++ (g ∷ []))
-children-more {fs} {gs} {q} {g} {cs} a s = record {
+pub children_more : {fs gs : List Frame} {q g : ℕ} {cs : List ℕ} → ChildAdded fs gs q g → Children fs q cs → Children gs q (cs ++ (g ∷ []))
+children_more {fs} {gs} {q} {g} {cs} a s = record {
   few = omega (arith, a.same_length, s.few);
-  chain = subst (λ (n : ℕ). Chain (younger gs) n (head_or none (cs ++ (g ∷ []))) (cs ++ (g ∷ []))) (sym a.same_length) (chain-moved (younger gs) (length fs) (cs ++ (g ∷ [])) (chain_first (younger gs) (length fs) start (cs ++ (g ∷ [])) ch) ch);
+  chain = subst (λ (n : ℕ). Chain (younger gs) n (head_or none (cs ++ (g ∷ []))) (cs ++ (g ∷ []))) (sym a.same_length) (chain_moved (younger gs) (length fs) (cs ++ (g ∷ [])) (chain_first (younger gs) (length fs) start (cs ++ (g ∷ [])) ch) ch);
   each = λ c b. each c (omega (arith, a.same_length, b));
 }
   where
@@ -40,29 +40,29 @@ children-more {fs} {gs} {q} {g} {cs} a s = record {
     start = cond (eqb (head_or none cs) none) g (head_or none cs)
 
     named : (c : ℕ) → c < length fs → 0 < count c cs → younger gs c ≡ cond (eqb (younger fs c) none) g (younger fs c)
-    named c b o = a.links c b (λ e. omega (arith, ap (λ x. count x cs) e, children-lacks s g a.within a.new)) (children-in s c o).1
+    named c b o = a.links c b (λ e. omega (arith, ap (λ x. count x cs) e, children-lacks s g a.within a.new)) (children_in s c o).1
 
     ch : Chain (younger gs) (length fs) start (cs ++ (g ∷ []))
-    ch = chain-end (younger fs) (younger gs) (length fs) (omega (arith, s.few)) g a.within a.last (head_or none cs) cs named s.chain
+    ch = chain_end (younger fs) (younger gs) (length fs) (omega (arith, s.few)) g a.within a.last (head_or none cs) cs named s.chain
 
-    each : (c : ℕ) → c < length fs → count c (cs ++ (g ∷ [])) ≡ cond (liveChild gs q c) 1 0
+    each : (c : ℕ) → c < length fs → count c (cs ++ (g ∷ [])) ≡ cond (live_child gs q c) 1 0
     each c b = elim (ℕ_discrete c g) [
-      | yes e ↦ subst (λ x. count x (cs ++ (g ∷ [])) ≡ cond (liveChild gs q x) 1 0) (sym e) (count-end-same g cs (children-lacks s g a.within a.new) ∙ sym (hit a.child))
-      | no e ↦ count-end-other c g cs e ∙ (s.each c b ∙ ap (λ t. cond t 1 0) (sym (a.others c b e)))
+      | yes e ↦ subst (λ x. count x (cs ++ (g ∷ [])) ≡ cond (live_child gs q x) 1 0) (sym e) (count_end_same g cs (children-lacks s g a.within a.new) ∙ sym (hit a.child))
+      | no e ↦ count_end_other c g cs e ∙ (s.each c b ∙ ap (λ t. cond t 1 0) (sym (a.others c b e)))
     ]
 
 -- in gs the frame at q has one live child less than in fs, the one at p
 pub record ChildRemoved (fs gs : List Frame) (q p : ℕ) : Type 0 where
   pub same_length : length gs ≡ length fs
   pub within : p < length fs
-  pub gone : liveChild gs q p ≡ false
-  pub others : (c : ℕ) → c < length fs → c ≢ p → liveChild gs q c ≡ liveChild fs q c
-  pub links : (c : ℕ) → c < length fs → c ≢ p → liveChild fs q c ≡ true → younger gs c ≡ cond (eqb (younger fs c) p) (younger fs p) (younger fs c)
+  pub gone : live_child gs q p ≡ false
+  pub others : (c : ℕ) → c < length fs → c ≢ p → live_child gs q c ≡ live_child fs q c
+  pub links : (c : ℕ) → c < length fs → c ≢ p → live_child fs q c ≡ true → younger gs c ≡ cond (eqb (younger fs c) p) (younger fs p) (younger fs c)
 
-pub children-less : {fs gs : List Frame} {q p : ℕ} {cs : List ℕ} → ChildRemoved fs gs q p → Children fs q cs → Children gs q (without p cs)
-children-less {fs} {gs} {q} {p} {cs} a s = record {
+pub children_less : {fs gs : List Frame} {q p : ℕ} {cs : List ℕ} → ChildRemoved fs gs q p → Children fs q cs → Children gs q (without p cs)
+children_less {fs} {gs} {q} {p} {cs} a s = record {
   few = omega (arith, a.same_length, s.few);
-  chain = subst (λ (n : ℕ). Chain (younger gs) n (head_or none (without p cs)) (without p cs)) (sym a.same_length) (chain-moved (younger gs) (length fs) (without p cs) (chain_first (younger gs) (length fs) start (without p cs) ch) ch);
+  chain = subst (λ (n : ℕ). Chain (younger gs) n (head_or none (without p cs)) (without p cs)) (sym a.same_length) (chain_moved (younger gs) (length fs) (without p cs) (chain_first (younger gs) (length fs) start (without p cs) ch) ch);
   each = λ c b. each c (omega (arith, a.same_length, b));
 }
   where
@@ -70,10 +70,10 @@ children-less {fs} {gs} {q} {p} {cs} a s = record {
     start = cond (eqb (head_or none cs) p) (younger fs p) (head_or none cs)
 
     ch : Chain (younger gs) (length fs) start (without p cs)
-    ch = chain-without (younger fs) (younger gs) (length fs) (omega (arith, s.few)) p a.within (head_or none cs) cs (λ c b o d. a.links c b d (children-in s c o).1) s.chain
+    ch = chain_without (younger fs) (younger gs) (length fs) (omega (arith, s.few)) p a.within (head_or none cs) cs (λ c b o d. a.links c b d (children_in s c o).1) s.chain
 
-    each : (c : ℕ) → c < length fs → count c (without p cs) ≡ cond (liveChild gs q c) 1 0
+    each : (c : ℕ) → c < length fs → count c (without p cs) ≡ cond (live_child gs q c) 1 0
     each c b = elim (ℕ_discrete c p) [
-      | yes e ↦ subst (λ x. count x (without p cs) ≡ cond (liveChild gs q x) 1 0) (sym e) (count-without-same p cs ∙ sym (miss a.gone))
-      | no e ↦ count-without-other c p cs e ∙ (s.each c b ∙ ap (λ t. cond t 1 0) (sym (a.others c b e)))
+      | yes e ↦ subst (λ x. count x (without p cs) ≡ cond (live_child gs q x) 1 0) (sym e) (count-without-same p cs ∙ sym (miss a.gone))
+      | no e ↦ count-without_other c p cs e ∙ (s.each c b ∙ ap (λ t. cond t 1 0) (sym (a.others c b e)))
     ]

@@ -6,88 +6,88 @@ use Prim.Native.Nat.{ℕ, zero, suc, ◌+◌, ◌-◌, ◌*◌, ◌<◌}
 use Rattle.std.proofs.Common.{arith}
 use Rattle.words.specs.Basics.{none, plus}
 use Rattle.words.specs.Tests.{decided}
-use Rattle.words.specs.Below.{Words, words-set, words-zeros, plus-word, minus-word, cond-word}
+use Rattle.words.specs.Below.{Words, words-set, words-zeros, plus_word, minus_word, cond_word}
 use Rattle.reducers.specs.declared.View.{View}
-use Rattle.reducers.specs.Reducers.{joinView, foldView}
+use Rattle.reducers.specs.Reducers.{join_view, fold_view}
 use Rattle.reducers.specs.Law.{ViewWord}
-use Rattle.reducers.specs.Theory.Laws.{view-law}
+use Rattle.reducers.specs.Theory.Laws.{view_law}
 use Rattle.reducers.specs.Theory.Folds.{fold_word}
 use Rattle.frames.specs.declared.Frame.{Frame}
-use Rattle.frames.specs.Widths.{dequeStride}
-use Rattle.frames.specs.Frames.{frameAt, setFrame, withSuspended, withView, withYounger, withoutChild, asReturning, afterSpawn, childOf, freePlace, mainFrame, initPlaces, initFrames}
-use Rattle.frames.specs.Siblings.{names, relinkFrom, relink, onlyChild, nextAfter, joinAt}
-use Rattle.frames.specs.Deques.{size, setSize, place, setPlace, bottom, top, push, pop, shiftUp, dropTop, initDeques}
-use Rattle.frames.specs.Steps.{Table, acting, linkChild, addChild, withFrames, spawn, suspend, removeFrame, unlink, endFrame, resumes, goOn, steal, sync, fold}
-use Rattle.frames.specs.Theory.RecordWords.{words-outstanding, words-suspended, words-returning, words-withView, words-younger, words-childOf, words-afterSpawn, words-freePlace, words-mainFrame}
-pub use Rattle.frames.specs.Theory.RecordWords.{FrameWords, RecordWords, words-view, words-setFrame, words-root}
+use Rattle.frames.specs.Widths.{deque_stride}
+use Rattle.frames.specs.Frames.{frame_at, set_frame, with_suspended, with_view, with_younger, without_child, as_returning, after_spawn, child_of, free_record, main_frame, init_places, init_frames}
+use Rattle.frames.specs.Siblings.{names, relink_from, relink, only_child, next_after, join_at}
+use Rattle.frames.specs.Deques.{size, set_size, place, set_place, bottom, top, push, pop, shift_up, drop_top, init_deques}
+use Rattle.frames.specs.Steps.{Table, acting, link_child, add_child, with_frames, spawn, suspend, remove_frame, unlink, end_frame, resumes, go_on, steal, sync, fold}
+use Rattle.frames.specs.Theory.RecordWords.{words_outstanding, words_suspended, words_returning, words-with_view, words-younger, words-child_of, words-after_spawn, words-free_place, words-main_frame}
+pub use Rattle.frames.specs.Theory.RecordWords.{FrameWords, RecordWords, words_view, words-set_frame, words_root}
 
 -- ---- siblings, and views joined
 
-words-relinkFrom : (n : ℕ) (fs : List Frame) (q x y c : ℕ) → y < 4294967296 → RecordWords fs → RecordWords (relinkFrom n fs q x y c)
-unfolding relinkFrom
-words-relinkFrom zero fs q x y c h F = F
-words-relinkFrom (suc n) fs q x y c h F = elim (decided (names fs q x c)) [
-  | inl e ↦ rw e (words-setFrame fs c (withYounger (frameAt fs c) y) F (words-younger (frameAt fs c) (F c) y h))
-  | inr e ↦ rw e (words-relinkFrom n fs q x y (suc c) h F)
+words-relink_from : (n : ℕ) (fs : List Frame) (q x y c : ℕ) → y < 4294967296 → RecordWords fs → RecordWords (relink_from n fs q x y c)
+unfolding relink_from
+words-relink_from zero fs q x y c h F = F
+words-relink_from (suc n) fs q x y c h F = elim (decided (names fs q x c)) [
+  | inl e ↦ rw e (words-set_frame fs c (with_younger (frame_at fs c) y) F (words-younger (frame_at fs c) (F c) y h))
+  | inr e ↦ rw e (words-relink_from n fs q x y (suc c) h F)
 ]
 
 pub words-relink : (fs : List Frame) (q x y : ℕ) → y < 4294967296 → RecordWords fs → RecordWords (relink fs q x y)
-words-relink fs q x y h F = words-relinkFrom (length fs) fs q x y 0 h F
+words-relink fs q x y h F = words-relink_from (length fs) fs q x y 0 h F
 
-pub words-joinAt : (fs : List Frame) (n : ℕ) (w : View) → ViewWord w → RecordWords fs → RecordWords (joinAt fs n w)
-words-joinAt fs n w h F =
-    let f : Frame = frameAt fs n in
+pub words-join_at : (fs : List Frame) (n : ℕ) (w : View) → ViewWord w → RecordWords fs → RecordWords (join_at fs n w)
+words-join_at fs n w h F =
+    let f : Frame = frame_at fs n in
     let G : FrameWords f = F n in
-    words-setFrame fs n (withView f (joinView w f.view)) F (words-withView f G (joinView w f.view) (view-law.join-word w f.view h G.view))
+    words-set_frame fs n (with_view f (join_view w f.view)) F (words-with_view f G (join_view w f.view) (view_law.join_word w f.view h G.view))
 
 -- ---- a deque
 
 module _ (ds : List ℕ) (w : ℕ) (h : Words ds) where
   size_word : size ds w < 4294967296
   unfolding size
-  size_word = h (dequeStride * w)
+  size_word = h (deque_stride * w)
 
-  place-word : (k : ℕ) → place ds w k < 4294967296
+  place_word : (k : ℕ) → place ds w k < 4294967296
   unfolding place
-  place-word k = h (dequeStride * w + (1 + k))
+  place_word k = h (deque_stride * w + (1 + k))
 
-  pub bottom-word : bottom ds w < 4294967296
+  pub bottom_word : bottom ds w < 4294967296
   unfolding bottom
-  bottom-word = place-word (size ds w - 1)
+  bottom_word = place_word (size ds w - 1)
 
-  top-word : top ds w < 4294967296
+  top_word : top ds w < 4294967296
   unfolding top
-  top-word = place-word 0
+  top_word = place_word 0
 
-  words-setSize : (c : ℕ) → c < 4294967296 → Words (setSize ds w c)
-  unfolding setSize
-  words-setSize c p = words-set ds (dequeStride * w) c h p
+  words-set_size : (c : ℕ) → c < 4294967296 → Words (set_size ds w c)
+  unfolding set_size
+  words-set_size c p = words-set ds (deque_stride * w) c h p
 
-  words-setPlace : (k p : ℕ) → p < 4294967296 → Words (setPlace ds w k p)
-  unfolding setPlace
-  words-setPlace k p q = words-set ds (dequeStride * w + (1 + k)) p h q
+  words-set_place : (k p : ℕ) → p < 4294967296 → Words (set_place ds w k p)
+  unfolding set_place
+  words-set_place k p q = words-set ds (deque_stride * w + (1 + k)) p h q
 
 module _ (ds : List ℕ) (w : ℕ) (h : Words ds) where
   words-push : (p : ℕ) → p < 4294967296 → Words (push ds w p)
   unfolding push
-  words-push p q = words-setSize (setPlace ds w (size ds w) p) w (words-setPlace ds w h (size ds w) p q) (plus (size ds w) 1) (plus-word (size ds w) 1)
+  words-push p q = words-set_size (set_place ds w (size ds w) p) w (words-set_place ds w h (size ds w) p q) (plus (size ds w) 1) (plus_word (size ds w) 1)
 
   -- a place emptied, and the length one less
-  words-shorter : (es : List ℕ) → Words es → Words (setSize (setPlace es w (size ds w - 1) 0) w (size ds w - 1))
-  words-shorter es k = words-setSize (setPlace es w (size ds w - 1) 0) w (words-setPlace es w k (size ds w - 1) 0 (omega arith)) (size ds w - 1) (minus-word (size ds w) 1 (size_word ds w h))
+  words_shorter : (es : List ℕ) → Words es → Words (set_size (set_place es w (size ds w - 1) 0) w (size ds w - 1))
+  words_shorter es k = words-set_size (set_place es w (size ds w - 1) 0) w (words-set_place es w k (size ds w - 1) 0 (omega arith)) (size ds w - 1) (minus_word (size ds w) 1 (size_word ds w h))
 
   words-pop : Words (pop ds w)
   unfolding pop
-  words-pop = words-shorter ds h
+  words-pop = words_shorter ds h
 
-words-shiftUp : (c : ℕ) (ds : List ℕ) (w k : ℕ) → Words ds → Words (shiftUp c ds w k)
-unfolding shiftUp
-words-shiftUp zero ds w k h = h
-words-shiftUp (suc c) ds w k h = words-shiftUp c (setPlace ds w k (place ds w (plus k 1))) w (plus k 1) (words-setPlace ds w h k (place ds w (plus k 1)) (place-word ds w h (plus k 1)))
+words-shift_up : (c : ℕ) (ds : List ℕ) (w k : ℕ) → Words ds → Words (shift_up c ds w k)
+unfolding shift_up
+words-shift_up zero ds w k h = h
+words-shift_up (suc c) ds w k h = words-shift_up c (set_place ds w k (place ds w (plus k 1))) w (plus k 1) (words-set_place ds w h k (place ds w (plus k 1)) (place_word ds w h (plus k 1)))
 
-words-dropTop : (ds : List ℕ) (w : ℕ) → Words ds → Words (dropTop ds w)
-unfolding dropTop
-words-dropTop ds w h = words-shorter ds w h (shiftUp (size ds w - 1) ds w 0) (words-shiftUp (size ds w - 1) ds w 0 h)
+words-drop_top : (ds : List ℕ) (w : ℕ) → Words ds → Words (drop_top ds w)
+unfolding drop_top
+words-drop_top ds w h = words_shorter ds w h (shift_up (size ds w - 1) ds w 0) (words-shift_up (size ds w - 1) ds w 0 h)
 
 -- ---- the steps
 
@@ -100,14 +100,14 @@ module _ (t : Table) (w : ℕ) (T : TableWords t) where
   pub words-acting : FrameWords (acting t w)
   words-acting = T.frames (bottom t.deques w)
 
-  words-addChild : TableWords (addChild t w)
-  unfolding addChild
-  words-addChild =
+  words-add_child : TableWords (add_child t w)
+  unfolding add_child
+  words-add_child =
       let p : ℕ = bottom t.deques w in
-      let f : Frame = frameAt t.frames p in
+      let f : Frame = frame_at t.frames p in
       record {
         deques = words-push t.deques w T.deques t.free_place T.place;
-        frames = words-setFrame (setFrame t.frames p (afterSpawn f)) t.free_place (childOf f p) (words-setFrame t.frames p (afterSpawn f) T.frames (words-afterSpawn f words-acting)) (words-childOf f words-acting p (bottom-word t.deques w T.deques));
+        frames = words-set_frame (set_frame t.frames p (after_spawn f)) t.free_place (child_of f p) (words-set_frame t.frames p (after_spawn f) T.frames (words-after_spawn f words-acting)) (words-child_of f words-acting p (bottom_word t.deques w T.deques));
         place = (T.frames t.free_place).parent;
       }
 
@@ -115,30 +115,30 @@ module _ (t : Table) (w : ℕ) (T : TableWords t) where
   unfolding fold
   words-fold r v =
       let f : Frame = acting t w in
-      let u : View = foldView f.view r v in
+      let u : View = fold_view f.view r v in
       record {
         deques = T.deques;
-        frames = words-setFrame t.frames (bottom t.deques w) (withView f u) T.frames (words-withView f words-acting u (fold_word f.view r v words-acting.view));
+        frames = words-set_frame t.frames (bottom t.deques w) (with_view f u) T.frames (words-with_view f words-acting u (fold_word f.view r v words-acting.view));
         place = T.place;
       }
 
   -- the bottom frame leaves its deque
   words-suspend : (f : Frame) → FrameWords f → TableWords (suspend t w f)
-  words-suspend f F = record { deques = words-pop t.deques w T.deques; frames = words-setFrame t.frames (bottom t.deques w) f T.frames F; place = T.place }
+  words-suspend f F = record { deques = words-pop t.deques w T.deques; frames = words-set_frame t.frames (bottom t.deques w) f T.frames F; place = T.place }
 
-  pub words-waiting : TableWords (suspend t w (asReturning (acting t w)))
+  pub words-waiting : TableWords (suspend t w (as_returning (acting t w)))
   words-waiting =
-      let f = withSuspended (acting t w) 1 in
-      words-suspend (asReturning (acting t w)) (words-returning f (words-suspended (acting t w) words-acting 1 (omega arith)) 1 (omega arith))
+      let f = with_suspended (acting t w) 1 in
+      words-suspend (as_returning (acting t w)) (words_returning f (words_suspended (acting t w) words-acting 1 (omega arith)) 1 (omega arith))
 
-  pub words-goOn : (q : ℕ) → q < 4294967296 → TableWords (goOn t w q)
-  unfolding goOn
-  words-goOn q h =
-      let f = frameAt t.frames q in
+  pub words-go_on : (q : ℕ) → q < 4294967296 → TableWords (go_on t w q)
+  unfolding go_on
+  words-go_on q h =
+      let f = frame_at t.frames q in
       elim (decided (resumes f)) [
         | inl e ↦ rw e (record {
           deques = words-push t.deques w T.deques q h;
-          frames = words-setFrame t.frames q (withSuspended f 0) T.frames (words-suspended f (T.frames q) 0 (omega arith));
+          frames = words-set_frame t.frames q (with_suspended f 0) T.frames (words_suspended f (T.frames q) 0 (omega arith));
           place = T.place;
         })
         | inr e ↦ rw e T
@@ -149,12 +149,12 @@ module _ (t : Table) (w : ℕ) (T : TableWords t) where
   words-sync =
       elim (decided (eqb (acting t w).outstanding 0)) [
         | inl e ↦ rw e T
-        | inr e ↦ rw e (words-suspend (withSuspended (acting t w) 1) (words-suspended (acting t w) words-acting 1 (omega arith)))
+        | inr e ↦ rw e (words-suspend (with_suspended (acting t w) 1) (words_suspended (acting t w) words-acting 1 (omega arith)))
       ]
 
 -- the youngest child names the new one
-words-linkChild : (fs : List Frame) (p g : ℕ) → g < 4294967296 → RecordWords fs → RecordWords (linkChild fs p g)
-words-linkChild fs p g h F = elim (decided (eqb (frameAt fs p).outstanding 0)) [
+words-link_child : (fs : List Frame) (p g : ℕ) → g < 4294967296 → RecordWords fs → RecordWords (link_child fs p g)
+words-link_child fs p g h F = elim (decided (eqb (frame_at fs p).outstanding 0)) [
   | inl e ↦ rw e F
   | inr e ↦ rw e (words-relink fs p none g h F)
 ]
@@ -162,59 +162,59 @@ words-linkChild fs p g h F = elim (decided (eqb (frameAt fs p).outstanding 0)) [
 pub words-spawn : (t : Table) (w : ℕ) → TableWords t → TableWords (spawn t w)
 unfolding spawn
 words-spawn t w T =
-    let fs : List Frame = linkChild t.frames (bottom t.deques w) t.free_place in
-    words-addChild (withFrames t fs) w (record {
+    let fs : List Frame = link_child t.frames (bottom t.deques w) t.free_place in
+    words-add_child (with_frames t fs) w (record {
       deques = T.deques;
-      frames = words-linkChild t.frames (bottom t.deques w) t.free_place T.place T.frames;
+      frames = words-link_child t.frames (bottom t.deques w) t.free_place T.place T.frames;
       place = T.place;
     })
 
-words-removeFrame : (fs : List Frame) (free p : ℕ) → free < 4294967296 → RecordWords fs → RecordWords (removeFrame fs free p)
-unfolding removeFrame
-words-removeFrame fs free p h F =
-    let q : ℕ = (frameAt fs p).parent in
-    let g : Frame = frameAt fs q in
+words-remove_frame : (fs : List Frame) (free p : ℕ) → free < 4294967296 → RecordWords fs → RecordWords (remove_frame fs free p)
+unfolding remove_frame
+words-remove_frame fs free p h F =
+    let q : ℕ = (frame_at fs p).parent in
+    let g : Frame = frame_at fs q in
     let G : FrameWords g = F q in
-    let freed : RecordWords (setFrame fs p (freePlace free)) = words-setFrame fs p (freePlace free) F (words-freePlace free h) in
+    let freed : RecordWords (set_frame fs p (free_record free)) = words-set_frame fs p (free_record free) F (words-free_place free h) in
     elim (decided (eqb q none)) [
       | inl e ↦ rw e freed
-      | inr e ↦ rw e (words-setFrame (setFrame fs p (freePlace free)) q (withoutChild g) freed (words-outstanding g G (g.outstanding - 1) (minus-word g.outstanding 1 G.outstanding)))
+      | inr e ↦ rw e (words-set_frame (set_frame fs p (free_record free)) q (without_child g) freed (words_outstanding g G (g.outstanding - 1) (minus_word g.outstanding 1 G.outstanding)))
     ]
 
 words-unlink : (fs : List Frame) (p : ℕ) (gs : List Frame) → RecordWords fs → RecordWords gs → RecordWords (unlink fs p gs)
-words-unlink fs p gs F G = elim (decided (onlyChild fs p)) [
+words-unlink fs p gs F G = elim (decided (only_child fs p)) [
   | inl e ↦ rw e G
-  | inr e ↦ rw e (words-relink gs (frameAt fs p).parent p (frameAt fs p).younger (F p).younger G)
+  | inr e ↦ rw e (words-relink gs (frame_at fs p).parent p (frame_at fs p).younger (F p).younger G)
 ]
 
-pub words-endFrame : (fs : List Frame) (free p : ℕ) → free < 4294967296 → RecordWords fs → RecordWords (endFrame fs free p)
-unfolding endFrame
-words-endFrame fs free p h F =
-    let gs : List Frame = removeFrame fs free p in
-    let G : RecordWords gs = words-removeFrame fs free p h F in
-    elim (decided (eqb (frameAt fs p).parent none)) [
+pub words-end_frame : (fs : List Frame) (free p : ℕ) → free < 4294967296 → RecordWords fs → RecordWords (end_frame fs free p)
+unfolding end_frame
+words-end_frame fs free p h F =
+    let gs : List Frame = remove_frame fs free p in
+    let G : RecordWords gs = words-remove_frame fs free p h F in
+    elim (decided (eqb (frame_at fs p).parent none)) [
       | inl e ↦ rw e G
-      | inr e ↦ rw e (words-joinAt (unlink fs p gs) (nextAfter fs p) (frameAt fs p).view (F p).view (words-unlink fs p gs F G))
+      | inr e ↦ rw e (words-join_at (unlink fs p gs) (next_after fs p) (frame_at fs p).view (F p).view (words-unlink fs p gs F G))
     ]
 
 pub words-steal : (t : Table) (w v : ℕ) → TableWords t → TableWords (steal t w v)
 unfolding steal
 words-steal t w v T =
-    record { deques = words-push (dropTop t.deques v) w (words-dropTop t.deques v T.deques) (top t.deques v) (top-word t.deques v T.deques); frames = T.frames; place = T.place }
+    record { deques = words-push (drop_top t.deques v) w (words-drop_top t.deques v T.deques) (top t.deques v) (top_word t.deques v T.deques); frames = T.frames; place = T.place }
 
 -- ---- the start
 
-words-initPlaces : (c : ℕ) (fs : List Frame) (p : ℕ) → RecordWords fs → RecordWords (initPlaces c fs p)
-unfolding initPlaces
-words-initPlaces zero fs p h = h
-words-initPlaces (suc c) fs p h =
+words-init_places : (c : ℕ) (fs : List Frame) (p : ℕ) → RecordWords fs → RecordWords (init_places c fs p)
+unfolding init_places
+words-init_places zero fs p h = h
+words-init_places (suc c) fs p h =
     let next : ℕ = cond (eqb c 0) none (plus p 1) in
-    words-initPlaces c (setFrame fs p (freePlace next)) (plus p 1) (words-setFrame fs p (freePlace next) h (words-freePlace next (cond-word (eqb c 0) none (plus p 1) (omega arith) (plus-word p 1))))
+    words-init_places c (set_frame fs p (free_record next)) (plus p 1) (words-set_frame fs p (free_record next) h (words-free_place next (cond_word (eqb c 0) none (plus p 1) (omega arith) (plus_word p 1))))
 
-pub words-initFrames : (fs : List Frame) → RecordWords fs → RecordWords (initFrames fs)
-unfolding initFrames
-words-initFrames fs h = words-initPlaces (length fs - 1) (setFrame fs 0 (mainFrame 0)) 1 (words-setFrame fs 0 (mainFrame 0) h words-mainFrame)
+pub words-init_frames : (fs : List Frame) → RecordWords fs → RecordWords (init_frames fs)
+unfolding init_frames
+words-init_frames fs h = words-init_places (length fs - 1) (set_frame fs 0 (main_frame 0)) 1 (words-set_frame fs 0 (main_frame 0) h words-main_frame)
 
-pub words-initDeques : (n : ℕ) → Words (initDeques (replicate n 0))
-unfolding initDeques
-words-initDeques n = words-push (replicate n 0) 0 (words-zeros n) 0 (omega arith)
+pub words-init_deques : (n : ℕ) → Words (init_deques (replicate n 0))
+unfolding init_deques
+words-init_deques n = words-push (replicate n 0) 0 (words-zeros n) 0 (omega arith)

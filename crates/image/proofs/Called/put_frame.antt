@@ -32,11 +32,11 @@ use denote.Triple.Statement.{Contract, Triple}
 use denote.Triple.Call.{calls_at, calls_at_last}
 use denote.Triple.Clauses.{ensured, lasts}
 use denote.Triple.Walked.{says}
-use Rattle.frames.specs.Frames.{setFrame}
+use Rattle.frames.specs.Frames.{set_frame}
 use Rattle.frames.specs.contracts.Frame as M-Frame
 use Rattle.frames.proofs.Frame.TheLaws as L-Frame
 use Rattle.frames.specs.declared.Frame.{Frame}
-use Rattle.frames.proofs.Lent.{at-list, Mine, Yours, Lent, Shown, lend, home, show, back, give}
+use Rattle.frames.proofs.Lent.{at_list, Mine, Yours, Lent, Shown, lend, home, show, back, give}
 use Rattle.frames.specs.contracts.put_frame as callee'
 
 abbrev R-Frame : RattleType
@@ -50,10 +50,10 @@ module _ {M : Type 1} {𝓤 : Ura M} (𝓛 : Logic 𝓤) (mem : Memory → SProp
   Asked = triple_of 𝓛 callee'.signature (callee'.spec 𝓛 mem run)
 
   abbrev pub to_step : (ν-frames : ℕ) (δ-frames : GName) (b-frames o-frames n-frames : ℕ) (frames : List Frame) (p : ℕ) (f : Frame) → Asked.Ghost
-  to_step ν-frames δ-frames b-frames o-frames n-frames frames p f = ((((ν-frames ∷ []), tt), (full_share, tt), tt, (at-list b-frames o-frames δ-frames frames, (p, (f, tt))), (slice_val (b-frames, o-frames) n-frames ∷ [], (vint w32 p ∷ [], (val-Frame f ∷ [], tt)))), tt)
+  to_step ν-frames δ-frames b-frames o-frames n-frames frames p f = ((((ν-frames ∷ []), tt), (full_share, tt), tt, (at_list b-frames o-frames δ-frames frames, (p, (f, tt))), (slice_val (b-frames, o-frames) n-frames ∷ [], (vint w32 p ∷ [], (val-Frame f ∷ [], tt)))), tt)
 
-  pub goes_step : (ν-frames : ℕ) (δ-frames : GName) (b-frames o-frames n-frames : ℕ) (frames : List Frame) (p : ℕ) (f : Frame) → (p-good : p < 2 ^ 32) (f-good : Is R-Frame f (val-Frame f ∷ [])) (ok' : p < length frames) → ent 𝓤 (⋆ 𝓛 (‵ (flft (ν-frames ∷ []) full_share) ∷ ‵ ((MutSlice (named 0) (ν-frames ∷ []) R-Frame).own_val (at-list b-frames o-frames δ-frames frames) (slice_val (b-frames, o-frames) n-frames ∷ [])) ∷ [])) (Asked.pre (to_step ν-frames δ-frames b-frames o-frames n-frames frames p f))
-  goes_step ν-frames δ-frames b-frames o-frames n-frames frames p f p-good f-good ok' = qed 𝓛 (‵ (flft (ν-frames ∷ []) full_share) ∷ ‵ ((MutSlice (named 0) (ν-frames ∷ []) R-Frame).own_val (at-list b-frames o-frames δ-frames frames) (slice_val (b-frames, o-frames) n-frames ∷ [])) ∷ []) ∵ says ! ok' $ nothing ! $ move ! (1 ∷ 0 ∷ []) $ group ! 2 $ frame ! $
+  pub goes_step : (ν-frames : ℕ) (δ-frames : GName) (b-frames o-frames n-frames : ℕ) (frames : List Frame) (p : ℕ) (f : Frame) → (p-good : p < 2 ^ 32) (f-good : Is R-Frame f (val-Frame f ∷ [])) (ok' : p < length frames) → ent 𝓤 (⋆ 𝓛 (‵ (flft (ν-frames ∷ []) full_share) ∷ ‵ ((MutSlice (named 0) (ν-frames ∷ []) R-Frame).own_val (at_list b-frames o-frames δ-frames frames) (slice_val (b-frames, o-frames) n-frames ∷ [])) ∷ [])) (Asked.pre (to_step ν-frames δ-frames b-frames o-frames n-frames frames p f))
+  goes_step ν-frames δ-frames b-frames o-frames n-frames frames p f p-good f-good ok' = qed 𝓛 (‵ (flft (ν-frames ∷ []) full_share) ∷ ‵ ((MutSlice (named 0) (ν-frames ∷ []) R-Frame).own_val (at_list b-frames o-frames δ-frames frames) (slice_val (b-frames, o-frames) n-frames ∷ [])) ∷ []) ∵ says ! ok' $ nothing ! $ move ! (1 ∷ 0 ∷ []) $ group ! 2 $ frame ! $
       nothing ! $ owned ! R-Frame (Is R-Frame) (LL.makes M-Frame.the_type L-Frame.the_plain 𝓛) f _ f-good $ fjoin ! $ owned ! u32 (Is u32) (uint_Makes 𝓛 w32) p _ (refl, p-good) $ fjoin ! $ move ! (1 ∷ 0 ∷ []) $ fjoin ! $ done !
 
 module _ {M : Type 1} {𝓤 : Ura M} {𝓛 : Logic 𝓤} {K : Type 0} (mem : Memory → SProp 𝓤) (run : Routine → Fun 𝓤)
@@ -62,14 +62,14 @@ module _ {M : Type 1} {𝓤 : Ura M} {𝓛 : Logic 𝓤} {K : Type 0} (mem : Mem
 
   pub step : K → FmC 𝓤 H 𝓛.laws C → Triple 𝓤 (C name') (Asked 𝓛 mem run) → {κ-frames : Lft} {q-frames : Share} {γ-frames : GName} → (b-frames o-frames n-frames : ℕ) (frames : List Frame) (p : ℕ) (f : Frame) → (p-good : p < 2 ^ 32) → (f-good : Is R-Frame f (val-Frame f ∷ [])) → p < length frames → length frames ≡ n-frames → Room R-Frame n-frames →
       ((ν-frames : ℕ) (δ-frames : GName) → Opds K 𝓛 (raw ((Asked 𝓛 mem run).pre (to_step 𝓛 mem run ν-frames δ-frames b-frames o-frames n-frames frames p f)) ∷ ‵ (Lent R-Frame κ-frames (ν-frames ∷ []) q-frames γ-frames b-frames o-frames δ-frames frames) ∷ Γ) E opds' (slice_val (b-frames, o-frames) n-frames ∷ vint w32 p ∷ val-Frame f ∷ [])) →
-      ((zs-frames : List Frame) → zs-frames ≡ setFrame frames p f → length zs-frames ≡ length frames → Seq K 𝓛 (‵ (Mine R-Frame κ-frames q-frames γ-frames b-frames o-frames n-frames zs-frames) ∷ Γ) (lands C Λ E dest' (vunit) rest' post')) →
+      ((zs-frames : List Frame) → zs-frames ≡ set_frame frames p f → length zs-frames ≡ length frames → Seq K 𝓛 (‵ (Mine R-Frame κ-frames q-frames γ-frames b-frames o-frames n-frames zs-frames) ∷ Γ) (lands C Λ E dest' (vunit) rest' post')) →
       Seq K 𝓛 (‵ (Mine R-Frame κ-frames q-frames γ-frames b-frames o-frames n-frames frames) ∷ Γ) (runs C Λ E (seq (call name' opds' dest') rest') post')
   step t' fm' known' {κ-frames} {q-frames} {γ-frames} b-frames o-frames n-frames frames p f p-good f-good ok' len-frames room-frames os' k' =
       lend t' tt R-Frame b-frames o-frames n-frames frames len-frames (λ ν-frames δ-frames.
       move t' (0 ∷ 1 ∷ []) $ group t' 2 $ use1 𝓛 (raw ((Asked 𝓛 mem run).pre (to_step 𝓛 mem run ν-frames δ-frames b-frames o-frames n-frames frames p f))) (goes_step 𝓛 mem run ν-frames δ-frames b-frames o-frames n-frames frames p f p-good f-good ok') $
       calls_at t' fm' (Asked 𝓛 mem run) known' (to_step 𝓛 mem run ν-frames δ-frames b-frames o-frames n-frames frames p f) (os' ν-frames δ-frames) (λ w'.
-      use1 𝓛 (later (some (λ (res' : Unit {0}). ((‵ (flft (ν-frames ∷ []) full_share) ⊛ ‵ ftrue) ⊛ ‵ (unit.own_val res' (w' ∷ []))) ⊛ raw (ensured 𝓛 callee'.ended (callee'.clauses 𝓛 mem run) ((ν-frames ∷ []), tt) (at-list b-frames o-frames δ-frames frames, (p, (f, tt))) tt res')))) (id⊢ 𝓤 _) $ await t' tt $ pick t' (λ res'. split t' $ move t' (1 ∷ []) $
-      use1 𝓛 (some (λ (zs' : List Frame × (Unit {0} × (Unit {0} × Unit {0}))). ‵ (lasts callee'.ended ((ν-frames ∷ []), tt) (at-list b-frames o-frames δ-frames frames, (p, (f, tt))) zs') ⊛ raw (fact 𝓤 (zs'.0 ≡ setFrame frames p f)))) (id⊢ 𝓤 _) $ pick t' (λ zs'. split t' $ move t' (1 ∷ []) $ heard t' (zs'.0 ≡ setFrame frames p f) (λ e'.
+      use1 𝓛 (later (some (λ (res' : Unit {0}). ((‵ (flft (ν-frames ∷ []) full_share) ⊛ ‵ ftrue) ⊛ ‵ (unit.own_val res' (w' ∷ []))) ⊛ raw (ensured 𝓛 callee'.ended (callee'.clauses 𝓛 mem run) ((ν-frames ∷ []), tt) (at_list b-frames o-frames δ-frames frames, (p, (f, tt))) tt res')))) (id⊢ 𝓤 _) $ await t' tt $ pick t' (λ res'. split t' $ move t' (1 ∷ []) $
+      use1 𝓛 (some (λ (zs' : List Frame × (Unit {0} × (Unit {0} × Unit {0}))). ‵ (lasts callee'.ended ((ν-frames ∷ []), tt) (at_list b-frames o-frames δ-frames frames, (p, (f, tt))) zs') ⊛ raw (fact 𝓤 (zs'.0 ≡ set_frame frames p f)))) (id⊢ 𝓤 _) $ pick t' (λ zs'. split t' $ move t' (1 ∷ []) $ heard t' (zs'.0 ≡ set_frame frames p f) (λ e'.
       fsplit t' $ fsplit t' $ move t' (1 ∷ []) $ feq_l t' (λ same-frames. move t' (1 ∷ []) $ fsplit t' $ drop t' $ fsplit t' $ drop t' $ drop t' $
       move t' (1 ∷ []) $ split t' $ move t' (1 ∷ []) $ peeks t' unit (Is unit) (shows 𝓛 unit) res' (w' ∷ []) (λ is'. drop t' $ split t' $ move t' (1 ∷ []) $ drop t' $
       move t' (0 ∷ 2 ∷ 1 ∷ []) $ home t' tt R-Frame b-frames o-frames n-frames frames zs'.0 len-frames room-frames same-frames $

@@ -33,15 +33,15 @@ use denote.Triple.Call.{calls_at, calls_at_last}
 use denote.Triple.Clauses.{ensured, lasts}
 use denote.Triple.Walked.{says}
 use Prim.Native.Nat.{◌+◌, ◌*◌, ◌≤◌}
-use Rattle.frames.specs.Widths.{recordWords}
-use Rattle.frames.specs.Frames.{recordIn}
-use Rattle.image.specs.Widths.{blockBytes}
-use Rattle.image.specs.Image.{blocksFor}
-use Rattle.image.specs.Inner.{readWords}
+use Rattle.frames.specs.Widths.{record_words}
+use Rattle.frames.specs.Frames.{record_in}
+use Rattle.image.specs.Widths.{block_bytes}
+use Rattle.image.specs.Image.{blocks_for}
+use Rattle.image.specs.Inner.{read_words}
 use Rattle.frames.specs.contracts.Frame as M-Frame
 use Rattle.frames.proofs.Frame.TheLaws as L-Frame
 use Rattle.frames.specs.declared.Frame.{Frame}
-use Rattle.frames.proofs.Lent.{at-list, Mine, Yours, Lent, Shown, lend, home, show, back, give}
+use Rattle.frames.proofs.Lent.{at_list, Mine, Yours, Lent, Shown, lend, home, show, back, give}
 use Rattle.image.specs.contracts.records.read_record as callee'
 
 abbrev R-Frame : RattleType
@@ -55,26 +55,26 @@ module _ {M : Type 1} {𝓤 : Ura M} (𝓛 : Logic 𝓤) (mem : Memory → SProp
   Asked = triple_of 𝓛 callee'.signature (callee'.spec 𝓛 mem run)
 
   abbrev pub to-step-g : (κ-image : Lft) (q-image : Share) (γ-image : GName) (b-image o-image n-image : ℕ) (image : List ℕ) (i : ℕ) → Asked.Ghost
-  to-step-g κ-image q-image γ-image b-image o-image n-image image i = (((κ-image, tt), (q-image, tt), tt, (at-list b-image o-image γ-image image, (i, tt)), (slice_val (b-image, o-image) n-image ∷ [], (vint w64 i ∷ [], tt))), tt)
+  to-step-g κ-image q-image γ-image b-image o-image n-image image i = (((κ-image, tt), (q-image, tt), tt, (at_list b-image o-image γ-image image, (i, tt)), (slice_val (b-image, o-image) n-image ∷ [], (vint w64 i ∷ [], tt))), tt)
 
-  pub goes-step-g : (κ-image : Lft) (q-image : Share) (γ-image : GName) (b-image o-image n-image : ℕ) (image : List ℕ) (i : ℕ) → (i-good : i < 2 ^ 64) (ok' : blockBytes * blocksFor (i + recordWords) ≤ length image) → ent 𝓤 (⋆ 𝓛 (‵ (flft κ-image q-image) ∷ ‵ ((ShrSlice (named 0) κ-image u8).own_val (at-list b-image o-image γ-image image) (slice_val (b-image, o-image) n-image ∷ [])) ∷ [])) (Asked.pre (to-step-g κ-image q-image γ-image b-image o-image n-image image i))
-  goes-step-g κ-image q-image γ-image b-image o-image n-image image i i-good ok' = qed 𝓛 (‵ (flft κ-image q-image) ∷ ‵ ((ShrSlice (named 0) κ-image u8).own_val (at-list b-image o-image γ-image image) (slice_val (b-image, o-image) n-image ∷ [])) ∷ []) ∵ says ! ok' $ nothing ! $ move ! (1 ∷ 0 ∷ []) $ group ! 2 $ frame ! $
+  pub goes-step-g : (κ-image : Lft) (q-image : Share) (γ-image : GName) (b-image o-image n-image : ℕ) (image : List ℕ) (i : ℕ) → (i-good : i < 2 ^ 64) (ok' : block_bytes * blocks_for (i + record_words) ≤ length image) → ent 𝓤 (⋆ 𝓛 (‵ (flft κ-image q-image) ∷ ‵ ((ShrSlice (named 0) κ-image u8).own_val (at_list b-image o-image γ-image image) (slice_val (b-image, o-image) n-image ∷ [])) ∷ [])) (Asked.pre (to-step-g κ-image q-image γ-image b-image o-image n-image image i))
+  goes-step-g κ-image q-image γ-image b-image o-image n-image image i i-good ok' = qed 𝓛 (‵ (flft κ-image q-image) ∷ ‵ ((ShrSlice (named 0) κ-image u8).own_val (at_list b-image o-image γ-image image) (slice_val (b-image, o-image) n-image ∷ [])) ∷ []) ∵ says ! ok' $ nothing ! $ move ! (1 ∷ 0 ∷ []) $ group ! 2 $ frame ! $
       nothing ! $ owned ! usize (Is usize) (uint_Makes 𝓛 w64) i _ (refl, i-good) $ fjoin ! $ move ! (1 ∷ 0 ∷ []) $ fjoin ! $ done !
 
 module _ {M : Type 1} {𝓤 : Ura M} {𝓛 : Logic 𝓤} {K : Type 0} (mem : Memory → SProp 𝓤) (run : Routine → Fun 𝓤)
     {Γ : List (Item 𝓤)} {E : Env 𝓤 𝓛.H} {C : Calls 𝓤 𝓛.H} {Λ : Loops 𝓤 𝓛.H} {post' : Post 𝓤 𝓛.H} {dest' : Place} {name' : Name} {opds' : List Operand} {rest' : Body} where
   open 𝓛 use {H}
 
-  pub step-g : K → FmC 𝓤 H 𝓛.laws C → Triple 𝓤 (C name') (Asked 𝓛 mem run) → {κ-image : Lft} {q-image : Share} {γ-image : GName} → (b-image o-image n-image : ℕ) (image : List ℕ) (i : ℕ) → (i-good : i < 2 ^ 64) → blockBytes * blocksFor (i + recordWords) ≤ length image →
-      (Opds K 𝓛 (raw ((Asked 𝓛 mem run).pre (to-step-g 𝓛 mem run κ-image q-image γ-image b-image o-image n-image image i)) ∷ ‵ ((ShrSlice (named 0) κ-image u8).own_val (at-list b-image o-image γ-image image) (slice_val (b-image, o-image) n-image ∷ [])) ∷ Γ) E opds' (slice_val (b-image, o-image) n-image ∷ vint w64 i ∷ [])) →
-      ((res' : Frame) → Is R-Frame res' (val-Frame res' ∷ []) → res' ≡ recordIn (readWords recordWords image i) → Seq K 𝓛 (‵ (Yours u8 κ-image q-image γ-image b-image o-image n-image image) ∷ Γ) (lands C Λ E dest' (val-Frame res') rest' post')) →
+  pub step-g : K → FmC 𝓤 H 𝓛.laws C → Triple 𝓤 (C name') (Asked 𝓛 mem run) → {κ-image : Lft} {q-image : Share} {γ-image : GName} → (b-image o-image n-image : ℕ) (image : List ℕ) (i : ℕ) → (i-good : i < 2 ^ 64) → block_bytes * blocks_for (i + record_words) ≤ length image →
+      (Opds K 𝓛 (raw ((Asked 𝓛 mem run).pre (to-step-g 𝓛 mem run κ-image q-image γ-image b-image o-image n-image image i)) ∷ ‵ ((ShrSlice (named 0) κ-image u8).own_val (at_list b-image o-image γ-image image) (slice_val (b-image, o-image) n-image ∷ [])) ∷ Γ) E opds' (slice_val (b-image, o-image) n-image ∷ vint w64 i ∷ [])) →
+      ((res' : Frame) → Is R-Frame res' (val-Frame res' ∷ []) → res' ≡ record_in (read_words record_words image i) → Seq K 𝓛 (‵ (Yours u8 κ-image q-image γ-image b-image o-image n-image image) ∷ Γ) (lands C Λ E dest' (val-Frame res') rest' post')) →
       Seq K 𝓛 (‵ (Yours u8 κ-image q-image γ-image b-image o-image n-image image) ∷ Γ) (runs C Λ E (seq (call name' opds' dest') rest') post')
   step-g t' fm' known' {κ-image} {q-image} {γ-image} b-image o-image n-image image i i-good ok' os' k' =
       give t' u8 b-image o-image n-image image $
       move t' (0 ∷ 1 ∷ []) $ group t' 2 $ use1 𝓛 (raw ((Asked 𝓛 mem run).pre (to-step-g 𝓛 mem run κ-image q-image γ-image b-image o-image n-image image i))) (goes-step-g 𝓛 mem run κ-image q-image γ-image b-image o-image n-image image i i-good ok') $
       calls_at t' fm' (Asked 𝓛 mem run) known' (to-step-g 𝓛 mem run κ-image q-image γ-image b-image o-image n-image image i) (os') (λ w'.
-      use1 𝓛 (later (some (λ (res' : Frame). ((‵ (flft κ-image q-image) ⊛ ‵ ftrue) ⊛ ‵ (R-Frame.own res' (w' ∷ []))) ⊛ raw (ensured 𝓛 callee'.ended (callee'.clauses 𝓛 mem run) (κ-image, tt) (at-list b-image o-image γ-image image, (i, tt)) tt res')))) (id⊢ 𝓤 _) $ await t' tt $ pick t' (λ res'. split t' $ move t' (1 ∷ []) $
-      use1 𝓛 (some (λ (zs' : Unit {0} × (Unit {0} × Unit {0})). ‵ (lasts callee'.ended (κ-image, tt) (at-list b-image o-image γ-image image, (i, tt)) zs') ⊛ raw (fact 𝓤 (res' ≡ recordIn (readWords recordWords image i))))) (id⊢ 𝓤 _) $ pick t' (λ zs'. split t' $ move t' (1 ∷ []) $ heard t' (res' ≡ recordIn (readWords recordWords image i)) (λ e'.
+      use1 𝓛 (later (some (λ (res' : Frame). ((‵ (flft κ-image q-image) ⊛ ‵ ftrue) ⊛ ‵ (R-Frame.own res' (w' ∷ []))) ⊛ raw (ensured 𝓛 callee'.ended (callee'.clauses 𝓛 mem run) (κ-image, tt) (at_list b-image o-image γ-image image, (i, tt)) tt res')))) (id⊢ 𝓤 _) $ await t' tt $ pick t' (λ res'. split t' $ move t' (1 ∷ []) $
+      use1 𝓛 (some (λ (zs' : Unit {0} × (Unit {0} × Unit {0})). ‵ (lasts callee'.ended (κ-image, tt) (at_list b-image o-image γ-image image, (i, tt)) zs') ⊛ raw (fact 𝓤 (res' ≡ record_in (read_words record_words image i))))) (id⊢ 𝓤 _) $ pick t' (λ zs'. split t' $ move t' (1 ∷ []) $ heard t' (res' ≡ record_in (read_words record_words image i)) (λ e'.
       fsplit t' $ drop t' $ fsplit t' $ drop t' $ drop t' $
       move t' (0 ∷ []) $ split t' $ move t' (1 ∷ []) $ peeks t' R-Frame (Is R-Frame) (shows 𝓛 R-Frame) res' (w' ∷ []) (λ is'. drop t' $ split t' $ move t' (1 ∷ []) $ drop t' $
       move t' (1 ∷ 0 ∷ []) $ fjoin t' $

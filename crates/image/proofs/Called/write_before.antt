@@ -34,12 +34,12 @@ use denote.Triple.Clauses.{ensured, lasts}
 use denote.Triple.Walked.{says}
 use mathlib.Core.List.{◌++◌}
 use Prim.Native.Nat.{◌+◌, ◌*◌, ◌≤◌}
-use Rattle.frames.specs.Widths.{maxPlaces, dequeWords}
-use Rattle.soundness.specs.Numbers.{numberCount}
-use Rattle.image.specs.Widths.{blockBytes, dequesWords}
-use Rattle.image.specs.Image.{placeCount, versioned, dequesFor, blocksFor}
-use Rattle.image.specs.Inner.{putWords, sumBefore}
-use Rattle.frames.proofs.Lent.{at-list, Mine, Yours, Lent, Shown, lend, home, show, back, give}
+use Rattle.frames.specs.Widths.{max_places, deque_words}
+use Rattle.soundness.specs.Numbers.{number_count}
+use Rattle.image.specs.Widths.{block_bytes, deques_words}
+use Rattle.image.specs.Image.{place_count, versioned, deques_for, blocks_for}
+use Rattle.image.specs.Inner.{put_words, sum_before}
+use Rattle.frames.proofs.Lent.{at_list, Mine, Yours, Lent, Shown, lend, home, show, back, give}
 use Rattle.image.specs.contracts.write.write_before as callee'
 use Rattle.soundness.specs.Layout.{two_words}
 
@@ -48,26 +48,26 @@ module _ {M : Type 1} {𝓤 : Ura M} (𝓛 : Logic 𝓤) (mem : Memory → SProp
   Asked = triple_of 𝓛 callee'.signature (callee'.spec 𝓛 mem run)
 
   abbrev pub to-step-gg : (ν-target : ℕ) (δ-target : GName) (κ-numbers : Lft) (q-numbers : Share) (γ-numbers : GName) (κ-deques : Lft) (q-deques : Share) (γ-deques : GName) (b-target o-target n-target : ℕ) (target : List ℕ) (b-numbers o-numbers n-numbers : ℕ) (numbers : List ℕ) (b-deques o-deques n-deques : ℕ) (deques : List ℕ) → Asked.Ghost
-  to-step-gg ν-target δ-target κ-numbers q-numbers γ-numbers κ-deques q-deques γ-deques b-target o-target n-target target b-numbers o-numbers n-numbers numbers b-deques o-deques n-deques deques = ((((ν-target ∷ []), (κ-numbers, (κ-deques, tt))), (full_share, (q-numbers, (q-deques, tt))), tt, (at-list b-target o-target δ-target target, (at-list b-numbers o-numbers γ-numbers numbers, (at-list b-deques o-deques γ-deques deques, tt))), (slice_val (b-target, o-target) n-target ∷ [], (slice_val (b-numbers, o-numbers) n-numbers ∷ [], (slice_val (b-deques, o-deques) n-deques ∷ [], tt)))), tt)
+  to-step-gg ν-target δ-target κ-numbers q-numbers γ-numbers κ-deques q-deques γ-deques b-target o-target n-target target b-numbers o-numbers n-numbers numbers b-deques o-deques n-deques deques = ((((ν-target ∷ []), (κ-numbers, (κ-deques, tt))), (full_share, (q-numbers, (q-deques, tt))), tt, (at_list b-target o-target δ-target target, (at_list b-numbers o-numbers γ-numbers numbers, (at_list b-deques o-deques γ-deques deques, tt))), (slice_val (b-target, o-target) n-target ∷ [], (slice_val (b-numbers, o-numbers) n-numbers ∷ [], (slice_val (b-deques, o-deques) n-deques ∷ [], tt)))), tt)
 
-  pub goes-step-gg : (ν-target : ℕ) (δ-target : GName) (κ-numbers : Lft) (q-numbers : Share) (γ-numbers : GName) (κ-deques : Lft) (q-deques : Share) (γ-deques : GName) (b-target o-target n-target : ℕ) (target : List ℕ) (b-numbers o-numbers n-numbers : ℕ) (numbers : List ℕ) (b-deques o-deques n-deques : ℕ) (deques : List ℕ) → (ok' : (length numbers ≡ numberCount) × (length deques ≡ dequeWords) × (placeCount numbers ≤ maxPlaces) × (blockBytes * blocksFor (numberCount + dequesWords (placeCount numbers)) ≤ length target)) → ent 𝓤 (⋆ 𝓛 (‵ (flft (ν-target ∷ []) full_share) ∷ ‵ (flft κ-numbers q-numbers) ∷ ‵ (flft κ-deques q-deques) ∷ ‵ ((MutSlice (named 0) (ν-target ∷ []) u8).own_val (at-list b-target o-target δ-target target) (slice_val (b-target, o-target) n-target ∷ [])) ∷ ‵ ((ShrSlice (named 0) κ-numbers u32).own_val (at-list b-numbers o-numbers γ-numbers numbers) (slice_val (b-numbers, o-numbers) n-numbers ∷ [])) ∷ ‵ ((ShrSlice (named 0) κ-deques u32).own_val (at-list b-deques o-deques γ-deques deques) (slice_val (b-deques, o-deques) n-deques ∷ [])) ∷ [])) (Asked.pre (to-step-gg ν-target δ-target κ-numbers q-numbers γ-numbers κ-deques q-deques γ-deques b-target o-target n-target target b-numbers o-numbers n-numbers numbers b-deques o-deques n-deques deques))
-  goes-step-gg ν-target δ-target κ-numbers q-numbers γ-numbers κ-deques q-deques γ-deques b-target o-target n-target target b-numbers o-numbers n-numbers numbers b-deques o-deques n-deques deques ok' = qed 𝓛 (‵ (flft (ν-target ∷ []) full_share) ∷ ‵ (flft κ-numbers q-numbers) ∷ ‵ (flft κ-deques q-deques) ∷ ‵ ((MutSlice (named 0) (ν-target ∷ []) u8).own_val (at-list b-target o-target δ-target target) (slice_val (b-target, o-target) n-target ∷ [])) ∷ ‵ ((ShrSlice (named 0) κ-numbers u32).own_val (at-list b-numbers o-numbers γ-numbers numbers) (slice_val (b-numbers, o-numbers) n-numbers ∷ [])) ∷ ‵ ((ShrSlice (named 0) κ-deques u32).own_val (at-list b-deques o-deques γ-deques deques) (slice_val (b-deques, o-deques) n-deques ∷ [])) ∷ []) ∵ says ! ok' $ nothing ! $ move ! (1 ∷ 2 ∷ 3 ∷ 0 ∷ []) $ group ! 4 $ frame ! $
+  pub goes-step-gg : (ν-target : ℕ) (δ-target : GName) (κ-numbers : Lft) (q-numbers : Share) (γ-numbers : GName) (κ-deques : Lft) (q-deques : Share) (γ-deques : GName) (b-target o-target n-target : ℕ) (target : List ℕ) (b-numbers o-numbers n-numbers : ℕ) (numbers : List ℕ) (b-deques o-deques n-deques : ℕ) (deques : List ℕ) → (ok' : (length numbers ≡ number_count) × (length deques ≡ deque_words) × (place_count numbers ≤ max_places) × (block_bytes * blocks_for (number_count + deques_words (place_count numbers)) ≤ length target)) → ent 𝓤 (⋆ 𝓛 (‵ (flft (ν-target ∷ []) full_share) ∷ ‵ (flft κ-numbers q-numbers) ∷ ‵ (flft κ-deques q-deques) ∷ ‵ ((MutSlice (named 0) (ν-target ∷ []) u8).own_val (at_list b-target o-target δ-target target) (slice_val (b-target, o-target) n-target ∷ [])) ∷ ‵ ((ShrSlice (named 0) κ-numbers u32).own_val (at_list b-numbers o-numbers γ-numbers numbers) (slice_val (b-numbers, o-numbers) n-numbers ∷ [])) ∷ ‵ ((ShrSlice (named 0) κ-deques u32).own_val (at_list b-deques o-deques γ-deques deques) (slice_val (b-deques, o-deques) n-deques ∷ [])) ∷ [])) (Asked.pre (to-step-gg ν-target δ-target κ-numbers q-numbers γ-numbers κ-deques q-deques γ-deques b-target o-target n-target target b-numbers o-numbers n-numbers numbers b-deques o-deques n-deques deques))
+  goes-step-gg ν-target δ-target κ-numbers q-numbers γ-numbers κ-deques q-deques γ-deques b-target o-target n-target target b-numbers o-numbers n-numbers numbers b-deques o-deques n-deques deques ok' = qed 𝓛 (‵ (flft (ν-target ∷ []) full_share) ∷ ‵ (flft κ-numbers q-numbers) ∷ ‵ (flft κ-deques q-deques) ∷ ‵ ((MutSlice (named 0) (ν-target ∷ []) u8).own_val (at_list b-target o-target δ-target target) (slice_val (b-target, o-target) n-target ∷ [])) ∷ ‵ ((ShrSlice (named 0) κ-numbers u32).own_val (at_list b-numbers o-numbers γ-numbers numbers) (slice_val (b-numbers, o-numbers) n-numbers ∷ [])) ∷ ‵ ((ShrSlice (named 0) κ-deques u32).own_val (at_list b-deques o-deques γ-deques deques) (slice_val (b-deques, o-deques) n-deques ∷ [])) ∷ []) ∵ says ! ok' $ nothing ! $ move ! (1 ∷ 2 ∷ 3 ∷ 0 ∷ []) $ group ! 4 $ frame ! $
       nothing ! $ move ! (3 ∷ 0 ∷ []) $ fjoin ! $ move ! (2 ∷ 0 ∷ []) $ fjoin ! $ move ! (1 ∷ 0 ∷ []) $ fjoin ! $ done !
 
 module _ {M : Type 1} {𝓤 : Ura M} {𝓛 : Logic 𝓤} {K : Type 0} (mem : Memory → SProp 𝓤) (run : Routine → Fun 𝓤)
     {Γ : List (Item 𝓤)} {E : Env 𝓤 𝓛.H} {C : Calls 𝓤 𝓛.H} {Λ : Loops 𝓤 𝓛.H} {post' : Post 𝓤 𝓛.H} {dest' : Place} {name' : Name} {opds' : List Operand} {rest' : Body} where
   open 𝓛 use {H}
 
-  pub step-gg : K → FmC 𝓤 H 𝓛.laws C → Triple 𝓤 (C name') (Asked 𝓛 mem run) → {κ-target : Lft} {q-target : Share} {γ-target : GName} {κ-numbers : Lft} {q-numbers : Share} {γ-numbers : GName} {κ-deques : Lft} {q-deques : Share} {γ-deques : GName} → (b-target o-target n-target : ℕ) (target : List ℕ) (b-numbers o-numbers n-numbers : ℕ) (numbers : List ℕ) (b-deques o-deques n-deques : ℕ) (deques : List ℕ) → (length numbers ≡ numberCount) × (length deques ≡ dequeWords) × (placeCount numbers ≤ maxPlaces) × (blockBytes * blocksFor (numberCount + dequesWords (placeCount numbers)) ≤ length target) → length target ≡ n-target → Room u8 n-target →
-      ((ν-target : ℕ) (δ-target : GName) → Opds K 𝓛 (raw ((Asked 𝓛 mem run).pre (to-step-gg 𝓛 mem run ν-target δ-target κ-numbers q-numbers γ-numbers κ-deques q-deques γ-deques b-target o-target n-target target b-numbers o-numbers n-numbers numbers b-deques o-deques n-deques deques)) ∷ ‵ ((ShrSlice (named 0) κ-deques u32).own_val (at-list b-deques o-deques γ-deques deques) (slice_val (b-deques, o-deques) n-deques ∷ [])) ∷ ‵ ((ShrSlice (named 0) κ-numbers u32).own_val (at-list b-numbers o-numbers γ-numbers numbers) (slice_val (b-numbers, o-numbers) n-numbers ∷ [])) ∷ ‵ (Lent u8 κ-target (ν-target ∷ []) q-target γ-target b-target o-target δ-target target) ∷ Γ) E opds' (slice_val (b-target, o-target) n-target ∷ slice_val (b-numbers, o-numbers) n-numbers ∷ slice_val (b-deques, o-deques) n-deques ∷ [])) →
-      ((res' : ℕ) (zs-target : List ℕ) → res' < 2 ^ 32 → (zs-target ≡ putWords target 0 (versioned two_words numbers ++ dequesFor (placeCount numbers) deques)) × (res' ≡ sumBefore zs-target (numberCount + dequesWords (placeCount numbers))) → length zs-target ≡ length target → Seq K 𝓛 (‵ (Mine u8 κ-target q-target γ-target b-target o-target n-target zs-target) ∷ ‵ (Yours u32 κ-numbers q-numbers γ-numbers b-numbers o-numbers n-numbers numbers) ∷ ‵ (Yours u32 κ-deques q-deques γ-deques b-deques o-deques n-deques deques) ∷ Γ) (lands C Λ E dest' (vint w32 res') rest' post')) →
+  pub step-gg : K → FmC 𝓤 H 𝓛.laws C → Triple 𝓤 (C name') (Asked 𝓛 mem run) → {κ-target : Lft} {q-target : Share} {γ-target : GName} {κ-numbers : Lft} {q-numbers : Share} {γ-numbers : GName} {κ-deques : Lft} {q-deques : Share} {γ-deques : GName} → (b-target o-target n-target : ℕ) (target : List ℕ) (b-numbers o-numbers n-numbers : ℕ) (numbers : List ℕ) (b-deques o-deques n-deques : ℕ) (deques : List ℕ) → (length numbers ≡ number_count) × (length deques ≡ deque_words) × (place_count numbers ≤ max_places) × (block_bytes * blocks_for (number_count + deques_words (place_count numbers)) ≤ length target) → length target ≡ n-target → Room u8 n-target →
+      ((ν-target : ℕ) (δ-target : GName) → Opds K 𝓛 (raw ((Asked 𝓛 mem run).pre (to-step-gg 𝓛 mem run ν-target δ-target κ-numbers q-numbers γ-numbers κ-deques q-deques γ-deques b-target o-target n-target target b-numbers o-numbers n-numbers numbers b-deques o-deques n-deques deques)) ∷ ‵ ((ShrSlice (named 0) κ-deques u32).own_val (at_list b-deques o-deques γ-deques deques) (slice_val (b-deques, o-deques) n-deques ∷ [])) ∷ ‵ ((ShrSlice (named 0) κ-numbers u32).own_val (at_list b-numbers o-numbers γ-numbers numbers) (slice_val (b-numbers, o-numbers) n-numbers ∷ [])) ∷ ‵ (Lent u8 κ-target (ν-target ∷ []) q-target γ-target b-target o-target δ-target target) ∷ Γ) E opds' (slice_val (b-target, o-target) n-target ∷ slice_val (b-numbers, o-numbers) n-numbers ∷ slice_val (b-deques, o-deques) n-deques ∷ [])) →
+      ((res' : ℕ) (zs-target : List ℕ) → res' < 2 ^ 32 → (zs-target ≡ put_words target 0 (versioned two_words numbers ++ deques_for (place_count numbers) deques)) × (res' ≡ sum_before zs-target (number_count + deques_words (place_count numbers))) → length zs-target ≡ length target → Seq K 𝓛 (‵ (Mine u8 κ-target q-target γ-target b-target o-target n-target zs-target) ∷ ‵ (Yours u32 κ-numbers q-numbers γ-numbers b-numbers o-numbers n-numbers numbers) ∷ ‵ (Yours u32 κ-deques q-deques γ-deques b-deques o-deques n-deques deques) ∷ Γ) (lands C Λ E dest' (vint w32 res') rest' post')) →
       Seq K 𝓛 (‵ (Mine u8 κ-target q-target γ-target b-target o-target n-target target) ∷ ‵ (Yours u32 κ-numbers q-numbers γ-numbers b-numbers o-numbers n-numbers numbers) ∷ ‵ (Yours u32 κ-deques q-deques γ-deques b-deques o-deques n-deques deques) ∷ Γ) (runs C Λ E (seq (call name' opds' dest') rest') post')
   step-gg t' fm' known' {κ-target} {q-target} {γ-target} {κ-numbers} {q-numbers} {γ-numbers} {κ-deques} {q-deques} {γ-deques} b-target o-target n-target target b-numbers o-numbers n-numbers numbers b-deques o-deques n-deques deques ok' len-target room-target os' k' =
       lend t' tt u8 b-target o-target n-target target len-target (λ ν-target δ-target. move t' (3 ∷ []) $ give t' u32 b-numbers o-numbers n-numbers numbers $ move t' (6 ∷ []) $ give t' u32 b-deques o-deques n-deques deques $
       move t' (6 ∷ 3 ∷ 0 ∷ 7 ∷ 4 ∷ 1 ∷ []) $ group t' 6 $ use1 𝓛 (raw ((Asked 𝓛 mem run).pre (to-step-gg 𝓛 mem run ν-target δ-target κ-numbers q-numbers γ-numbers κ-deques q-deques γ-deques b-target o-target n-target target b-numbers o-numbers n-numbers numbers b-deques o-deques n-deques deques))) (goes-step-gg 𝓛 mem run ν-target δ-target κ-numbers q-numbers γ-numbers κ-deques q-deques γ-deques b-target o-target n-target target b-numbers o-numbers n-numbers numbers b-deques o-deques n-deques deques ok') $
       calls_at t' fm' (Asked 𝓛 mem run) known' (to-step-gg 𝓛 mem run ν-target δ-target κ-numbers q-numbers γ-numbers κ-deques q-deques γ-deques b-target o-target n-target target b-numbers o-numbers n-numbers numbers b-deques o-deques n-deques deques) (os' ν-target δ-target) (λ w'.
-      use1 𝓛 (later (some (λ (res' : ℕ). ((‵ (flft (ν-target ∷ []) full_share) ⊛ (‵ (flft κ-numbers q-numbers) ⊛ (‵ (flft κ-deques q-deques) ⊛ ‵ ftrue))) ⊛ ‵ (u32.own_val res' (w' ∷ []))) ⊛ raw (ensured 𝓛 callee'.ended (callee'.clauses 𝓛 mem run) ((ν-target ∷ []), (κ-numbers, (κ-deques, tt))) (at-list b-target o-target δ-target target, (at-list b-numbers o-numbers γ-numbers numbers, (at-list b-deques o-deques γ-deques deques, tt))) tt res')))) (id⊢ 𝓤 _) $ await t' tt $ pick t' (λ res'. split t' $ move t' (1 ∷ []) $
-      use1 𝓛 (some (λ (zs' : List ℕ × (Unit {0} × (Unit {0} × Unit {0}))). ‵ (lasts callee'.ended ((ν-target ∷ []), (κ-numbers, (κ-deques, tt))) (at-list b-target o-target δ-target target, (at-list b-numbers o-numbers γ-numbers numbers, (at-list b-deques o-deques γ-deques deques, tt))) zs') ⊛ raw (fact 𝓤 ((zs'.0 ≡ putWords target 0 (versioned two_words numbers ++ dequesFor (placeCount numbers) deques)) × (res' ≡ sumBefore zs'.0 (numberCount + dequesWords (placeCount numbers))))))) (id⊢ 𝓤 _) $ pick t' (λ zs'. split t' $ move t' (1 ∷ []) $ heard t' ((zs'.0 ≡ putWords target 0 (versioned two_words numbers ++ dequesFor (placeCount numbers) deques)) × (res' ≡ sumBefore zs'.0 (numberCount + dequesWords (placeCount numbers)))) (λ e'.
+      use1 𝓛 (later (some (λ (res' : ℕ). ((‵ (flft (ν-target ∷ []) full_share) ⊛ (‵ (flft κ-numbers q-numbers) ⊛ (‵ (flft κ-deques q-deques) ⊛ ‵ ftrue))) ⊛ ‵ (u32.own_val res' (w' ∷ []))) ⊛ raw (ensured 𝓛 callee'.ended (callee'.clauses 𝓛 mem run) ((ν-target ∷ []), (κ-numbers, (κ-deques, tt))) (at_list b-target o-target δ-target target, (at_list b-numbers o-numbers γ-numbers numbers, (at_list b-deques o-deques γ-deques deques, tt))) tt res')))) (id⊢ 𝓤 _) $ await t' tt $ pick t' (λ res'. split t' $ move t' (1 ∷ []) $
+      use1 𝓛 (some (λ (zs' : List ℕ × (Unit {0} × (Unit {0} × Unit {0}))). ‵ (lasts callee'.ended ((ν-target ∷ []), (κ-numbers, (κ-deques, tt))) (at_list b-target o-target δ-target target, (at_list b-numbers o-numbers γ-numbers numbers, (at_list b-deques o-deques γ-deques deques, tt))) zs') ⊛ raw (fact 𝓤 ((zs'.0 ≡ put_words target 0 (versioned two_words numbers ++ deques_for (place_count numbers) deques)) × (res' ≡ sum_before zs'.0 (number_count + deques_words (place_count numbers))))))) (id⊢ 𝓤 _) $ pick t' (λ zs'. split t' $ move t' (1 ∷ []) $ heard t' ((zs'.0 ≡ put_words target 0 (versioned two_words numbers ++ deques_for (place_count numbers) deques)) × (res' ≡ sum_before zs'.0 (number_count + deques_words (place_count numbers)))) (λ e'.
       fsplit t' $ fsplit t' $ move t' (1 ∷ []) $ feq_l t' (λ same_target. move t' (1 ∷ []) $ fsplit t' $ drop t' $ fsplit t' $ drop t' $ drop t' $
       move t' (1 ∷ []) $ split t' $ move t' (1 ∷ []) $ peeks t' u32 (Is u32) (shows 𝓛 u32) res' (w' ∷ []) (λ is'. drop t' $ split t' $ move t' (1 ∷ []) $ split t' $ move t' (1 ∷ []) $ split t' $ move t' (1 ∷ []) $ drop t' $
       move t' (4 ∷ 0 ∷ []) $ fjoin t' $ move t' (4 ∷ 1 ∷ []) $ fjoin t' $ move t' (2 ∷ 4 ∷ 3 ∷ []) $ home t' tt u8 b-target o-target n-target target zs'.0 len-target room-target same_target $

@@ -33,14 +33,14 @@ use denote.Triple.Call.{calls_at, calls_at_last}
 use denote.Triple.Clauses.{ensured, lasts}
 use denote.Triple.Walked.{says}
 use Prim.Native.Nat.{◌+◌, ◌*◌, ◌≤◌}
-use Rattle.frames.specs.Widths.{maxPlaces, recordWords}
-use Rattle.image.specs.Widths.{blockBytes}
-use Rattle.image.specs.Image.{tableWords, blocksFor}
-use Rattle.image.specs.Inner.{putWords, sumBefore}
+use Rattle.frames.specs.Widths.{max_places, record_words}
+use Rattle.image.specs.Widths.{block_bytes}
+use Rattle.image.specs.Image.{table_words, blocks_for}
+use Rattle.image.specs.Inner.{put_words, sum_before}
 use Rattle.frames.specs.contracts.Frame as M-Frame
 use Rattle.frames.proofs.Frame.TheLaws as L-Frame
 use Rattle.frames.specs.declared.Frame.{Frame}
-use Rattle.frames.proofs.Lent.{at-list, Mine, Yours, Lent, Shown, lend, home, show, back, give}
+use Rattle.frames.proofs.Lent.{at_list, Mine, Yours, Lent, Shown, lend, home, show, back, give}
 use Rattle.image.specs.contracts.write.write_table as callee'
 
 abbrev R-Frame : RattleType
@@ -54,26 +54,26 @@ module _ {M : Type 1} {𝓤 : Ura M} (𝓛 : Logic 𝓤) (mem : Memory → SProp
   Asked = triple_of 𝓛 callee'.signature (callee'.spec 𝓛 mem run)
 
   abbrev pub to-step-g : (ν-target : ℕ) (δ-target : GName) (κ-frames : Lft) (q-frames : Share) (γ-frames : GName) (b-target o-target n-target : ℕ) (target : List ℕ) (b-frames o-frames n-frames : ℕ) (frames : List Frame) (i : ℕ) (before : ℕ) → Asked.Ghost
-  to-step-g ν-target δ-target κ-frames q-frames γ-frames b-target o-target n-target target b-frames o-frames n-frames frames i before = ((((ν-target ∷ []), (κ-frames, tt)), (full_share, (q-frames, tt)), tt, (at-list b-target o-target δ-target target, (i, (at-list b-frames o-frames γ-frames frames, (before, tt)))), (slice_val (b-target, o-target) n-target ∷ [], (vint w64 i ∷ [], (slice_val (b-frames, o-frames) n-frames ∷ [], (vint w32 before ∷ [], tt))))), tt)
+  to-step-g ν-target δ-target κ-frames q-frames γ-frames b-target o-target n-target target b-frames o-frames n-frames frames i before = ((((ν-target ∷ []), (κ-frames, tt)), (full_share, (q-frames, tt)), tt, (at_list b-target o-target δ-target target, (i, (at_list b-frames o-frames γ-frames frames, (before, tt)))), (slice_val (b-target, o-target) n-target ∷ [], (vint w64 i ∷ [], (slice_val (b-frames, o-frames) n-frames ∷ [], (vint w32 before ∷ [], tt))))), tt)
 
-  pub goes-step-g : (ν-target : ℕ) (δ-target : GName) (κ-frames : Lft) (q-frames : Share) (γ-frames : GName) (b-target o-target n-target : ℕ) (target : List ℕ) (b-frames o-frames n-frames : ℕ) (frames : List Frame) (i : ℕ) (before : ℕ) → (i-good : i < 2 ^ 64) (before-good : before < 2 ^ 32) (ok' : (length frames ≤ maxPlaces) × (blockBytes * blocksFor (i + recordWords * length frames) ≤ length target) × (before ≡ sumBefore target i)) → ent 𝓤 (⋆ 𝓛 (‵ (flft (ν-target ∷ []) full_share) ∷ ‵ (flft κ-frames q-frames) ∷ ‵ ((MutSlice (named 0) (ν-target ∷ []) u8).own_val (at-list b-target o-target δ-target target) (slice_val (b-target, o-target) n-target ∷ [])) ∷ ‵ ((ShrSlice (named 0) κ-frames R-Frame).own_val (at-list b-frames o-frames γ-frames frames) (slice_val (b-frames, o-frames) n-frames ∷ [])) ∷ [])) (Asked.pre (to-step-g ν-target δ-target κ-frames q-frames γ-frames b-target o-target n-target target b-frames o-frames n-frames frames i before))
-  goes-step-g ν-target δ-target κ-frames q-frames γ-frames b-target o-target n-target target b-frames o-frames n-frames frames i before i-good before-good ok' = qed 𝓛 (‵ (flft (ν-target ∷ []) full_share) ∷ ‵ (flft κ-frames q-frames) ∷ ‵ ((MutSlice (named 0) (ν-target ∷ []) u8).own_val (at-list b-target o-target δ-target target) (slice_val (b-target, o-target) n-target ∷ [])) ∷ ‵ ((ShrSlice (named 0) κ-frames R-Frame).own_val (at-list b-frames o-frames γ-frames frames) (slice_val (b-frames, o-frames) n-frames ∷ [])) ∷ []) ∵ says ! ok' $ nothing ! $ move ! (1 ∷ 2 ∷ 0 ∷ []) $ group ! 3 $ frame ! $
+  pub goes-step-g : (ν-target : ℕ) (δ-target : GName) (κ-frames : Lft) (q-frames : Share) (γ-frames : GName) (b-target o-target n-target : ℕ) (target : List ℕ) (b-frames o-frames n-frames : ℕ) (frames : List Frame) (i : ℕ) (before : ℕ) → (i-good : i < 2 ^ 64) (before-good : before < 2 ^ 32) (ok' : (length frames ≤ max_places) × (block_bytes * blocks_for (i + record_words * length frames) ≤ length target) × (before ≡ sum_before target i)) → ent 𝓤 (⋆ 𝓛 (‵ (flft (ν-target ∷ []) full_share) ∷ ‵ (flft κ-frames q-frames) ∷ ‵ ((MutSlice (named 0) (ν-target ∷ []) u8).own_val (at_list b-target o-target δ-target target) (slice_val (b-target, o-target) n-target ∷ [])) ∷ ‵ ((ShrSlice (named 0) κ-frames R-Frame).own_val (at_list b-frames o-frames γ-frames frames) (slice_val (b-frames, o-frames) n-frames ∷ [])) ∷ [])) (Asked.pre (to-step-g ν-target δ-target κ-frames q-frames γ-frames b-target o-target n-target target b-frames o-frames n-frames frames i before))
+  goes-step-g ν-target δ-target κ-frames q-frames γ-frames b-target o-target n-target target b-frames o-frames n-frames frames i before i-good before-good ok' = qed 𝓛 (‵ (flft (ν-target ∷ []) full_share) ∷ ‵ (flft κ-frames q-frames) ∷ ‵ ((MutSlice (named 0) (ν-target ∷ []) u8).own_val (at_list b-target o-target δ-target target) (slice_val (b-target, o-target) n-target ∷ [])) ∷ ‵ ((ShrSlice (named 0) κ-frames R-Frame).own_val (at_list b-frames o-frames γ-frames frames) (slice_val (b-frames, o-frames) n-frames ∷ [])) ∷ []) ∵ says ! ok' $ nothing ! $ move ! (1 ∷ 2 ∷ 0 ∷ []) $ group ! 3 $ frame ! $
       nothing ! $ owned ! u32 (Is u32) (uint_Makes 𝓛 w32) before _ (refl, before-good) $ fjoin ! $ move ! (2 ∷ 0 ∷ []) $ fjoin ! $ owned ! usize (Is usize) (uint_Makes 𝓛 w64) i _ (refl, i-good) $ fjoin ! $ move ! (1 ∷ 0 ∷ []) $ fjoin ! $ done !
 
 module _ {M : Type 1} {𝓤 : Ura M} {𝓛 : Logic 𝓤} {K : Type 0} (mem : Memory → SProp 𝓤) (run : Routine → Fun 𝓤)
     {Γ : List (Item 𝓤)} {E : Env 𝓤 𝓛.H} {C : Calls 𝓤 𝓛.H} {Λ : Loops 𝓤 𝓛.H} {post' : Post 𝓤 𝓛.H} {dest' : Place} {name' : Name} {opds' : List Operand} {rest' : Body} where
   open 𝓛 use {H}
 
-  pub step-g : K → FmC 𝓤 H 𝓛.laws C → Triple 𝓤 (C name') (Asked 𝓛 mem run) → {κ-target : Lft} {q-target : Share} {γ-target : GName} {κ-frames : Lft} {q-frames : Share} {γ-frames : GName} → (b-target o-target n-target : ℕ) (target : List ℕ) (b-frames o-frames n-frames : ℕ) (frames : List Frame) (i : ℕ) (before : ℕ) → (i-good : i < 2 ^ 64) → (before-good : before < 2 ^ 32) → (length frames ≤ maxPlaces) × (blockBytes * blocksFor (i + recordWords * length frames) ≤ length target) × (before ≡ sumBefore target i) → length target ≡ n-target → Room u8 n-target →
-      ((ν-target : ℕ) (δ-target : GName) → Opds K 𝓛 (raw ((Asked 𝓛 mem run).pre (to-step-g 𝓛 mem run ν-target δ-target κ-frames q-frames γ-frames b-target o-target n-target target b-frames o-frames n-frames frames i before)) ∷ ‵ ((ShrSlice (named 0) κ-frames R-Frame).own_val (at-list b-frames o-frames γ-frames frames) (slice_val (b-frames, o-frames) n-frames ∷ [])) ∷ ‵ (Lent u8 κ-target (ν-target ∷ []) q-target γ-target b-target o-target δ-target target) ∷ Γ) E opds' (slice_val (b-target, o-target) n-target ∷ vint w64 i ∷ slice_val (b-frames, o-frames) n-frames ∷ vint w32 before ∷ [])) →
-      ((res' : ℕ) (zs-target : List ℕ) → res' < 2 ^ 32 → (zs-target ≡ putWords target i (tableWords frames)) × (res' ≡ sumBefore zs-target (i + recordWords * length frames)) → length zs-target ≡ length target → Seq K 𝓛 (‵ (Mine u8 κ-target q-target γ-target b-target o-target n-target zs-target) ∷ ‵ (Yours R-Frame κ-frames q-frames γ-frames b-frames o-frames n-frames frames) ∷ Γ) (lands C Λ E dest' (vint w32 res') rest' post')) →
+  pub step-g : K → FmC 𝓤 H 𝓛.laws C → Triple 𝓤 (C name') (Asked 𝓛 mem run) → {κ-target : Lft} {q-target : Share} {γ-target : GName} {κ-frames : Lft} {q-frames : Share} {γ-frames : GName} → (b-target o-target n-target : ℕ) (target : List ℕ) (b-frames o-frames n-frames : ℕ) (frames : List Frame) (i : ℕ) (before : ℕ) → (i-good : i < 2 ^ 64) → (before-good : before < 2 ^ 32) → (length frames ≤ max_places) × (block_bytes * blocks_for (i + record_words * length frames) ≤ length target) × (before ≡ sum_before target i) → length target ≡ n-target → Room u8 n-target →
+      ((ν-target : ℕ) (δ-target : GName) → Opds K 𝓛 (raw ((Asked 𝓛 mem run).pre (to-step-g 𝓛 mem run ν-target δ-target κ-frames q-frames γ-frames b-target o-target n-target target b-frames o-frames n-frames frames i before)) ∷ ‵ ((ShrSlice (named 0) κ-frames R-Frame).own_val (at_list b-frames o-frames γ-frames frames) (slice_val (b-frames, o-frames) n-frames ∷ [])) ∷ ‵ (Lent u8 κ-target (ν-target ∷ []) q-target γ-target b-target o-target δ-target target) ∷ Γ) E opds' (slice_val (b-target, o-target) n-target ∷ vint w64 i ∷ slice_val (b-frames, o-frames) n-frames ∷ vint w32 before ∷ [])) →
+      ((res' : ℕ) (zs-target : List ℕ) → res' < 2 ^ 32 → (zs-target ≡ put_words target i (table_words frames)) × (res' ≡ sum_before zs-target (i + record_words * length frames)) → length zs-target ≡ length target → Seq K 𝓛 (‵ (Mine u8 κ-target q-target γ-target b-target o-target n-target zs-target) ∷ ‵ (Yours R-Frame κ-frames q-frames γ-frames b-frames o-frames n-frames frames) ∷ Γ) (lands C Λ E dest' (vint w32 res') rest' post')) →
       Seq K 𝓛 (‵ (Mine u8 κ-target q-target γ-target b-target o-target n-target target) ∷ ‵ (Yours R-Frame κ-frames q-frames γ-frames b-frames o-frames n-frames frames) ∷ Γ) (runs C Λ E (seq (call name' opds' dest') rest') post')
   step-g t' fm' known' {κ-target} {q-target} {γ-target} {κ-frames} {q-frames} {γ-frames} b-target o-target n-target target b-frames o-frames n-frames frames i before i-good before-good ok' len-target room-target os' k' =
       lend t' tt u8 b-target o-target n-target target len-target (λ ν-target δ-target. move t' (3 ∷ []) $ give t' R-Frame b-frames o-frames n-frames frames $
       move t' (3 ∷ 0 ∷ 4 ∷ 1 ∷ []) $ group t' 4 $ use1 𝓛 (raw ((Asked 𝓛 mem run).pre (to-step-g 𝓛 mem run ν-target δ-target κ-frames q-frames γ-frames b-target o-target n-target target b-frames o-frames n-frames frames i before))) (goes-step-g 𝓛 mem run ν-target δ-target κ-frames q-frames γ-frames b-target o-target n-target target b-frames o-frames n-frames frames i before i-good before-good ok') $
       calls_at t' fm' (Asked 𝓛 mem run) known' (to-step-g 𝓛 mem run ν-target δ-target κ-frames q-frames γ-frames b-target o-target n-target target b-frames o-frames n-frames frames i before) (os' ν-target δ-target) (λ w'.
-      use1 𝓛 (later (some (λ (res' : ℕ). ((‵ (flft (ν-target ∷ []) full_share) ⊛ (‵ (flft κ-frames q-frames) ⊛ ‵ ftrue)) ⊛ ‵ (u32.own_val res' (w' ∷ []))) ⊛ raw (ensured 𝓛 callee'.ended (callee'.clauses 𝓛 mem run) ((ν-target ∷ []), (κ-frames, tt)) (at-list b-target o-target δ-target target, (i, (at-list b-frames o-frames γ-frames frames, (before, tt)))) tt res')))) (id⊢ 𝓤 _) $ await t' tt $ pick t' (λ res'. split t' $ move t' (1 ∷ []) $
-      use1 𝓛 (some (λ (zs' : List ℕ × (Unit {0} × (Unit {0} × (Unit {0} × Unit {0})))). ‵ (lasts callee'.ended ((ν-target ∷ []), (κ-frames, tt)) (at-list b-target o-target δ-target target, (i, (at-list b-frames o-frames γ-frames frames, (before, tt)))) zs') ⊛ raw (fact 𝓤 ((zs'.0 ≡ putWords target i (tableWords frames)) × (res' ≡ sumBefore zs'.0 (i + recordWords * length frames)))))) (id⊢ 𝓤 _) $ pick t' (λ zs'. split t' $ move t' (1 ∷ []) $ heard t' ((zs'.0 ≡ putWords target i (tableWords frames)) × (res' ≡ sumBefore zs'.0 (i + recordWords * length frames))) (λ e'.
+      use1 𝓛 (later (some (λ (res' : ℕ). ((‵ (flft (ν-target ∷ []) full_share) ⊛ (‵ (flft κ-frames q-frames) ⊛ ‵ ftrue)) ⊛ ‵ (u32.own_val res' (w' ∷ []))) ⊛ raw (ensured 𝓛 callee'.ended (callee'.clauses 𝓛 mem run) ((ν-target ∷ []), (κ-frames, tt)) (at_list b-target o-target δ-target target, (i, (at_list b-frames o-frames γ-frames frames, (before, tt)))) tt res')))) (id⊢ 𝓤 _) $ await t' tt $ pick t' (λ res'. split t' $ move t' (1 ∷ []) $
+      use1 𝓛 (some (λ (zs' : List ℕ × (Unit {0} × (Unit {0} × (Unit {0} × Unit {0})))). ‵ (lasts callee'.ended ((ν-target ∷ []), (κ-frames, tt)) (at_list b-target o-target δ-target target, (i, (at_list b-frames o-frames γ-frames frames, (before, tt)))) zs') ⊛ raw (fact 𝓤 ((zs'.0 ≡ put_words target i (table_words frames)) × (res' ≡ sum_before zs'.0 (i + record_words * length frames)))))) (id⊢ 𝓤 _) $ pick t' (λ zs'. split t' $ move t' (1 ∷ []) $ heard t' ((zs'.0 ≡ put_words target i (table_words frames)) × (res' ≡ sum_before zs'.0 (i + record_words * length frames))) (λ e'.
       fsplit t' $ fsplit t' $ move t' (1 ∷ []) $ feq_l t' (λ same_target. move t' (1 ∷ []) $ fsplit t' $ drop t' $ fsplit t' $ drop t' $ fsplit t' $ drop t' $ drop t' $
       move t' (1 ∷ []) $ split t' $ move t' (1 ∷ []) $ peeks t' u32 (Is u32) (shows 𝓛 u32) res' (w' ∷ []) (λ is'. drop t' $ split t' $ move t' (1 ∷ []) $ split t' $ move t' (1 ∷ []) $ drop t' $
       move t' (3 ∷ 0 ∷ []) $ fjoin t' $ move t' (1 ∷ 3 ∷ 2 ∷ []) $ home t' tt u8 b-target o-target n-target target zs'.0 len-target room-target same_target $

@@ -10,7 +10,7 @@ use Rattle.std.proofs.Math.Nat.{div-div-eq-div-mul}
 use Rattle.std.proofs.Math.Seq.{take-nil}
 pub use Rattle.words.specs.Below.{Below, Words, Bytes}
 use Rattle.model.specs.Record.{little}
-use Rattle.image.specs.Image.{word_bytes, bytes_of, words_of, wordAt}
+use Rattle.image.specs.Image.{word_bytes, bytes_of, words_of, word_at}
 
 -- ---- one word
 
@@ -99,8 +99,8 @@ module _ where
   words_append (suc n) (a ∷ b ∷ c ∷ []) cs e = absurd (omega arith)
   words_append (suc n) (a ∷ b ∷ c ∷ d ∷ bs) cs e = ap (λ (l : List ℕ). little (a ∷ b ∷ c ∷ d ∷ []) ∷ l) (words_append n bs cs (omega arith))
 
-  pub at_words : (n : ℕ) (bs : List ℕ) → length bs ≡ 4 * n → (i : ℕ) → i < n → get_or (words_of bs) i 0 ≡ wordAt bs (4 * i)
-  unfolding words_of wordAt
+  pub at_words : (n : ℕ) (bs : List ℕ) → length bs ≡ 4 * n → (i : ℕ) → i < n → get_or (words_of bs) i 0 ≡ word_at bs (4 * i)
+  unfolding words_of word_at
   at_words zero bs e i b = absurd (omega arith)
   at_words (suc n) [] e i b = absurd (omega arith)
   at_words (suc n) (x ∷ []) e i b = absurd (omega arith)

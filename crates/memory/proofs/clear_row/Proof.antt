@@ -6,30 +6,30 @@ use Prim.Native.Nat.{ℕ, suc, ◌+◌, ◌-◌, ◌*◌, ◌≤◌, ◌<◌}
 use native.Mathlib.Omega.{arith}
 use lib.ListN.{length, set, length-set}
 use borrow.Author.Rules.{rules}
-use Rattle.memory.specs.Memory.{zeroedFrom, row_at, maxSplitters}
+use Rattle.memory.specs.Memory.{zeroed_from, row_at, max_splitters}
 use Rattle.memory.proofs.clear_row.Statement.{statement}
 use Rattle.memory.proofs.clear_row.Tie as tie
 
-one_less : (ms : List ℕ) (first i : ℕ) → i < maxSplitters → zeroedFrom (maxSplitters - (i + 1)) (set ms (first + i) 0) (first + (i + 1)) ≡ zeroedFrom (maxSplitters - i) ms (first + i)
-unfolding zeroedFrom
+one_less : (ms : List ℕ) (first i : ℕ) → i < max_splitters → zeroed_from (max_splitters - (i + 1)) (set ms (first + i) 0) (first + (i + 1)) ≡ zeroed_from (max_splitters - i) ms (first + i)
+unfolding zeroed_from
 one_less ms first i h =
-    let left : maxSplitters - i ≡ suc (maxSplitters - (i + 1)) = omega arith in
+    let left : max_splitters - i ≡ suc (max_splitters - (i + 1)) = omega arith in
     let next : first + (i + 1) ≡ suc (first + i) = omega arith in
     rw (left, next)
 
-none_left : (ms : List ℕ) (first i : ℕ) → maxSplitters ≤ i → zeroedFrom (maxSplitters - i) ms (first + i) ≡ ms
-unfolding zeroedFrom
-none_left ms first i h = let e : maxSplitters - i ≡ 0 = omega arith in rw e
+none_left : (ms : List ℕ) (first i : ℕ) → max_splitters ≤ i → zeroed_from (max_splitters - i) ms (first + i) ≡ ms
+unfolding zeroed_from
+none_left ms first i h = let e : max_splitters - i ≡ 0 = omega arith in rw e
 
 abbrev invariant-loop : tie.invariant-loop
 invariant-loop memory₀ w first i₀ memory i =
-    (zeroedFrom (maxSplitters - i) memory (first + i) ≡ zeroedFrom maxSplitters memory₀ first) × (length memory ≡ length memory₀)
+    (zeroed_from (max_splitters - i) memory (first + i) ≡ zeroed_from max_splitters memory₀ first) × (length memory ≡ length memory₀)
 
 abbrev decreases-loop : tie.decreases-loop
-decreases-loop memory₀ w first i₀ memory i = maxSplitters - i
+decreases-loop memory₀ w first i₀ memory i = max_splitters - i
 
 loop-holds : tie.Need-loop-init invariant-loop decreases-loop
-loop-holds c = (ap (zeroedFrom maxSplitters c.args.memory.now) (omega arith), refl)
+loop-holds c = (ap (zeroed_from max_splitters c.args.memory.now) (omega arith), refl)
 
 loop-again : tie.Need-loop-preserved invariant-loop decreases-loop
 loop-again c =

@@ -6,17 +6,17 @@ use native.Mathlib.Omega.{arith}
 use lib.ListN.{set, length-set}
 use borrow.Author.Tests.{le-leb, lt-leb}
 use borrow.Author.Rules.{rules}
-use Rattle.memory.specs.Memory.{base, emptied, zeroedFrom, maxNodes, lastBase, maxSplitters, row_at, base_at}
+use Rattle.memory.specs.Memory.{base, emptied, zeroed_from, max_nodes, last_base, max_splitters, row_at, base_at}
 use Rattle.memory.proofs.empty.Statement.{statement}
 use Rattle.memory.proofs.empty.Tie as tie
 
-goes-up : (ms : List ℕ) (w b : ℕ) → b ≡ base ms w → b + maxNodes ≤ lastBase → set ms (base_at w) (b + maxNodes) ≡ emptied ms w
+goes-up : (ms : List ℕ) (w b : ℕ) → b ≡ base ms w → b + max_nodes ≤ last_base → set ms (base_at w) (b + max_nodes) ≡ emptied ms w
 unfolding emptied
-goes-up ms w b e h = rw (sym e, le-leb (b + maxNodes) lastBase h)
+goes-up ms w b e h = rw (sym e, le-leb (b + max_nodes) last_base h)
 
-begins-again : (ms : List ℕ) (w b : ℕ) → b ≡ base ms w → lastBase < b + maxNodes → zeroedFrom maxSplitters (set ms (base_at w) 0) (row_at w) ≡ emptied ms w
+begins_again : (ms : List ℕ) (w b : ℕ) → b ≡ base ms w → last_base < b + max_nodes → zeroed_from max_splitters (set ms (base_at w) 0) (row_at w) ≡ emptied ms w
 unfolding emptied
-begins-again ms w b e h = rw (sym e, lt-leb (b + maxNodes) lastBase h)
+begins_again ms w b e h = rw (sym e, lt-leb (b + max_nodes) last_base h)
 
 abbrev base-of : tie.After-clear-row → tie.After-base-at
 base-of z = z.before.before.before
@@ -32,7 +32,7 @@ same_length c =
 returns-2 : tie.Need-returns-2
 returns-2 c =
     let z = c.before.before in
-    z.clear-row.ensures ∙ begins-again _ _ _ (base-of z).base-at.ensures (omega (arith, z.before.before.if1.false))
+    z.clear-row.ensures ∙ begins_again _ _ _ (base-of z).base-at.ensures (omega (arith, z.before.before.if1.false))
 
 pub empty-spec : {M : Type 1} → statement M
 empty-spec =

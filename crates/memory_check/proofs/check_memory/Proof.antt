@@ -45,34 +45,34 @@ use denote.Triple.Statement.{Triple}
 use denote.Triple.Table.{entered, cited}
 use denote.Triple.Walked.{says, needs, Stays, stay_slice, stay_none, stay_none_slice, walk_of, Walks, ends_at, walked, Goes-slice, Goes-none, Goes-none_slice, walk_Meets}
 use borrow.Author.Rules.{scaled_Fits}
-use Rattle.frames.proofs.Lent.{at-list, Mine, Yours, ty_at, exit-unless, exit-if, leave-if, fork, skipped, regroup, matched, matched-last, const, is_true, is_false, not-not, differ, widen, less-fits, after, turn-of, take_out, put_in, put_back, look-out, look-back, free_all}
-use Rattle.frames.specs.Widths.{dequeWords}
-use Rattle.memory.specs.Memory.{memoryWords}
+use Rattle.frames.proofs.Lent.{at_list, Mine, Yours, ty_at, exit_unless, exit_if, leave_if, fork, skipped, regroup, matched, matched_last, const, is_true, is_false, not_not, differ, widen, less_fits, after, turn_of_lem, take_out, put_in, put_back, look_out, look_back, free_all}
+use Rattle.frames.specs.Widths.{deque_words}
+use Rattle.memory.specs.Memory.{memory_words}
 use Rattle.soundness.specs.Layout.{two_words}
-use Rattle.soundness.specs.Memory.{memorySound}
+use Rattle.soundness.specs.Memory.{memory_sound}
 use Rattle.memory_check.specs.Algorithm.{IsSound}
 use Rattle.memory_check.proofs.Called.size_at as S-size-at
 use Rattle.frames.proofs.size_at.Symbol as D-size-at
 use Rattle.frames.proofs.size_at.Symbol.{name as #size-at}
 use Rattle.frames.proofs.size_at.Met as T-size-at
-use Rattle.frames.specs.Widths.{maxWorkers}
+use Rattle.frames.specs.Widths.{max_workers}
 use Rattle.frames.specs.Deques.{size}
 use Rattle.memory_check.proofs.Called.bottom_at as S-bottom-at
 use Rattle.memory_check.proofs.bottom_at.Symbol as D-bottom-at
 use Rattle.memory_check.proofs.bottom_at.Symbol.{name as #bottom-at}
 use Rattle.memory_check.proofs.bottom_at.Met as T-bottom-at
-use Rattle.frames.specs.Widths.{dequePlaces}
+use Rattle.frames.specs.Widths.{deque_places}
 use Rattle.frames.specs.Deques.{bottom}
 use Rattle.memory_check.proofs.Called.frame_or_zero as S-frame-or-zero
 use Rattle.frames.proofs.frame_or_zero.Symbol as D-frame-or-zero
 use Rattle.frames.proofs.frame_or_zero.Symbol.{name as #frame-or-zero}
 use Rattle.frames.proofs.frame_or_zero.Met as T-frame-or-zero
-use Rattle.frames.specs.Frames.{frameAt}
+use Rattle.frames.specs.Frames.{frame_at}
 use Rattle.memory_check.proofs.Called.row_right as S-row-right
 use Rattle.memory_check.proofs.row_right.Symbol as D-row-right
 use Rattle.memory_check.proofs.row_right.Symbol.{name as #row-right}
 use Rattle.memory_check.proofs.row_right.Met as T-row-right
-use Rattle.memory_check.specs.Algorithm.{rowRight, WalkIn}
+use Rattle.memory_check.specs.Algorithm.{row_right, WalkIn}
 use Rattle.memory_check.specs.contracts.check_memory.Key.{name as #own}
 use Rattle.memory_check.specs.contracts.check_memory as f'
 use Rattle.memory_check.proofs.check_memory.Statement as stated
@@ -114,13 +114,13 @@ ty' i = ty_at (code.function).locals i
 
 -- the loop's body, and what runs after the loop
 abbrev turned' : Code
-turned' = turn-of (after 3 (code.function).body)
+turned' = turn_of_lem (after 3 (code.function).body)
 
 abbrev rest' : Code
 rest' = after 4 (code.function).body
 
 -- where a turn of the loop begins
-record State' (numbers : Numbers) (deques : List ℕ) (frames : List Frame) (pool : List ℕ) (memory : List ℕ) (deques-fits : length deques < 2 ^ 64) (frames-fits : length frames < 2 ^ 64) (pool-fits : length pool < 2 ^ 64) (memory-fits : length memory < 2 ^ 64) (ok : (length deques ≡ dequeWords) × (length memory ≡ memoryWords) × IsSound numbers deques frames pool) : Type 0 where
+record State' (numbers : Numbers) (deques : List ℕ) (frames : List Frame) (pool : List ℕ) (memory : List ℕ) (deques-fits : length deques < 2 ^ 64) (frames-fits : length frames < 2 ^ 64) (pool-fits : length pool < 2 ^ 64) (memory-fits : length memory < 2 ^ 64) (ok : (length deques ≡ deque_words) × (length memory ≡ memory_words) × IsSound numbers deques frames pool) : Type 0 where
   v-w : ℕ
   g-w : v-w < 2 ^ 32
   holds : F.Inv numbers deques frames pool memory deques-fits frames-fits pool-fits memory-fits ok v-w
@@ -142,7 +142,7 @@ module _ {M : Type 1} {𝓤 : Ura M} (𝓛 : Logic 𝓤) (mem : Memory → SProp
   n-memory = length memory
 
   abbrev args' : Numbers × (Bor (List ℕ) × (Bor (List Frame) × (Bor (List ℕ) × (Bor (List ℕ) × Unit {0}))))
-  args' = (numbers, (at-list b-deques o-deques γ-deques deques, (at-list b-frames o-frames γ-frames frames, (at-list b-pool o-pool γ-pool pool, (at-list b-memory o-memory γ-memory memory, tt)))))
+  args' = (numbers, (at_list b-deques o-deques γ-deques deques, (at_list b-frames o-frames γ-frames frames, (at_list b-pool o-pool γ-pool pool, (at_list b-memory o-memory γ-memory memory, tt)))))
 
   abbrev vals' : Vals f'.signature (κ-deques, (κ-frames, (κ-pool, (κ-memory, tt))))
   vals' = (val-Numbers numbers ∷ [], (slice_val (b-deques, o-deques) (length deques) ∷ [], (slice_val (b-frames, o-frames) (length frames) ∷ [], (slice_val (b-pool, o-pool) (length pool) ∷ [], (slice_val (b-memory, o-memory) (length memory) ∷ [], tt)))))
@@ -153,7 +153,7 @@ module _ {M : Type 1} {𝓤 : Ura M} (𝓛 : Logic 𝓤) (mem : Memory → SProp
   abbrev Post : Val → SProp 𝓤
   Post = (walk_of 𝓛 f'.ended stayed (f'.clauses 𝓛 mem run)).post bound'
 
-  exits' : (res' : Bool) → res' ≡ memorySound two_words numbers deques frames pool memory → ent 𝓤 (⋆ 𝓛 (‵ (Yours u32 κ-deques q-deques γ-deques b-deques o-deques n-deques deques) ∷ ‵ (Yours R-Frame κ-frames q-frames γ-frames b-frames o-frames n-frames frames) ∷ ‵ (Yours u32 κ-pool q-pool γ-pool b-pool o-pool n-pool pool) ∷ ‵ (Yours u32 κ-memory q-memory γ-memory b-memory o-memory n-memory memory) ∷ [])) (Post (vbool res'))
+  exits' : (res' : Bool) → res' ≡ memory_sound two_words numbers deques frames pool memory → ent 𝓤 (⋆ 𝓛 (‵ (Yours u32 κ-deques q-deques γ-deques b-deques o-deques n-deques deques) ∷ ‵ (Yours R-Frame κ-frames q-frames γ-frames b-frames o-frames n-frames frames) ∷ ‵ (Yours u32 κ-pool q-pool γ-pool b-pool o-pool n-pool pool) ∷ ‵ (Yours u32 κ-memory q-memory γ-memory b-memory o-memory n-memory memory) ∷ [])) (Post (vbool res'))
   exits' res' e' =
       qed 𝓛 (‵ (Yours u32 κ-deques q-deques γ-deques b-deques o-deques n-deques deques) ∷ ‵ (Yours R-Frame κ-frames q-frames γ-frames b-frames o-frames n-frames frames) ∷ ‵ (Yours u32 κ-pool q-pool γ-pool b-pool o-pool n-pool pool) ∷ ‵ (Yours u32 κ-memory q-memory γ-memory b-memory o-memory n-memory memory) ∷ []) ∵
       suffices ! _ (ends_at 𝓛 f'.ended stayed (f'.clauses 𝓛 mem run) bound' (vbool res') res' (tt, (tt, (tt, (tt, (tt, tt))))) (tt, (tt, (tt, (tt, (tt, tt)))))) $ says ! e' $
@@ -165,7 +165,7 @@ module _ {M : Type 1} {𝓤 : Ura M} (𝓛 : Logic 𝓤) (mem : Memory → SProp
     abbrev fm : FmC 𝓤 H 𝓛.laws 𝓣.C
     fm = fm_of 𝓤 H 𝓛.laws 𝓣
 
-    module _ (ok' : (length deques ≡ dequeWords) × (length memory ≡ memoryWords) × IsSound numbers deques frames pool) (l₀ l₁ l₂ l₃ l₄ l₅ l₆ l₇ l₈ l₉ l₁₀ l₁₁ l₁₂ l₁₃ : ℕ) where
+    module _ (ok' : (length deques ≡ deque_words) × (length memory ≡ memory_words) × IsSound numbers deques frames pool) (l₀ l₁ l₂ l₃ l₄ l₅ l₆ l₇ l₈ l₉ l₁₀ l₁₁ l₁₂ l₁₃ : ℕ) where
       abbrev S' : Type 0
       S' = State' numbers deques frames pool memory room-deques.0 room-frames.0 room-pool.0 room-memory.0 ok'
 
@@ -190,7 +190,7 @@ module _ {M : Type 1} {𝓤 : Ura M} (𝓛 : Logic 𝓤) (mem : Memory → SProp
         unfolding after_turn
         turn' =
             assigns ! (bin ! (load ! (from ! (stop !)) (look ! 14 refl)) (const ! _ tt) tt) (from ! (stop !)) (init ! 6 refl (tt, tt)) $
-            exit-unless ! (load ! (from ! (stop !)) (look ! 6 refl))
+            exit_unless ! (load ! (from ! (stop !)) (look ! 6 refl))
             (λ test-2.
             exec ! 𝓣.C 𝓣.Λ En' rest' (at_ret En' Post) $
             assigns ! (of_opd ! (const ! _ tt)) (from ! (stop !)) (init ! 30 refl (tt, tt)) $
@@ -217,7 +217,7 @@ module _ {M : Type 1} {𝓤 : Ura M} (𝓛 : Logic 𝓤) (mem : Memory → SProp
             (and_then ! (load ! (from ! (stop !)) (look ! 19 refl)) (and_then ! (load ! (from ! (stop !)) (look ! 17 refl)) (and_then ! (load ! (from ! (stop !)) (look ! 23 refl)) (and_then ! (load ! (from ! (stop !)) (look ! 21 refl)) (and_then ! (load ! (from ! (stop !)) (look ! 15 refl)) (and_then ! (load ! (from ! (stop !)) (look ! 13 refl)) (and_then ! (load ! (from ! (fld ! refl (stop !))) (look_in ! 9 (sub ! 5 refl (whole !)))) (no_more !)))))))) (λ r-7 r-7-is.
             land ! (from ! (stop !)) (store ! 6 refl (tt, tt)) $
             assigns ! (un ! (load ! (from ! (stop !)) (look ! 6 refl)) tt) (from ! (stop !)) (init ! 4 refl (tt, tt)) $
-            leave-if ! (load ! (from ! (stop !)) (look ! 4 refl))
+            leave_if ! (load ! (from ! (stop !)) (look ! 4 refl))
             (λ test-8.
             assigns ! (of_opd ! (const ! _ tt)) (from ! (stop !)) (init ! 30 refl (tt, tt)) $
             returns_within ! Post refl (look ! 30 refl) $ forget ! 4 refl $ forget ! 6 refl $ forget ! 8 refl $ forget ! 10 refl $ forget ! 12 refl $ forget ! 14 refl $ forget ! 16 refl $ forget ! 18 refl $ forget ! 20 refl $ forget ! 22 refl $ forget ! 24 refl $ forget ! 26 refl $ forget ! 28 refl $ forget ! 30 refl $
@@ -225,16 +225,16 @@ module _ {M : Type 1} {𝓤 : Ura M} (𝓛 : Logic 𝓤) (mem : Memory → SProp
             move ! (3 ∷ 2 ∷ 0 ∷ 1 ∷ []) $
             by ! (exits' false (F.out-9 numbers deques frames pool memory room-deques.0 room-frames.0 room-pool.0 room-memory.0 ok' w w_Fits inv' (ltb→lt w 8 test-2) held held_Fits held-is p p-fits p-is f f-is r-7 r-7-is (is_false r-7 test-8))))
             (λ test-8.
-            assigns_last ! (bin ! (load ! (from ! (stop !)) (look ! 14 refl)) (const ! _ tt) (record { fits = (F.small-10 numbers deques frames pool memory room-deques.0 room-frames.0 room-pool.0 room-memory.0 ok' w w_Fits inv' (ltb→lt w 8 test-2) held held_Fits held-is p p-fits p-is f f-is r-7 r-7-is (is_true r-7 (not-not r-7 test-8))) })) (from ! (stop !)) (store ! 14 refl (tt, record { fits = (F.small-10 numbers deques frames pool memory room-deques.0 room-frames.0 room-pool.0 room-memory.0 ok' w w_Fits inv' (ltb→lt w 8 test-2) held held_Fits held-is p p-fits p-is f f-is r-7 r-7-is (is_true r-7 (not-not r-7 test-8))) })) $
+            assigns_last ! (bin ! (load ! (from ! (stop !)) (look ! 14 refl)) (const ! _ tt) (record { fits = (F.small-10 numbers deques frames pool memory room-deques.0 room-frames.0 room-pool.0 room-memory.0 ok' w w_Fits inv' (ltb→lt w 8 test-2) held held_Fits held-is p p-fits p-is f f-is r-7 r-7-is (is_true r-7 (not_not r-7 test-8))) })) (from ! (stop !)) (store ! 14 refl (tt, record { fits = (F.small-10 numbers deques frames pool memory room-deques.0 room-frames.0 room-pool.0 room-memory.0 ok' w w_Fits inv' (ltb→lt w 8 test-2) held held_Fits held-is p p-fits p-is f f-is r-7 r-7-is (is_true r-7 (not_not r-7 test-8))) })) $
             forget ! 4 refl $ forget ! 6 refl $ forget ! 8 refl $ forget ! 10 refl $ forget ! 12 refl $
             move ! (3 ∷ 2 ∷ 0 ∷ 1 ∷ []) $
-            again ! Less' Inv' here' (record { v-w = (w + 1); g-w = (F.small-10 numbers deques frames pool memory room-deques.0 room-frames.0 room-pool.0 room-memory.0 ok' w w_Fits inv' (ltb→lt w 8 test-2) held held_Fits held-is p p-fits p-is f f-is r-7 r-7-is (is_true r-7 (not-not r-7 test-8))); holds = (F.goes_on numbers deques frames pool memory room-deques.0 room-frames.0 room-pool.0 room-memory.0 ok' w w_Fits inv' (ltb→lt w 8 test-2) held held_Fits held-is p p-fits p-is f f-is r-7 r-7-is (is_true r-7 (not-not r-7 test-8))) }) (F.falls numbers deques frames pool memory room-deques.0 room-frames.0 room-pool.0 room-memory.0 ok' w w_Fits inv' (ltb→lt w 8 test-2) held held_Fits held-is p p-fits p-is f f-is r-7 r-7-is (is_true r-7 (not-not r-7 test-8)))))))))
+            again ! Less' Inv' here' (record { v-w = (w + 1); g-w = (F.small-10 numbers deques frames pool memory room-deques.0 room-frames.0 room-pool.0 room-memory.0 ok' w w_Fits inv' (ltb→lt w 8 test-2) held held_Fits held-is p p-fits p-is f f-is r-7 r-7-is (is_true r-7 (not_not r-7 test-8))); holds = (F.goes_on numbers deques frames pool memory room-deques.0 room-frames.0 room-pool.0 room-memory.0 ok' w w_Fits inv' (ltb→lt w 8 test-2) held held_Fits held-is p p-fits p-is f f-is r-7 r-7-is (is_true r-7 (not_not r-7 test-8))) }) (F.falls numbers deques frames pool memory room-deques.0 room-frames.0 room-pool.0 room-memory.0 ok' w w_Fits inv' (ltb→lt w 8 test-2) held held_Fits held-is p p-fits p-is f f-is r-7 r-7-is (is_true r-7 (not_not r-7 test-8)))))))))
 
       loop' : Seq (Go {0}) 𝓛 (Inv' (record { v-w = 0; g-w = (lit< tt); holds = (F.begins numbers deques frames pool memory room-deques.0 room-frames.0 room-pool.0 room-memory.0 ok') })) (runs 𝓣.C 𝓣.Λ En' (loopᴹ turned') (any_q (after_block 𝓤 H (after_seq 𝓤 H (Wp 𝓤 H 𝓣.C 𝓣.Λ En' rest' (at_return 𝓤 H En' Post)) (at_return 𝓤 H En' Post)))))
       unfolding after_turn
       loop' = loops ! 𝓣 Less' less_wf Inv' (λ s'. turn' s'.v-w s'.g-w s'.holds) (record { v-w = 0; g-w = (lit< tt); holds = (F.begins numbers deques frames pool memory room-deques.0 room-frames.0 room-pool.0 room-memory.0 ok') })
 
-    walk : (length deques ≡ dequeWords) × (length memory ≡ memoryWords) × IsSound numbers deques frames pool → ent 𝓤 (on_entry 𝓛 f'.signature (κ-deques, (κ-frames, (κ-pool, (κ-memory, tt)))) (q-deques, (q-frames, (q-pool, (q-memory, tt)))) args' vals') (WpFn 𝓤 H 𝓣.C 𝓣.Λ code.function (val-Numbers numbers ∷ slice_val (b-deques, o-deques) (length deques) ∷ slice_val (b-frames, o-frames) (length frames) ∷ slice_val (b-pool, o-pool) (length pool) ∷ slice_val (b-memory, o-memory) (length memory) ∷ []) Post)
+    walk : (length deques ≡ deque_words) × (length memory ≡ memory_words) × IsSound numbers deques frames pool → ent 𝓤 (on_entry 𝓛 f'.signature (κ-deques, (κ-frames, (κ-pool, (κ-memory, tt)))) (q-deques, (q-frames, (q-pool, (q-memory, tt)))) args' vals') (WpFn 𝓤 H 𝓣.C 𝓣.Λ code.function (val-Numbers numbers ∷ slice_val (b-deques, o-deques) (length deques) ∷ slice_val (b-frames, o-frames) (length frames) ∷ slice_val (b-pool, o-pool) (length pool) ∷ slice_val (b-memory, o-memory) (length memory) ∷ []) Post)
     walk ok' =
         qed 𝓛 ((‵ (flft κ-deques q-deques) ⊛ ‵ (flft κ-frames q-frames) ⊛ ‵ (flft κ-pool q-pool) ⊛ ‵ (flft κ-memory q-memory) ⊛ ‵ ftrue) ∷ ‵ (owns (R-Numbers ∷ ShrSlice (named 0) κ-deques u32 ∷ ShrSlice (named 1) κ-frames R-Frame ∷ ShrSlice (named 2) κ-pool u32 ∷ ShrSlice (named 3) κ-memory u32 ∷ []) args' vals') ∷ []) ∵ enter ! 𝓣.C 𝓣.Λ code.function (val-Numbers numbers ∷ slice_val (b-deques, o-deques) (length deques) ∷ slice_val (b-frames, o-frames) (length frames) ∷ slice_val (b-pool, o-pool) (length pool) ∷ slice_val (b-memory, o-memory) (length memory) ∷ []) _ $
         alloc1 ! (λ l₀. alloc1 ! (λ l₁. alloc1 ! (λ l₂. alloc1 ! (λ l₃. alloc1 ! (λ l₄. alloc1 ! (λ l₅. alloc1 ! (λ l₆. alloc1 ! (λ l₇. alloc1 ! (λ l₈. alloc1 ! (λ l₉. alloc1 ! (λ l₁₀. alloc1 ! (λ l₁₁. alloc1 ! (λ l₁₂. alloc1 ! (λ l₁₃. alloc0 ! $ params1 ! $
@@ -253,7 +253,7 @@ module _ {M : Type 1} {𝓤 : Ura M} (𝓛 : Logic 𝓤) (mem : Memory → SProp
   walks known-size-at known-bottom-at known-frame-or-zero known-row-right = walked 𝓛 f'.ended stayed (f'.clauses 𝓛 mem run) (WpFn 𝓤 H 𝓣.C 𝓣.Λ code.function)
       (λ κs. (LL.vals M-Numbers.the_type L-Numbers.the_laws, (shr_slice_vals, (shr_slice_vals, (shr_slice_vals, (shr_slice_vals, tt))))))
       (λ κs. (LL.tells M-Numbers.the_type L-Numbers.the_laws, (shr_slice_Tells (named 0) κs.0 u32, (shr_slice_Tells (named 1) κs.1.0 R-Frame, (shr_slice_Tells (named 2) κs.1.1.0 u32, (shr_slice_Tells (named 3) κs.1.1.1.0 u32, tt))))))
-      (λ κs qs bounds a g are. needs 𝓤 ((length a.1.0.now ≡ dequeWords) × (length a.1.1.1.1.0.now ≡ memoryWords) × IsSound a.0 a.1.0.now a.1.1.0.now a.1.1.1.0.now) _
+      (λ κs qs bounds a g are. needs 𝓤 ((length a.1.0.now ≡ deque_words) × (length a.1.1.1.1.0.now ≡ memory_words) × IsSound a.0 a.1.0.now a.1.1.0.now a.1.1.1.0.now) _
       (walk 𝓛 mem run κs.0 qs.0 a.1.0.ref_ptr.0 a.1.0.ref_ptr.1 0 a.1.0.now κs.1.0 qs.1.0 a.1.1.0.ref_ptr.0 a.1.1.0.ref_ptr.1 0 a.1.1.0.now κs.1.1.0 qs.1.1.0 a.1.1.1.0.ref_ptr.0 a.1.1.1.0.ref_ptr.1 0 a.1.1.1.0.now κs.1.1.1.0 qs.1.1.1.0 a.1.1.1.1.0.ref_ptr.0 a.1.1.1.1.0.ref_ptr.1 0 a.1.1.1.1.0.now a.0 are.0 are.1.0.0.1 are.1.1.0.0.1 are.1.1.1.0.0.1 are.1.1.1.1.0.0.1 𝓣 known-size-at known-bottom-at known-frame-or-zero known-row-right))
 
   meets : Triple 𝓤 (𝓣.C #size-at) (S-size-at.Asked 𝓛 mem run) → Triple 𝓤 (𝓣.C #bottom-at) (S-bottom-at.Asked 𝓛 mem run) → Triple 𝓤 (𝓣.C #frame-or-zero) (S-frame-or-zero.Asked 𝓛 mem run) → Triple 𝓤 (𝓣.C #row-right) (S-row-right.Asked 𝓛 mem run) → Meets 𝓛 f'.signature (WpFn 𝓤 H 𝓣.C 𝓣.Λ code.function) (f'.spec 𝓛 mem run)

@@ -2,13 +2,13 @@
 use mathlib.Core.Path.{◌≡◌, ap, ◌∙◌}
 use Prim.Native.Nat.{◌≤◌, ◌-◌}
 use native.Mathlib.Omega.{arith}
-use Rattle.memory_check.specs.Algorithm.{noneIn}
+use Rattle.memory_check.specs.Algorithm.{none_in}
 use Rattle.memory_check.proofs.Laws.{none_first, none-step}
 use Rattle.memory_check.proofs.none_in.Statement.{statement}
 use Rattle.memory_check.proofs.none_in.Tie as tie
 
 abbrev invariant-loop : tie.invariant-loop
-invariant-loop memory w from to none₀ x₀ none x = (none ≡ noneIn memory w from x) × (from ≤ x) × (x ≤ to)
+invariant-loop memory w from to none₀ x₀ none x = (none ≡ none_in memory w from x) × (from ≤ x) × (x ≤ to)
 
 abbrev decreases-loop : tie.decreases-loop
 decreases-loop memory w from to none₀ x₀ none x = to - x
@@ -30,7 +30,7 @@ returns c =
     let l = c.before in
     let a = (start_of l).args in
     let e : l.loop.x ≡ a.to = omega arith in
-    l.loop.invariant.0 ∙ ap (noneIn a.memory.now a.w a.from) e
+    l.loop.invariant.0 ∙ ap (none_in a.memory.now a.w a.from) e
 
 pub none-in-spec : {M : Type 1} → statement M
 none-in-spec =

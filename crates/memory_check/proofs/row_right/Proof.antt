@@ -1,7 +1,7 @@
 -- One law for each way out.
 use native.Mathlib.Omega.{arith}
 use borrow.Author.Rules.{rules}
-use Rattle.memory_check.proofs.Laws.{row-high, row-past, row-none, row-idle, row_walked, walks-root}
+use Rattle.memory_check.proofs.Laws.{row_high, row_past, row-none, row-idle, row_walked, walks_root}
 use Rattle.memory_check.proofs.row_right.Statement.{statement}
 use Rattle.memory_check.proofs.row_right.Tie as tie
 
@@ -15,7 +15,7 @@ abbrev past_of : tie.After-none-in2 → tie.After-none-in
 past_of c = c.before.before
 
 returns : tie.Need-returns
-returns c = row-high _ _ _ _ _ _ _ c.before.base-at.ensures c.if1.true
+returns c = row_high _ _ _ _ _ _ _ c.before.base-at.ensures c.if1.true
 
 none-in-requires : tie.Need-none-in-requires
 none-in-requires c κs = let k = (start_of c.before).requires in (k.memory, k.worker, k.small, omega arith)
@@ -23,7 +23,7 @@ none-in-requires c κs = let k = (start_of c.before).requires in (k.memory, k.wo
 returns-2 : tie.Need-returns-2
 returns-2 c =
     let p = c.before in
-    row-past _ _ _ _ _ _ _ (base-of p).base-at.ensures p.before.if1.false p.none_in.ensures c.if2.true
+    row_past _ _ _ _ _ _ _ (base-of p).base-at.ensures p.before.if1.false p.none_in.ensures c.if2.true
 
 none-in-requires-2 : tie.Need-none-in-requires-2
 none-in-requires-2 c κs = let k = (start_of (base-of c.before)).requires in (k.memory, k.worker, omega arith, k.small)
@@ -41,7 +41,7 @@ returns-4 c =
     row-idle _ _ _ _ _ _ _ (base-of p).base-at.ensures p.before.if1.left p.none_in.ensures f.before.if2.false f.none-in2.ensures c.before.if3.false c.if4.true
 
 leaves-right-requires : tie.Need-leaves-right-requires
-leaves-right-requires c κs = walks-root (start_of (base-of (past_of c.before.before.before))).requires c.height-of.ensures
+leaves-right-requires c κs = walks_root (start_of (base-of (past_of c.before.before.before))).requires c.height-of.ensures
 
 returns-5 : tie.Need-returns-5
 returns-5 c =

@@ -1,7 +1,7 @@
 -- A case: a start, steps, and the answers.
 use Rattle.std.specs.Prelude.{List, ℕ}
 use Rattle.model.specs.declared.Step.{Step}
-use Rattle.model.specs.Machine.{start, freeNodes}
+use Rattle.model.specs.Machine.{start, free_nodes}
 use Rattle.model.specs.Run.{run, answers}
 
 pub record Case : Type 0 where
@@ -17,8 +17,8 @@ answered c = answers (start c.workers c.values c.nodes 64) c.steps
 abbrev pub expected : Case → List (ℕ × ℕ)
 expected c = c.expected
 
-abbrev pub freeAtEnd : Case → ℕ
-freeAtEnd c = freeNodes (run (start c.workers c.values c.nodes 64) c.steps)
+abbrev pub free_at_end : Case → ℕ
+free_at_end c = free_nodes (run (start c.workers c.values c.nodes 64) c.steps)
 
 abbrev pub nodes : Case → ℕ
 nodes c = c.nodes

@@ -4,10 +4,10 @@ use Rattle.std.specs.Prelude.{◌≡◌, refl, true, false, List, [], ◌∷◌,
 use Rattle.sizes.specs.Sizes.{height, width}
 use Rattle.model.specs.declared.Step.{Step}
 use Rattle.model.specs.declared.Step.TheVariants.{Spawn, Return, Steal, Sync, Read, Write, Fold}
-use Rattle.model.specs.History.{nodesInUse}
+use Rattle.model.specs.History.{nodes_in_use}
 use Rattle.model.specs.Machine.{start}
 use Rattle.model.specs.Steps.{refusal, step, answer}
-use Rattle.model.specs.Clocks.{clocksAtStart, runClocks, pair_of}
+use Rattle.model.specs.Clocks.{clocks_at_start, run_clocks, pair_of}
 use Rattle.model.specs.Examples.Folds.{tapes, tape1, tape2, tape3, tape4}
 
 -- one splitter, 9 nodes
@@ -54,29 +54,29 @@ timed =
     ∷ record { workers = 3; steps = Spawn 0 ∷ Steal 1 0 ∷ Spawn 0 ∷ Steal 2 0 ∷ Return 2 ∷ Return 1 ∷ Read 0 0 ∷ Read 0 0 ∷ Return 0 ∷ []; pair = (4, 4) }
     ∷ []
 
-timed-hold : map (λ t. pair_of t.workers (7 ∷ []) 9 64 t.steps) timed ≡ map (λ t. t.pair) timed
-unfolding timed refusal answer step nodesInUse height width
-timed-hold = refl
+timed_hold : map (λ t. pair_of t.workers (7 ∷ []) 9 64 t.steps) timed ≡ map (λ t. t.pair) timed
+unfolding timed refusal answer step nodes_in_use height width
+timed_hold = refl
 
 -- while the sync waits its frame's clock stands, and it is counted in the work
-waiting-sync : runClocks (start 2 (7 ∷ []) 9 64) clocksAtStart (Spawn 0 ∷ Steal 1 0 ∷ Sync 1 ∷ Read 0 0 ∷ []) ≡ record {
+waiting-sync : run_clocks (start 2 (7 ∷ []) 9 64) clocks_at_start (Spawn 0 ∷ Steal 1 0 ∷ Sync 1 ∷ Read 0 0 ∷ []) ≡ record {
   clocks = record { name = 1 ∷ []; clock = 2; latest = 0; waits = false } ∷ record { name = []; clock = 1; latest = 0; waits = true } ∷ [];
   work = 3;
   span = 0;
 }
-unfolding refusal answer step nodesInUse height width
+unfolding refusal answer step nodes_in_use height width
 waiting-sync = refl
 
 -- and when it has passed
-passed-sync : runClocks (start 2 (7 ∷ []) 9 64) clocksAtStart (Spawn 0 ∷ Steal 1 0 ∷ Sync 1 ∷ Read 0 0 ∷ Return 0 ∷ []) ≡ record {
+passed-sync : run_clocks (start 2 (7 ∷ []) 9 64) clocks_at_start (Spawn 0 ∷ Steal 1 0 ∷ Sync 1 ∷ Read 0 0 ∷ Return 0 ∷ []) ≡ record {
   clocks = record { name = []; clock = 3; latest = 2; waits = false } ∷ [];
   work = 3;
   span = 0;
 }
-unfolding refusal answer step nodesInUse height width
+unfolding refusal answer step nodes_in_use height width
 passed-sync = refl
 
 -- the tapes made at random
-tapes-timed : map (λ t. pair_of t.workers t.values t.nodes 64 t.steps) tapes ≡ (39, 30) ∷ (49, 27) ∷ (42, 21) ∷ (24, 13) ∷ []
-unfolding tapes tape1 tape2 tape3 tape4 refusal answer step nodesInUse height width
-tapes-timed = refl
+tapes_timed : map (λ t. pair_of t.workers t.values t.nodes 64 t.steps) tapes ≡ (39, 30) ∷ (49, 27) ∷ (42, 21) ∷ (24, 13) ∷ []
+unfolding tapes tape1 tape2 tape3 tape4 refusal answer step nodes_in_use height width
+tapes_timed = refl

@@ -2,7 +2,7 @@
 use Rattle.std.specs.Prelude.{◌≡◌, refl, List, [], ◌∷◌, map, replicate}
 use Rattle.sizes.specs.Sizes.{height, width}
 use Rattle.model.specs.declared.Step.TheVariants.{Spawn, Return, Steal, Sync, Read, Write, Fold}
-use Rattle.model.specs.History.{nodesInUse}
+use Rattle.model.specs.History.{nodes_in_use}
 use Rattle.model.specs.Steps.{refusal, step, answer}
 use Rattle.model.specs.Examples.Cases.{Case, answered, expected}
 
@@ -88,6 +88,6 @@ edges =
     ∷ record { workers = 1; values = 7 ∷ []; nodes = 3; steps = Spawn 0 ∷ Write 0 0 7 ∷ Write 0 0 7 ∷ []; expected = (101, 1) ∷ (106, 1) ∷ (106, 1) ∷ [] }
     ∷ []
 
-edges-hold : map answered edges ≡ map expected edges
-unfolding edges refusal answer step nodesInUse height width
-edges-hold = refl
+edges_hold : map answered edges ≡ map expected edges
+unfolding edges refusal answer step nodes_in_use height width
+edges_hold = refl

@@ -4,11 +4,11 @@ use Rattle.std.specs.Prelude.{◌≡◌, refl, List, [], ◌∷◌, map, ℕ}
 use Rattle.sizes.specs.Sizes.{height, width}
 use Rattle.model.specs.declared.Step.{Step}
 use Rattle.model.specs.declared.Step.TheVariants.{Spawn, Return, Steal, Sync, Read, Write, Fold}
-use Rattle.model.specs.History.{nodesInUse}
+use Rattle.model.specs.History.{nodes_in_use}
 use Rattle.model.specs.Machine.{start}
 use Rattle.model.specs.Steps.{refusal, step, answer}
 use Rattle.model.specs.Run.{answers}
-use Rattle.model.specs.Views.{totalsOf}
+use Rattle.model.specs.Views.{totals_of}
 
 pub record FoldCase : Type 0 where
   pub workers : ℕ
@@ -106,10 +106,10 @@ tape4 = record {
 unfoldable pub tapes : List FoldCase
 tapes = tape1 ∷ tape2 ∷ tape3 ∷ tape4 ∷ []
 
-tapes-hold : map (λ t. answers (start t.workers t.values t.nodes 64) t.steps) tapes ≡ map (λ t. t.expected) tapes
-unfolding tapes tape1 tape2 tape3 tape4 refusal answer step nodesInUse height width
-tapes-hold = refl
+tapes_hold : map (λ t. answers (start t.workers t.values t.nodes 64) t.steps) tapes ≡ map (λ t. t.expected) tapes
+unfolding tapes tape1 tape2 tape3 tape4 refusal answer step nodes_in_use height width
+tapes_hold = refl
 
-totals-hold : map (λ t. totalsOf t.workers t.values t.nodes 64 t.steps) tapes ≡ map (λ t. t.totals) tapes
-unfolding tapes tape1 tape2 tape3 tape4 refusal answer step nodesInUse height width
-totals-hold = refl
+totals_hold : map (λ t. totals_of t.workers t.values t.nodes 64 t.steps) tapes ≡ map (λ t. t.totals) tapes
+unfolding tapes tape1 tape2 tape3 tape4 refusal answer step nodes_in_use height width
+totals_hold = refl

@@ -3,9 +3,9 @@
 use Rattle.std.specs.Prelude.{◌≡◌, refl, List, [], ◌∷◌, map}
 use Rattle.sizes.specs.Sizes.{height, width}
 use Rattle.model.specs.declared.Step.TheVariants.{Spawn, Return, Steal, Sync, Read, Write}
-use Rattle.model.specs.History.{nodesInUse}
+use Rattle.model.specs.History.{nodes_in_use}
 use Rattle.model.specs.Steps.{refusal, step, answer}
-use Rattle.model.specs.Examples.Cases.{Case, answered, expected, freeAtEnd, nodes}
+use Rattle.model.specs.Examples.Cases.{Case, answered, expected, free_at_end, nodes}
 
 tape1 : Case
 tape1 = record {
@@ -135,11 +135,11 @@ tape6 = record {
 tapes : List Case
 tapes = tape1 ∷ tape2 ∷ tape3 ∷ tape4 ∷ tape5 ∷ tape6 ∷ []
 
-tapes-hold : map answered tapes ≡ map expected tapes
-unfolding tapes tape1 tape2 tape3 tape4 tape5 tape6 refusal answer step nodesInUse height width
-tapes-hold = refl
+tapes_hold : map answered tapes ≡ map expected tapes
+unfolding tapes tape1 tape2 tape3 tape4 tape5 tape6 refusal answer step nodes_in_use height width
+tapes_hold = refl
 
 -- Main has returned in each
-all-free : map freeAtEnd tapes ≡ map nodes tapes
-unfolding tapes tape1 tape2 tape3 tape4 tape5 tape6 refusal answer step nodesInUse height width
-all-free = refl
+all_free : map free_at_end tapes ≡ map nodes tapes
+unfolding tapes tape1 tape2 tape3 tape4 tape5 tape6 refusal answer step nodes_in_use height width
+all_free = refl

@@ -3,7 +3,7 @@ use Rattle.std.specs.Prelude.{◌≡◌, refl, List, [], ◌∷◌, map, ℕ}
 use Rattle.model.specs.declared.Step.TheVariants.{Steal, Write, Fold}
 use Rattle.model.specs.declared.Decoded.{Decoded}
 use Rattle.model.specs.declared.Decoded.TheVariants.{Valid, Invalid}
-use Rattle.model.specs.Record.{recordOf, decodeAt}
+use Rattle.model.specs.Record.{record_of, decode_at}
 use Rattle.model.specs.Examples.Tape.{tape}
 
 -- document 01's tape
@@ -20,21 +20,21 @@ bytes =
     ∷ 2 ∷ 0 ∷ 0 ∷ 0 ∷ 0 ∷ 0 ∷ 0 ∷ 0
     ∷ []
 
-decoded : map (decodeAt bytes) (0 ∷ 8 ∷ 16 ∷ 24 ∷ 32 ∷ 40 ∷ 48 ∷ 56 ∷ 64 ∷ []) ≡ map Valid tape
-unfolding bytes recordOf decodeAt
+decoded : map (decode_at bytes) (0 ∷ 8 ∷ 16 ∷ 24 ∷ 32 ∷ 40 ∷ 48 ∷ 56 ∷ 64 ∷ []) ≡ map Valid tape
+unfolding bytes record_of decode_at
 decoded = refl
 
 abbrev record8 : List ℕ → Decoded
-record8 bs = decodeAt bs 0
+record8 bs = decode_at bs 0
 
 -- "little-endian": splitter 258 and value 16909060, victim 258
 wide : map record8 ((6 ∷ 255 ∷ 2 ∷ 1 ∷ 4 ∷ 3 ∷ 2 ∷ 1 ∷ []) ∷ (3 ∷ 1 ∷ 2 ∷ 1 ∷ 0 ∷ 0 ∷ 0 ∷ 0 ∷ []) ∷ (7 ∷ 1 ∷ 2 ∷ 0 ∷ 4 ∷ 3 ∷ 2 ∷ 1 ∷ []) ∷ []) ≡ Valid (Write 255 258 16909060) ∷ Valid (Steal 1 258) ∷ Valid (Fold 1 2 16909060) ∷ []
-unfolding recordOf decodeAt
+unfolding record_of decode_at
 wide = refl
 
 -- kinds 0, 8 and 255; a stray byte in each unused field of each kind; seven bytes
-none-of-these : List (List ℕ)
-none-of-these =
+none_of_these : List (List ℕ)
+none_of_these =
     (0 ∷ 0 ∷ 0 ∷ 0 ∷ 0 ∷ 0 ∷ 0 ∷ 0 ∷ [])
     ∷ (8 ∷ 0 ∷ 0 ∷ 0 ∷ 0 ∷ 0 ∷ 0 ∷ 0 ∷ [])
     ∷ (255 ∷ 0 ∷ 0 ∷ 0 ∷ 0 ∷ 0 ∷ 0 ∷ 0 ∷ [])
@@ -49,6 +49,6 @@ none-of-these =
     ∷ (6 ∷ 1 ∷ 4 ∷ 0 ∷ 99 ∷ 0 ∷ 0 ∷ [])
     ∷ []
 
-invalid : map record8 none-of-these ≡ map (λ bs. Invalid) none-of-these
-unfolding none-of-these recordOf decodeAt
+invalid : map record8 none_of_these ≡ map (λ bs. Invalid) none_of_these
+unfolding none_of_these record_of decode_at
 invalid = refl

@@ -12,15 +12,15 @@ use mathlib.Core.List.{Memᴰ as In}
 use Rattle.std.proofs.lemmas.List.{length-map}
 use Rattle.words.specs.Basics.{among, distinct}
 use Rattle.words.specs.Tests.{true≢false, decided}
-use Rattle.words.specs.Distinct.{among→In, In→among, distinct-in, distinct-out, distinct-cons-le, distinct-le-length, distinct-mono}
-use Rattle.model.specs.Machine.{Name, Frame, depth, inUse}
-use Rattle.model.specs.Theory.Histories.{last_of, lastMarks, marks-In, inUse-mono, inUse-within}
-use Rattle.model.specs.Theory.Extends.{WritesAt, Extends, extends-same, last-extended, last-of-extended}
+use Rattle.words.specs.Distinct.{among→In, In→among, distinct_in, distinct_out, distinct_cons_le, distinct_le_length, distinct_mono}
+use Rattle.model.specs.Machine.{Name, Frame, depth, in_use}
+use Rattle.model.specs.Theory.Histories.{last_of, last_marks, marks_In, in_use_mono, in_use_within}
+use Rattle.model.specs.Theory.Extends.{WritesAt, Extends, extends_same, last_extended, last_of_extended}
 
 -- a frame of the chain as it is in L: perhaps it has made more writes there
 pub record Twin (L : List Frame) (g : Frame) : Type 0 where
   pub frame : Frame
-  pub there-is : In frame L
+  pub there_is : In frame L
   pub named : frame.name ≡ g.name
   pub extends : Extends (depth g) g.history frame.history
 
@@ -31,8 +31,8 @@ pub record Link (L : List Frame) (f g : Frame) : Type 0 where
   pub extends : Extends (depth f) g.history f.history
   pub twin : Twin L g
 
-pub link-to : {L L' : List Frame} {f g : Frame} → Link L f g → Twin L' g → Link L' f g
-link-to k t = record { ordinal = k.ordinal; named = k.named; extends = k.extends; twin = t }
+pub link_to_lem : {L L' : List Frame} {f g : Frame} → Link L f g → Twin L' g → Link L' f g
+link_to_lem k t = record { ordinal = k.ordinal; named = k.named; extends = k.extends; twin = t }
 
 -- C is the chain of f's ancestors, the nearest first, each but f with its twin in L
 abbrev pub Ancestors : List Frame → Frame → List Frame → Type 0
@@ -42,8 +42,8 @@ Ancestors L f (g ∷ C) = Link L f g × Ancestors L g C
 link-length : {L : List Frame} {f g : Frame} → Link L f g → depth f ≡ suc (depth g)
 link-length k = ap length k.named
 
-suc-le : {m n : ℕ} → m ≤ n → suc m ≤ suc n
-suc-le h = omega arith
+suc_le : {m n : ℕ} → m ≤ n → suc m ≤ suc n
+suc_le h = omega arith
 
 abbrev pub names : List Frame → List Name
 names fs = map (λ c. c.name) fs
@@ -53,89 +53,89 @@ module _ (L : List Frame) where
   twins f [] a = []
   twins f (g ∷ C) a = a.0.twin.frame ∷ twins g C a.1
 
-  pub twins-in : (f : Frame) (C : List Frame) (a : Ancestors L f C) (x : Frame) → In x (twins f C a) → In x L
-  twins-in f [] a x m = absurd (not-in-nil m)
-  twins-in f (g ∷ C) a x m = elim (In-cons m) [ inl e ↦ Memᴰ.cast e a.0.twin.there-is | inr h ↦ twins-in g C a.1 x h ]
+  pub twins_in : (f : Frame) (C : List Frame) (a : Ancestors L f C) (x : Frame) → In x (twins f C a) → In x L
+  twins_in f [] a x m = absurd (not-in-nil m)
+  twins_in f (g ∷ C) a x m = elim (In-cons m) [ inl e ↦ Memᴰ.cast e a.0.twin.there_is | inr h ↦ twins_in g C a.1 x h ]
 
-  twins-and-in : (f : Frame) (C : List Frame) → In f L → (a : Ancestors L f C) (x : Frame) → In x (f ∷ twins f C a) → In x L
-  twins-and-in f C m a x h = elim (In-cons h) [ inl e ↦ Memᴰ.cast e m | inr t ↦ twins-in f C a x t ]
+  twins_and_in : (f : Frame) (C : List Frame) → In f L → (a : Ancestors L f C) (x : Frame) → In x (f ∷ twins f C a) → In x L
+  twins_and_in f C m a x h = elim (In-cons h) [ inl e ↦ Memᴰ.cast e m | inr t ↦ twins_in f C a x t ]
 
   -- ---- no more frames
 
-  names-shorter : (f : Frame) (C : List Frame) → Ancestors L f C → (x : Name) → In x (names C) → length x < depth f
-  names-shorter f [] a x m = absurd (not-in-nil m)
-  names-shorter f (g ∷ C) a x m =
-      elim (In-cons m) [ inl e ↦ omega (arith, ap length e, link-length a.0) | inr h ↦ omega (arith, names-shorter g C a.1 x h, link-length a.0) ]
+  names_shorter : (f : Frame) (C : List Frame) → Ancestors L f C → (x : Name) → In x (names C) → length x < depth f
+  names_shorter f [] a x m = absurd (not-in-nil m)
+  names_shorter f (g ∷ C) a x m =
+      elim (In-cons m) [ inl e ↦ omega (arith, ap length e, link-length a.0) | inr h ↦ omega (arith, names_shorter g C a.1 x h, link-length a.0) ]
 
-  names-out : (f : Frame) (C : List Frame) → Ancestors L f C → among f.name (names C) ≡ false
-  names-out f C a = elim (decided (among f.name (names C))) [ inl e ↦ absurd (let h = names-shorter f C a f.name (among→In f.name (names C) e) in omega (arith, h)) | inr e ↦ e ]
+  names_out : (f : Frame) (C : List Frame) → Ancestors L f C → among f.name (names C) ≡ false
+  names_out f C a = elim (decided (among f.name (names C))) [ inl e ↦ absurd (let h = names_shorter f C a f.name (among→In f.name (names C) e) in omega (arith, h)) | inr e ↦ e ]
 
   names-distinct : (f : Frame) (C : List Frame) → Ancestors L f C → length (f ∷ C) ≤ distinct (names (f ∷ C))
   names-distinct f [] a = le_refl 1
-  names-distinct f (g ∷ C) a = rw (distinct-out f.name (names (g ∷ C)) (names-out f (g ∷ C) a)) (suc-le (names-distinct g C a.1))
+  names-distinct f (g ∷ C) a = rw (distinct_out f.name (names (g ∷ C)) (names_out f (g ∷ C) a)) (suc_le (names-distinct g C a.1))
 
   twins-names : (f : Frame) (C : List Frame) (a : Ancestors L f C) → names (twins f C a) ≡ names C
   twins-names f [] a = refl
   twins-names f (g ∷ C) a = ap₂ ◌∷◌ a.0.twin.named (twins-names g C a.1)
 
-  pub no-more-frames : (f : Frame) (C : List Frame) → In f L → Ancestors L f C → length (f ∷ C) ≤ length L
-  no-more-frames f C m a =
-      le_trans (names-distinct f C a) (rw (← twins-names f C a, ← length-map L (λ c. c.name)) (le_trans (distinct-mono (names (f ∷ twins f C a)) (names L) sub) (distinct-le-length (names L))))
+  pub no_more_frames : (f : Frame) (C : List Frame) → In f L → Ancestors L f C → length (f ∷ C) ≤ length L
+  no_more_frames f C m a =
+      le_trans (names-distinct f C a) (rw (← twins-names f C a, ← length-map L (λ c. c.name)) (le_trans (distinct_mono (names (f ∷ twins f C a)) (names L) sub) (distinct_le_length (names L))))
     where
       sub : (x : Name) → In x (names (f ∷ twins f C a)) → In x (names L)
       sub x h =
           let u = In-unmap (λ (c : Frame). c.name) (f ∷ twins f C a) h in
-          Memᴰ.cast (sym u.2) (In-map (λ (c : Frame). c.name) (twins-and-in f C m a u.0 u.1))
+          Memᴰ.cast (sym u.2) (In-map (λ (c : Frame). c.name) (twins_and_in f C m a u.0 u.1))
 
   -- ---- no more nodes
 
   low : (l i : ℕ) (f : Frame) (C : List Frame) → Ancestors L f C → length (last_of l i f) ≤ suc (depth f)
-  low l i f [] a = rw (← append-nil f.history) (elim (last-extended l i 0 f.history [] a.1) [ inl e ↦ omega (arith, ap length e) | inr e ↦ omega (arith, e) ])
+  low l i f [] a = rw (← append-nil f.history) (elim (last_extended l i 0 f.history [] a.1) [ inl e ↦ omega (arith, ap length e) | inr e ↦ omega (arith, e) ])
   low l i f (g ∷ C) a =
-      elim (last-of-extended l i (depth f) a.0.extends)
+      elim (last_of_extended l i (depth f) a.0.extends)
       [ inl e ↦ omega (arith, ap length e, low l i g C a.1, link-length a.0) | inr e ↦ omega (arith, e) ]
 
-  twins-low : (l i : ℕ) (f : Frame) (C : List Frame) (a : Ancestors L f C) (x : Frame) → In x (twins f C a) → length (last_of l i x) ≤ depth f
-  twins-low l i f [] a x m = absurd (not-in-nil m)
-  twins-low l i f (g ∷ C) a x m =
+  twins_low : (l i : ℕ) (f : Frame) (C : List Frame) (a : Ancestors L f C) (x : Frame) → In x (twins f C a) → length (last_of l i x) ≤ depth f
+  twins_low l i f [] a x m = absurd (not-in-nil m)
+  twins_low l i f (g ∷ C) a x m =
       elim (In-cons m) [
-        | inl e ↦ rw e (elim (last-of-extended l i (depth g) a.0.twin.extends)
+        | inl e ↦ rw e (elim (last_of_extended l i (depth g) a.0.twin.extends)
             [ inl d ↦ omega (arith, ap length d, low l i g C a.1, link-length a.0) | inr d ↦ omega (arith, d, link-length a.0) ])
-        | inr h ↦ omega (arith, twins-low l i g C a.1 x h, link-length a.0)
+        | inr h ↦ omega (arith, twins_low l i g C a.1 x h, link-length a.0)
       ]
 
   -- a last write that no frame further up the chain has is the frame's own, here and in its twin
   fresh : (l i : ℕ) (f t g : Frame) (C : List Frame) → Ancestors L f (g ∷ C) → Extends (depth f) f.history t.history
-      → among (last_of l i f) (lastMarks l i (g ∷ C)) ≡ false → length (last_of l i t) ≡ suc (depth f)
-  fresh l i f t g C a k e = go (last-of-extended l i (depth f) a.0.extends) (last-of-extended l i (depth f) k)
+      → among (last_of l i f) (last_marks l i (g ∷ C)) ≡ false → length (last_of l i t) ≡ suc (depth f)
+  fresh l i f t g C a k e = go (last_of_extended l i (depth f) a.0.extends) (last_of_extended l i (depth f) k)
     where
       go : (last_of l i f ≡ last_of l i g) ⊎ (length (last_of l i f) ≡ suc (depth f)) → (last_of l i t ≡ last_of l i f) ⊎ (length (last_of l i t) ≡ suc (depth f))
           → length (last_of l i t) ≡ suc (depth f)
       go x (inr d) = d
-      go (inl b) (inl d) = absurd (true≢false (sym (In→among {x = last_of l i f} {l = lastMarks l i (g ∷ C)} (here b)) ∙ e))
+      go (inl b) (inl d) = absurd (true≢false (sym (In→among {x = last_of l i f} {l = last_marks l i (g ∷ C)} (here b)) ∙ e))
       go (inr b) (inl d) = ap length d ∙ b
 
-  fresh-out : (l i : ℕ) (f t g : Frame) (C : List Frame) (a : Ancestors L f (g ∷ C)) → length (last_of l i t) ≡ suc (depth f)
-      → among (last_of l i t) (lastMarks l i (twins f (g ∷ C) a)) ≡ false
-  fresh-out l i f t g C a h =
-      elim (decided (among (last_of l i t) (lastMarks l i (twins f (g ∷ C) a))))
-      [ inl s ↦ absurd (impossible (marks-In l i (twins f (g ∷ C) a) (among→In (last_of l i t) (lastMarks l i (twins f (g ∷ C) a)) s))) | inr s ↦ s ]
+  fresh_out : (l i : ℕ) (f t g : Frame) (C : List Frame) (a : Ancestors L f (g ∷ C)) → length (last_of l i t) ≡ suc (depth f)
+      → among (last_of l i t) (last_marks l i (twins f (g ∷ C) a)) ≡ false
+  fresh_out l i f t g C a h =
+      elim (decided (among (last_of l i t) (last_marks l i (twins f (g ∷ C) a))))
+      [ inl s ↦ absurd (impossible (marks_In l i (twins f (g ∷ C) a) (among→In (last_of l i t) (last_marks l i (twins f (g ∷ C) a)) s))) | inr s ↦ s ]
     where
       impossible : (x : Frame) × In x (twins f (g ∷ C) a) × (last_of l i x ≡ last_of l i t) → ⊥
-      impossible u = omega (arith, h, ap length u.2, twins-low l i f (g ∷ C) a u.0 u.1)
+      impossible u = omega (arith, h, ap length u.2, twins_low l i f (g ∷ C) a u.0 u.1)
 
   count : (l i : ℕ) (f t : Frame) (C : List Frame) (a : Ancestors L f C) → Extends (depth f) f.history t.history
-      → distinct (lastMarks l i (f ∷ C)) ≤ distinct (lastMarks l i (t ∷ twins f C a))
+      → distinct (last_marks l i (f ∷ C)) ≤ distinct (last_marks l i (t ∷ twins f C a))
   count l i f t [] a k = le_refl 1
   count l i f t (g ∷ C) a k =
-      let others = lastMarks l i (twins f (g ∷ C) a) in
+      let others = last_marks l i (twins f (g ∷ C) a) in
       let ih = count l i g a.0.twin.frame C a.1 a.0.twin.extends in
-      elim (decided (among (last_of l i f) (lastMarks l i (g ∷ C)))) [
-        | inl e ↦ rw (distinct-in (last_of l i f) (lastMarks l i (g ∷ C)) e) (le_trans ih (distinct-cons-le (last_of l i t) others))
-        | inr e ↦ rw (distinct-out (last_of l i f) (lastMarks l i (g ∷ C)) e, distinct-out (last_of l i t) others (fresh-out l i f t g C a (fresh l i f t g C a k e))) (suc-le ih)
+      elim (decided (among (last_of l i f) (last_marks l i (g ∷ C)))) [
+        | inl e ↦ rw (distinct_in (last_of l i f) (last_marks l i (g ∷ C)) e) (le_trans ih (distinct_cons_le (last_of l i t) others))
+        | inr e ↦ rw (distinct_out (last_of l i f) (last_marks l i (g ∷ C)) e, distinct_out (last_of l i t) others (fresh_out l i f t g C a (fresh l i f t g C a k e))) (suc_le ih)
       ]
 
-  pub no-more-nodes : (n : ℕ) (f : Frame) (C : List Frame) → In f L → Ancestors L f C → inUse n (f ∷ C) ≤ inUse n L
-  no-more-nodes n f C m a =
-      le_trans (inUse-mono n (f ∷ C) (f ∷ twins f C a) (λ l i. count l i f f C a (extends-same (depth f) f.history)))
-      (inUse-within n (f ∷ twins f C a) L (λ x h. (x, twins-and-in f C m a x h, refl)))
+  pub no_more_nodes : (n : ℕ) (f : Frame) (C : List Frame) → In f L → Ancestors L f C → in_use n (f ∷ C) ≤ in_use n L
+  no_more_nodes n f C m a =
+      le_trans (in_use_mono n (f ∷ C) (f ∷ twins f C a) (λ l i. count l i f f C a (extends_same (depth f) f.history)))
+      (in_use_within n (f ∷ twins f C a) L (λ x h. (x, twins_and_in f C m a x h, refl)))

@@ -2,9 +2,9 @@
 use Rattle.std.specs.Prelude.{◌≡◌, refl, ◌⊎◌, [], ◌∷◌, ◌++◌, ℕ, suc, ◌/◌, ◌^◌, length, eqb}
 use Rattle.std.proofs.Common.{sym, ap, ◌∙◌, inl, inr, append_assoc}
 use Rattle.words.specs.Tests.{decided}
-use Rattle.model.specs.History.{History, lastWrite}
+use Rattle.model.specs.History.{History, last_write}
 use Rattle.model.specs.Machine.{Frame, depth}
-use Rattle.model.specs.Steps.{writeEvent, written}
+use Rattle.model.specs.Steps.{write_event, written}
 
 -- writes of a frame of depth d
 abbrev pub WritesAt : ℕ → History → Type 0
@@ -21,25 +21,25 @@ pub writes-append : (d : ℕ) (o o' : History) → WritesAt d o → WritesAt d o
 writes-append d [] o' m m' = m'
 writes-append d (e ∷ o) o' m m' = (m.0, writes-append d o o' m.1 m')
 
-pub extends-same : (d : ℕ) (h : History) → Extends d h h
-extends-same d h = record { later = []; split = refl; marked = tt }
+pub extends_same : (d : ℕ) (h : History) → Extends d h h
+extends_same d h = record { later = []; split = refl; marked = tt }
 
-pub extends-trans : {d : ℕ} {h h' h'' : History} → Extends d h h' → Extends d h' h'' → Extends d h h''
-extends-trans {d} {h} a b = record {
+pub extends_trans : {d : ℕ} {h h' h'' : History} → Extends d h h' → Extends d h' h'' → Extends d h h''
+extends_trans {d} {h} a b = record {
   later = b.later ++ a.later;
   split = b.split ∙ ap (λ z. b.later ++ z) a.split ∙ sym (append_assoc b.later a.later h);
   marked = writes-append d b.later a.later b.marked a.marked;
 }
 
-pub extends-written : (q : Frame) (x v : ℕ) → Extends (depth q) q.history (written q x v).history
-extends-written q x v = record { later = writeEvent q x ∷ []; split = refl; marked = (refl, tt) }
+pub extends_written : (q : Frame) (x v : ℕ) → Extends (depth q) q.history (written q x v).history
+extends_written q x v = record { later = write_event q x ∷ []; split = refl; marked = (refl, tt) }
 
 -- ---- the last write is the old one, or one of the new
 
-pub last-extended : (l g d : ℕ) (o h : History) → WritesAt d o → (lastWrite l g (o ++ h) ≡ lastWrite l g h) ⊎ (length (lastWrite l g (o ++ h)) ≡ suc d)
-last-extended l g d [] h m = inl refl
-last-extended l g d (e ∷ o) h m =
-    elim (decided (eqb (e.splitter / 2 ^ l) g)) [ inl s ↦ inr (rw s m.0) | inr s ↦ rw s (last-extended l g d o h m.1) ]
+pub last_extended : (l g d : ℕ) (o h : History) → WritesAt d o → (last_write l g (o ++ h) ≡ last_write l g h) ⊎ (length (last_write l g (o ++ h)) ≡ suc d)
+last_extended l g d [] h m = inl refl
+last_extended l g d (e ∷ o) h m =
+    elim (decided (eqb (e.splitter / 2 ^ l) g)) [ inl s ↦ inr (rw s m.0) | inr s ↦ rw s (last_extended l g d o h m.1) ]
 
-pub last-of-extended : (l g d : ℕ) {h h' : History} → Extends d h h' → (lastWrite l g h' ≡ lastWrite l g h) ⊎ (length (lastWrite l g h') ≡ suc d)
-last-of-extended l g d {h} k = rw k.split (last-extended l g d k.later h k.marked)
+pub last_of_extended : (l g d : ℕ) {h h' : History} → Extends d h h' → (last_write l g h' ≡ last_write l g h) ⊎ (length (last_write l g h') ≡ suc d)
+last_of_extended l g d {h} k = rw k.split (last_extended l g d k.later h k.marked)

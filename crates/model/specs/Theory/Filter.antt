@@ -13,20 +13,20 @@ abbrev pub filter : (Name → Bool) → List Name → List Name
 filter s [] = []
 filter s (n ∷ ns) = cond (s n) (n ∷ filter s ns) (filter s ns)
 
-pub in-filter : (s : Name → Bool) (ns : List Name) (n : Name) → In n (filter s ns) → In n ns × (s n ≡ true)
-in-filter s [] n m = absurd (not-in-nil m)
-in-filter s (x ∷ ns) n m =
+pub in_filter : (s : Name → Bool) (ns : List Name) (n : Name) → In n (filter s ns) → In n ns × (s n ≡ true)
+in_filter s [] n m = absurd (not-in-nil m)
+in_filter s (x ∷ ns) n m =
     elim (decided (s x)) [
-      | inl t ↦ elim (In-cons (rw t at m)) [ inl e ↦ (here e, ap s e ∙ t) | inr i ↦ (let r = in-filter s ns n i in (there r.0, r.1)) ]
-      | inr t ↦ (let r = in-filter s ns n (rw t at m) in (there r.0, r.1))
+      | inl t ↦ elim (In-cons (rw t at m)) [ inl e ↦ (here e, ap s e ∙ t) | inr i ↦ (let r = in_filter s ns n i in (there r.0, r.1)) ]
+      | inr t ↦ (let r = in_filter s ns n (rw t at m) in (there r.0, r.1))
     ]
 
-pub to-filter : (s : Name → Bool) (ns : List Name) (n : Name) → In n ns → s n ≡ true → In n (filter s ns)
-to-filter s [] n m h = absurd (not-in-nil m)
-to-filter s (x ∷ ns) n m h =
+pub to_filter : (s : Name → Bool) (ns : List Name) (n : Name) → In n ns → s n ≡ true → In n (filter s ns)
+to_filter s [] n m h = absurd (not-in-nil m)
+to_filter s (x ∷ ns) n m h =
     elim (In-cons m) [
       | inl e ↦ rw (ap s (sym e) ∙ h) (here e)
-      | inr i ↦ elim (decided (s x)) [ inl t ↦ rw t (there (to-filter s ns n i h)) | inr t ↦ rw t (to-filter s ns n i h) ]
+      | inr i ↦ elim (decided (s x)) [ inl t ↦ rw t (there (to_filter s ns n i h)) | inr t ↦ rw t (to_filter s ns n i h) ]
     ]
 
 pub filter-append : (s : Name → Bool) (xs ys : List Name) → filter s (xs ++ ys) ≡ filter s xs ++ filter s ys
@@ -46,10 +46,10 @@ filter_none s [] h = refl
 filter_none s (n ∷ ns) h = rw (h n (here refl)) (filter_none s ns (λ x m. h x (there m)))
 
 -- one test after the other, in either order
-pub filter-twice : (s t : Name → Bool) (ns : List Name) → filter s (filter t ns) ≡ filter t (filter s ns)
-filter-twice s t [] = refl
-filter-twice s t (n ∷ ns) =
+pub filter_twice : (s t : Name → Bool) (ns : List Name) → filter s (filter t ns) ≡ filter t (filter s ns)
+filter_twice s t [] = refl
+filter_twice s t (n ∷ ns) =
     elim (decided (s n)) [
-      | inl a ↦ elim (decided (t n)) [ inl b ↦ rw (a, b, a) (ap (λ z. n ∷ z) (filter-twice s t ns)) | inr b ↦ rw (a, b) (filter-twice s t ns) ]
-      | inr a ↦ elim (decided (t n)) [ inl b ↦ rw (a, b, a) (filter-twice s t ns) | inr b ↦ rw (a, b) (filter-twice s t ns) ]
+      | inl a ↦ elim (decided (t n)) [ inl b ↦ rw (a, b, a) (ap (λ z. n ∷ z) (filter_twice s t ns)) | inr b ↦ rw (a, b) (filter_twice s t ns) ]
+      | inr a ↦ elim (decided (t n)) [ inl b ↦ rw (a, b, a) (filter_twice s t ns) | inr b ↦ rw (a, b) (filter_twice s t ns) ]
     ]

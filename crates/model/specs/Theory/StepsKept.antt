@@ -14,26 +14,26 @@ use mathlib.Core.List.Permᴰ
 use mathlib.Core.List.{List, [], ◌∷◌, ◌++◌, append-nil, Permᴰ}
 use Rattle.words.specs.Tests.{true≢false}
 use Rattle.words.specs.Lists.{In-perm}
-use Rattle.words.specs.Distinct.{same_refl, same-differ}
+use Rattle.words.specs.Distinct.{same_refl, same_differ}
 use Rattle.model.specs.Machine.{Name, Frame}
-use Rattle.model.specs.Steps.{Action, spawn, return, sync, read, write, fold, child, afterSpawn, written}
-use Rattle.model.specs.Run.{Entry, entry, entriesOf, follow}
-use Rattle.model.specs.Theory.Names.{owns-apart, owns_split}
-use Rattle.model.specs.Theory.ChildFirst.{childFirst, of-skip, of_cons, of-append, childFirst-skip, childFirst-mine, of-within, of-foreign}
-use Rattle.model.specs.Theory.LiveRun.{successors, Ends, LiveRun, ended, moved, dropped, acted, Owns, Disjoint, successors-owned, backward, gone-returned}
+use Rattle.model.specs.Steps.{Action, spawn, return, sync, read, write, fold, child, after_spawn, written}
+use Rattle.model.specs.Run.{Entry, entry, entries_of, follow}
+use Rattle.model.specs.Theory.Names.{owns_apart, owns_split}
+use Rattle.model.specs.Theory.ChildFirst.{child_first, of_skip, of_cons, of_append, child_first_skip, child_first_mine, of_within, of_foreign}
+use Rattle.model.specs.Theory.LiveRun.{successors, Ends, LiveRun, ended, moved, dropped, acted, Owns, Disjoint, successors_owned, backward, gone_returned}
 
 -- a name that no live frame owns, but one that has returned, is not met again
-pub unowned : {n nodes places : ℕ} {L : List Frame} {es : List Entry} → LiveRun n nodes places L es → (r : Name) → ((f : Frame) → In f L → f.returning ≡ false → Owns f r → ⊥) → entriesOf r es ≡ []
+pub unowned : {n nodes places : ℕ} {L : List Frame} {es : List Entry} → LiveRun n nodes places L es → (r : Name) → ((f : Frame) → In f L → f.returning ≡ false → Owns f r → ⊥) → entries_of r es ≡ []
 unowned ended r h = refl
 unowned (moved p g) r h = unowned g r (λ f m. h f (In-perm (Permᴰ.symm p) m))
 unowned (dropped q R p e g) r h = unowned g r (λ f m. h f (In-perm (Permᴰ.symm p) (there m)))
 unowned (acted {es = es} q a R p on ok p' g) r h =
-    of-skip r (entry q a) es (same-differ (λ e. h q (In-perm (Permᴰ.symm p) (here refl)) on (inl (sym e)))) ∙
-    unowned g r (λ f m l o. elim (In-cases (successors q a) (In-perm (Permᴰ.symm p') m)) [ inl i ↦ h q (In-perm (Permᴰ.symm p) (here refl)) on (successors-owned q a f r i o) | inr i ↦ h f (In-perm (Permᴰ.symm p) (there i)) l o ])
+    of_skip r (entry q a) es (same_differ (λ e. h q (In-perm (Permᴰ.symm p) (here refl)) on (inl (sym e)))) ∙
+    unowned g r (λ f m l o. elim (In-cases (successors q a) (In-perm (Permᴰ.symm p') m)) [ inl i ↦ h q (In-perm (Permᴰ.symm p) (here refl)) on (successors_owned q a f r i o) | inr i ↦ h f (In-perm (Permᴰ.symm p) (there i)) l o ])
 
 -- so nothing of q's names is met after q's return
-pub unmet : {n nodes places : ℕ} {L' : List Frame} {es : List Entry} (q : Frame) (a : Action) (R : List Frame) → Permᴰ (successors q a ++ R) L' → LiveRun n nodes places L' es → Disjoint (q ∷ R) → (r : Name) → Owns q r → a ≡ return → entriesOf r es ≡ []
-unmet q a R p' g c r o e = unowned g r (λ f m l o'. elim (In-cases (successors q return) (rw e at (In-perm (Permᴰ.symm p') m))) [ inl i ↦ gone-returned q f (In-one i) l | inr i ↦ c.0 f i r o o' ])
+pub unmet : {n nodes places : ℕ} {L' : List Frame} {es : List Entry} (q : Frame) (a : Action) (R : List Frame) → Permᴰ (successors q a ++ R) L' → LiveRun n nodes places L' es → Disjoint (q ∷ R) → (r : Name) → Owns q r → a ≡ return → entries_of r es ≡ []
+unmet q a R p' g c r o e = unowned g r (λ f m l o'. elim (In-cases (successors q return) (rw e at (In-perm (Permᴰ.symm p') m))) [ inl i ↦ gone_returned q f (In-one i) l | inr i ↦ c.0 f i r o o' ])
 
 -- a frame that has not returned does not end
 pub still : {L : List Frame} {q f : Frame} {R : List Frame} → Permᴰ L (q ∷ R) → Ends q R → In f L → f.returning ≡ false → In f R
@@ -41,45 +41,45 @@ still p e m l = elim (In-cons (In-perm p m)) [ inl d ↦ absurd (true≢false (s
 
 -- of each name that a live frame owns which has not returned, the frame's child-first list has all the steps that are left
 abbrev Keeps : List Entry → List Frame → Type 0
-Keeps es L = (f : Frame) → In f L → f.returning ≡ false → (r : Name) → Owns f r → entriesOf r (childFirst es f.name (suc f.spawned)) ≡ entriesOf r es
+Keeps es L = (f : Frame) → In f L → f.returning ≡ false → (r : Name) → Owns f r → entries_of r (child_first es f.name (suc f.spawned)) ≡ entries_of r es
 
-steps-kept-mine : (q : Frame) (a : Action) (es : List Entry) (r : Name) → q.returning ≡ false → Keeps es (successors q a) → ((a ≡ return) → entriesOf r es ≡ []) → Owns q r
-    → entriesOf r (follow a (entry q a) (childFirst es (suc q.spawned ∷ q.name) 1) (childFirst es q.name (suc (suc q.spawned))) (childFirst es q.name (suc q.spawned))) ≡ entriesOf r (entry q a ∷ es)
-steps-kept-mine q spawn es r on ih out o =
-    of_cons r (entry q spawn) (inner ++ after) es (of-append r inner after ∙ elim (owns_split q.name q.spawned r o) [
-      | inl c ↦ ap₂ ◌++◌ (ih (child q) (here refl) refl r c) (of-foreign r es q.name (suc q.spawned) (λ d. owns-apart q.name q.spawned r c d)) ∙ append-nil (entriesOf r es)
-      | inr d ↦ ap₂ ◌++◌ (of-foreign r es (suc q.spawned ∷ q.name) 0 (λ c. owns-apart q.name q.spawned r c d)) (ih (afterSpawn q) (there (here refl)) on r d)
+steps_kept_mine : (q : Frame) (a : Action) (es : List Entry) (r : Name) → q.returning ≡ false → Keeps es (successors q a) → ((a ≡ return) → entries_of r es ≡ []) → Owns q r
+    → entries_of r (follow a (entry q a) (child_first es (suc q.spawned ∷ q.name) 1) (child_first es q.name (suc (suc q.spawned))) (child_first es q.name (suc q.spawned))) ≡ entries_of r (entry q a ∷ es)
+steps_kept_mine q spawn es r on ih out o =
+    of_cons r (entry q spawn) (inner ++ after) es (of_append r inner after ∙ elim (owns_split q.name q.spawned r o) [
+      | inl c ↦ ap₂ ◌++◌ (ih (child q) (here refl) refl r c) (of_foreign r es q.name (suc q.spawned) (λ d. owns_apart q.name q.spawned r c d)) ∙ append-nil (entries_of r es)
+      | inr d ↦ ap₂ ◌++◌ (of_foreign r es (suc q.spawned ∷ q.name) 0 (λ c. owns_apart q.name q.spawned r c d)) (ih (after_spawn q) (there (here refl)) on r d)
     ])
   where
     inner : List Entry
-    inner = childFirst es (suc q.spawned ∷ q.name) 1
+    inner = child_first es (suc q.spawned ∷ q.name) 1
 
     after : List Entry
-    after = childFirst es q.name (suc (suc q.spawned))
-steps-kept-mine q return es r on ih out o = of_cons r (entry q return) (childFirst es q.name (suc q.spawned)) es (of-within r es q.name (suc q.spawned) (out refl) ∙ sym (out refl))
-steps-kept-mine q sync es r on ih out o = of_cons r (entry q sync) (childFirst es q.name (suc q.spawned)) es (ih q (here refl) on r o)
-steps-kept-mine q (read x) es r on ih out o = of_cons r (entry q (read x)) (childFirst es q.name (suc q.spawned)) es (ih q (here refl) on r o)
-steps-kept-mine q (fold x y) es r on ih out o = of_cons r (entry q (fold x y)) (childFirst es q.name (suc q.spawned)) es (ih q (here refl) on r o)
-steps-kept-mine q (write x v) es r on ih out o = of_cons r (entry q (write x v)) (childFirst es q.name (suc q.spawned)) es (ih (written q x v) (here refl) on r o)
+    after = child_first es q.name (suc (suc q.spawned))
+steps_kept_mine q return es r on ih out o = of_cons r (entry q return) (child_first es q.name (suc q.spawned)) es (of_within r es q.name (suc q.spawned) (out refl) ∙ sym (out refl))
+steps_kept_mine q sync es r on ih out o = of_cons r (entry q sync) (child_first es q.name (suc q.spawned)) es (ih q (here refl) on r o)
+steps_kept_mine q (read x) es r on ih out o = of_cons r (entry q (read x)) (child_first es q.name (suc q.spawned)) es (ih q (here refl) on r o)
+steps_kept_mine q (fold x y) es r on ih out o = of_cons r (entry q (fold x y)) (child_first es q.name (suc q.spawned)) es (ih q (here refl) on r o)
+steps_kept_mine q (write x v) es r on ih out o = of_cons r (entry q (write x v)) (child_first es q.name (suc q.spawned)) es (ih (written q x v) (here refl) on r o)
 
-steps-kept-acted : {n nodes places : ℕ} {L L' : List Frame} {es : List Entry} (q : Frame) (a : Action) (R : List Frame) → Permᴰ L (q ∷ R) → q.returning ≡ false → Permᴰ (successors q a ++ R) L'
+steps_kept_acted : {n nodes places : ℕ} {L L' : List Frame} {es : List Entry} (q : Frame) (a : Action) (R : List Frame) → Permᴰ L (q ∷ R) → q.returning ≡ false → Permᴰ (successors q a ++ R) L'
     → LiveRun n nodes places L' es → Disjoint (q ∷ R) → Keeps es L' → Keeps (entry q a ∷ es) L
-steps-kept-acted {es = es} q a R p on p' g c ih f m l r o =
+steps_kept_acted {es = es} q a R p on p' g c ih f m l r o =
     elim (In-cons (In-perm p m)) [
-      | inl e ↦ rw (e, childFirst-mine (entry q a) es q.name (suc q.spawned) (same_refl q.name))
-          (steps-kept-mine q a es r on (λ f' m'. ih f' (In-perm p' (In-left R m'))) (unmet q a R p' g c r (rw e at o)) (rw e at o))
+      | inl e ↦ rw (e, child_first_mine (entry q a) es q.name (suc q.spawned) (same_refl q.name))
+          (steps_kept_mine q a es r on (λ f' m'. ih f' (In-perm p' (In-left R m'))) (unmet q a R p' g c r (rw e at o)) (rw e at o))
       | inr i ↦ of_other i
     ]
   where
-    of_other : In f R → entriesOf r (childFirst (entry q a ∷ es) f.name (suc f.spawned)) ≡ entriesOf r (entry q a ∷ es)
+    of_other : In f R → entries_of r (child_first (entry q a ∷ es) f.name (suc f.spawned)) ≡ entries_of r (entry q a ∷ es)
     of_other i =
         rw (
-          childFirst-skip (entry q a) es f.name (suc f.spawned) (same-differ (λ d. c.0 f i q.name (inl refl) (inl d))),
-          of-skip r (entry q a) es (same-differ (λ d. c.0 f i r (inl (sym d)) o)),
+          child_first_skip (entry q a) es f.name (suc f.spawned) (same_differ (λ d. c.0 f i q.name (inl refl) (inl d))),
+          of_skip r (entry q a) es (same_differ (λ d. c.0 f i r (inl (sym d)) o)),
         )
         (ih f (In-perm p' (In-right (successors q a) i)) l r o)
 
-pub steps-kept : (n nodes places : ℕ) {L : List Frame} {es : List Entry} → LiveRun n nodes places L es → Disjoint L → Keeps es L
-steps-kept n nodes places =
+pub steps_kept : (n nodes places : ℕ) {L : List Frame} {es : List Entry} → LiveRun n nodes places L es → Disjoint L → Keeps es L
+steps_kept n nodes places =
     backward n nodes places Keeps (λ f m. absurd (not-in-nil m)) (λ L L' es p k f m. k f (In-perm p m)) (λ L es q R p e k f m l. k f (still p e m l) l)
-    (λ L L' es q a R p on ok p' g c ih. steps-kept-acted q a R p on p' g c ih)
+    (λ L L' es q a R p on ok p' g c ih. steps_kept_acted q a R p on p' g c ih)

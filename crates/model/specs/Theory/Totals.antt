@@ -13,35 +13,35 @@ use mathlib.Core.List.{Memᴰ as In}
 use mathlib.Core.List.Permᴰ
 use Rattle.words.specs.Basics.{same}
 use Rattle.words.specs.Tests.{true≢false, decided}
-use Rattle.words.specs.Distinct.{same-eq, same_refl, same_of, same-differ}
+use Rattle.words.specs.Distinct.{same_eq, same_refl, same_of, same_differ}
 use Rattle.words.specs.Lists.{In-perm}
 use Rattle.words.specs.NoDup.{NoDup}
 use Rattle.model.specs.declared.Step.{Step}
-use Rattle.model.specs.Machine.{Name, Frame, Machine, live, hasFrame, main, start}
+use Rattle.model.specs.Machine.{Name, Frame, Machine, live, has_frame, main, start}
 use Rattle.model.specs.Steps.{Action, spawn, return, sync, read, write, fold, Turn, acting, stealing, turn_of, child, after_turn}
-use Rattle.model.specs.Run.{run, Returned, Entry, entry, bottomEntry, turnEntry, trace, entriesOf, follow}
-use Rattle.model.specs.Demand3.{traceOf, oneWorkerOf}
-use Rattle.model.specs.Views.{Folded, View, Views, viewsAtStart, became, viewsActed, bottomViews, turnViews, joinEnded, runViews, totalsOf, foldedBy, foldsIn, mainFolds}
+use Rattle.model.specs.Run.{run, Returned, Entry, entry, bottom_entry, turn_entry, trace, entries_of, follow}
+use Rattle.model.specs.Demand3.{trace_of, one_worker_of}
+use Rattle.model.specs.Views.{Folded, View, Views, views_at_start, became, views_acted, bottom_views, turn_views, join_ended, run_views, totals_of, folded_by, folds_in, main_folds}
 use Rattle.model.specs.Theory.Names.{below}
-use Rattle.model.specs.Theory.ChildFirst.{childFirst, childFirst-skip, childFirst-mine, childFirst-none}
-use Rattle.model.specs.Theory.LiveRun.{successors, LiveRun, Owns, Disjoint, disjoint-perm, disjoint-acted}
+use Rattle.model.specs.Theory.ChildFirst.{child_first, child_first_skip, child_first_mine, child_first-none}
+use Rattle.model.specs.Theory.LiveRun.{successors, LiveRun, Owns, Disjoint, disjoint_perm, disjoint_acted}
 use Rattle.model.specs.Theory.StepsKept.{unowned}
 use Rattle.model.specs.Theory.Effects.{Passes, rest, live-start, Acts, acts, steals}
-use Rattle.model.specs.Theory.RunSteps.{accepted-or-refused}
-use Rattle.model.specs.Theory.FrameTree.{FrameTree, tree-turn, tree-start}
+use Rattle.model.specs.Theory.RunSteps.{accepted_or_refused}
+use Rattle.model.specs.Theory.FrameTree.{FrameTree, tree_turn, tree-start}
 use Rattle.model.specs.Theory.DequeShape.{DequeInvariant}
-use Rattle.model.specs.Theory.Deques.{deques-turn, deques-start}
+use Rattle.model.specs.Theory.Deques.{deques_turn, deques-start}
 use Rattle.model.specs.Theory.RunLive.{live-run}
-use Rattle.model.specs.Theory.MainEnds.{In-hasFrame, returned-ends}
-use Rattle.model.specs.Theory.ViewNames.{viewNames, bottomNames, settles-in, views-accepted, views-refused, view-names-turn, NamesOf, acted-alive, child-new}
-use Rattle.model.specs.Theory.PostOrder.{post-nodup, InPostOrder, post-start, views-turn}
-use Rattle.model.specs.Theory.Demand3Proof.{main-list, same-list, demand3}
+use Rattle.model.specs.Theory.MainEnds.{In-hasFrame, returned_ends}
+use Rattle.model.specs.Theory.ViewNames.{view_names, bottom_names, settles_in, views_accepted, views_refused, view_names_turn, NamesOf, acted_alive, child_new}
+use Rattle.model.specs.Theory.PostOrder.{post_nodup, InPostOrder, post_start, views_turn}
+use Rattle.model.specs.Theory.Demand3Proof.{main_list, same_list, demand3}
 
 -- ---- lists
 
-folds-append : (es fs : List Entry) → foldsIn (es ++ fs) ≡ foldsIn es ++ foldsIn fs
+folds-append : (es fs : List Entry) → folds_in (es ++ fs) ≡ folds_in es ++ folds_in fs
 folds-append [] fs = refl
-folds-append (e ∷ es) fs = ap (λ z. foldedBy e.action ++ z) (folds-append es fs) ∙ sym (append_assoc (foldedBy e.action) (foldsIn es) (foldsIn fs))
+folds-append (e ∷ es) fs = ap (λ z. folded_by e.action ++ z) (folds-append es fs) ∙ sym (append_assoc (folded_by e.action) (folds_in es) (folds_in fs))
 
 -- how many spawns each name has made, as the live frames have it
 abbrev pub Counts : (Name → ℕ) → List Frame → Type 0
@@ -49,7 +49,7 @@ Counts s L = (f : Frame) → In f L → s f.name ≡ f.spawned
 
 -- what is left to fold for the frame p and its children to come
 abbrev left : (Name → ℕ) → List Entry → Name → List Folded
-left s es p = foldsIn (childFirst es p (suc (s p)))
+left s es p = folds_in (child_first es p (suc (s p)))
 
 -- the views, each with what its frame will still fold
 abbrev whole : (Name → ℕ) → List Entry → List View → List Folded
@@ -59,23 +59,23 @@ whole s es (v ∷ vs) = v.folds ++ (left s es v.name ++ whole s es vs)
 -- ---- frames that end
 
 -- a frame that ends has nothing left to fold
-join-keeps : (s : Name → ℕ) (es : List Entry) (L : List Frame) (ended : List Folded) (vs : List View) (totals : List Folded) → ((n : Name) → In n (viewNames vs) → hasFrame n L ≡ false → entriesOf n es ≡ [])
-    → whole s es (joinEnded L ended vs totals).views ++ (joinEnded L ended vs totals).totals ≡ ended ++ (whole s es vs ++ totals)
-join-keeps s es L ended [] totals h = refl
-join-keeps s es L ended (v ∷ vs) totals h =
-    elim (decided (hasFrame v.name L)) [
-      | inl t ↦ rw t (stays (join-keeps s es L [] vs totals (λ x m. h x (there m))))
-      | inr t ↦ rw t (join-keeps s es L (ended ++ v.folds) vs totals (λ x m. h x (there m)) ∙ ends (ap foldsIn (childFirst-none es v.name (suc (s v.name)) (h v.name (here refl) t))))
+join_keeps : (s : Name → ℕ) (es : List Entry) (L : List Frame) (ended : List Folded) (vs : List View) (totals : List Folded) → ((n : Name) → In n (view_names vs) → has_frame n L ≡ false → entries_of n es ≡ [])
+    → whole s es (join_ended L ended vs totals).views ++ (join_ended L ended vs totals).totals ≡ ended ++ (whole s es vs ++ totals)
+join_keeps s es L ended [] totals h = refl
+join_keeps s es L ended (v ∷ vs) totals h =
+    elim (decided (has_frame v.name L)) [
+      | inl t ↦ rw t (stays (join_keeps s es L [] vs totals (λ x m. h x (there m))))
+      | inr t ↦ rw t (join_keeps s es L (ended ++ v.folds) vs totals (λ x m. h x (there m)) ∙ ends (ap folds_in (child_first-none es v.name (suc (s v.name)) (h v.name (here refl) t))))
     ]
   where
-    rest-views : Views
-    rest-views = joinEnded L [] vs totals
+    rest_views : Views
+    rest_views = join_ended L [] vs totals
 
-    stays : whole s es rest-views.views ++ rest-views.totals ≡ whole s es vs ++ totals
-        → ((ended ++ v.folds) ++ (left s es v.name ++ whole s es rest-views.views)) ++ rest-views.totals ≡ ended ++ ((v.folds ++ (left s es v.name ++ whole s es vs)) ++ totals)
+    stays : whole s es rest_views.views ++ rest_views.totals ≡ whole s es vs ++ totals
+        → ((ended ++ v.folds) ++ (left s es v.name ++ whole s es rest_views.views)) ++ rest_views.totals ≡ ended ++ ((v.folds ++ (left s es v.name ++ whole s es vs)) ++ totals)
     stays e =
-        append_assoc (ended ++ v.folds) (left s es v.name ++ whole s es rest-views.views) rest-views.totals
-        ∙ ap (λ z. (ended ++ v.folds) ++ z) (append_assoc (left s es v.name) (whole s es rest-views.views) rest-views.totals ∙ ap (λ z. left s es v.name ++ z) e)
+        append_assoc (ended ++ v.folds) (left s es v.name ++ whole s es rest_views.views) rest_views.totals
+        ∙ ap (λ z. (ended ++ v.folds) ++ z) (append_assoc (left s es v.name) (whole s es rest_views.views) rest_views.totals ∙ ap (λ z. left s es v.name ++ z) e)
         ∙ append_assoc ended v.folds (left s es v.name ++ (whole s es vs ++ totals))
         ∙ ap (λ z. ended ++ z) (sym (append_assoc v.folds (left s es v.name ++ whole s es vs) totals ∙ ap (λ z. v.folds ++ z) (append_assoc (left s es v.name) (whole s es vs) totals)))
 
@@ -93,68 +93,68 @@ counted q (read x) s r = s r
 counted q (write x y) s r = s r
 counted q (fold x y) s r = s r
 
-pub counted-other : (q : Frame) (a : Action) (s : Name → ℕ) (r : Name) → r ≢ q.name → r ≢ (child q).name → counted q a s r ≡ s r
-counted-other q spawn s r n c = rw (same-differ n, same-differ c)
-counted-other q return s r n c = refl
-counted-other q sync s r n c = refl
-counted-other q (read x) s r n c = refl
-counted-other q (write x y) s r n c = refl
-counted-other q (fold x y) s r n c = refl
+pub counted_other : (q : Frame) (a : Action) (s : Name → ℕ) (r : Name) → r ≢ q.name → r ≢ (child q).name → counted q a s r ≡ s r
+counted_other q spawn s r n c = rw (same_differ n, same_differ c)
+counted_other q return s r n c = refl
+counted_other q sync s r n c = refl
+counted_other q (read x) s r n c = refl
+counted_other q (write x y) s r n c = refl
+counted_other q (fold x y) s r n c = refl
 
 pub counted-child : (q : Frame) (s : Name → ℕ) → counted q spawn s (child q).name ≡ 0
-counted-child q s = rw (same-differ {x = (child q).name} {y = q.name} (λ e. omega (arith, ap length e)), same_refl (suc q.spawned ∷ q.name))
+counted-child q s = rw (same_differ {x = (child q).name} {y = q.name} (λ e. omega (arith, ap length e)), same_refl (suc q.spawned ∷ q.name))
 
-pub counted-own : (q : Frame) (s : Name → ℕ) → counted q spawn s q.name ≡ suc q.spawned
-counted-own q s = rw (same_refl q.name)
+pub counted_own : (q : Frame) (s : Name → ℕ) → counted q spawn s q.name ≡ suc q.spawned
+counted_own q s = rw (same_refl q.name)
 
-whole-skip : (q : Frame) (a : Action) (s : Name → ℕ) (es : List Entry) (vs : List View) → (In q.name (viewNames vs) → ⊥) → (In (child q).name (viewNames vs) → ⊥) → whole s (entry q a ∷ es) vs ≡ whole (counted q a s) es vs
-whole-skip q a s es [] n c = refl
-whole-skip q a s es (v ∷ vs) n c =
+whole_skip : (q : Frame) (a : Action) (s : Name → ℕ) (es : List Entry) (vs : List View) → (In q.name (view_names vs) → ⊥) → (In (child q).name (view_names vs) → ⊥) → whole s (entry q a ∷ es) vs ≡ whole (counted q a s) es vs
+whole_skip q a s es [] n c = refl
+whole_skip q a s es (v ∷ vs) n c =
     ap₂ (λ x y. v.folds ++ (x ++ y))
-    (ap foldsIn (childFirst-skip (entry q a) es v.name (suc (s v.name)) (same-differ (λ e. n (here e))))
-    ∙ ap (λ z. foldsIn (childFirst es v.name (suc z))) (sym (counted-other q a s v.name (λ e. n (here (sym e))) (λ e. c (here (sym e))))))
-    (whole-skip q a s es vs (λ m. n (there m)) (λ m. c (there m)))
+    (ap folds_in (child_first_skip (entry q a) es v.name (suc (s v.name)) (same_differ (λ e. n (here e))))
+    ∙ ap (λ z. folds_in (child_first es v.name (suc z))) (sym (counted_other q a s v.name (λ e. n (here (sym e))) (λ e. c (here (sym e))))))
+    (whole_skip q a s es vs (λ m. n (there m)) (λ m. c (there m)))
 
 -- what q was to fold is what it has folded now, and what its successors are to fold
-whole-mine : (q : Frame) (a : Action) (s : Name → ℕ) (es : List Entry) (v : View) (vs : List View) (tail : List Folded) → v.name ≡ q.name → s q.name ≡ q.spawned → whole (counted q a s) es vs ≡ tail
+whole_mine : (q : Frame) (a : Action) (s : Name → ℕ) (es : List Entry) (v : View) (vs : List View) (tail : List Folded) → v.name ≡ q.name → s q.name ≡ q.spawned → whole (counted q a s) es vs ≡ tail
     → v.folds ++ (left s (entry q a ∷ es) v.name ++ tail) ≡ whole (counted q a s) es (became q a v ++ vs)
-whole-mine q a s es v vs tail n k e = ap (λ z. v.folds ++ (foldsIn z ++ tail)) (ap (λ z. childFirst (entry q a ∷ es) z (suc (s z))) n ∙ ap (λ z. childFirst (entry q a ∷ es) q.name (suc z)) k ∙ childFirst-mine (entry q a) es q.name (suc q.spawned) (same_refl q.name)) ∙ by_kind a e
+whole_mine q a s es v vs tail n k e = ap (λ z. v.folds ++ (folds_in z ++ tail)) (ap (λ z. child_first (entry q a ∷ es) z (suc (s z))) n ∙ ap (λ z. child_first (entry q a ∷ es) q.name (suc z)) k ∙ child_first_mine (entry q a) es q.name (suc q.spawned) (same_refl q.name)) ∙ by_kind a e
   where
     on : List Entry
-    on = childFirst es q.name (suc q.spawned)
+    on = child_first es q.name (suc q.spawned)
 
     inner : List Entry
-    inner = childFirst es (suc q.spawned ∷ q.name) 1
+    inner = child_first es (suc q.spawned ∷ q.name) 1
 
     after : List Entry
-    after = childFirst es q.name (suc (suc q.spawned))
+    after = child_first es q.name (suc (suc q.spawned))
 
-    same_left : foldsIn on ≡ left s es v.name
-    same_left = sym (ap (λ z. foldsIn (childFirst es z (suc (s z)))) n ∙ ap (λ z. foldsIn (childFirst es q.name (suc z))) k)
+    same_left : folds_in on ≡ left s es v.name
+    same_left = sym (ap (λ z. folds_in (child_first es z (suc (s z)))) n ∙ ap (λ z. folds_in (child_first es q.name (suc z))) k)
 
-    by_kind : (a : Action) → whole (counted q a s) es vs ≡ tail → v.folds ++ (foldsIn (follow a (entry q a) inner after on) ++ tail) ≡ whole (counted q a s) es (became q a v ++ vs)
+    by_kind : (a : Action) → whole (counted q a s) es vs ≡ tail → v.folds ++ (folds_in (follow a (entry q a) inner after on) ++ tail) ≡ whole (counted q a s) es (became q a v ++ vs)
     by_kind spawn e =
-        ap (λ z. v.folds ++ z) (ap (λ z. z ++ tail) (folds-append inner after) ∙ append_assoc (foldsIn inner) (foldsIn after) tail ∙
-        ap₂ ◌++◌ (ap (λ z. foldsIn (childFirst es (suc q.spawned ∷ q.name) (suc z))) (sym (counted-child q s)))
-        (ap₂ ◌++◌ (ap (λ z. foldsIn (childFirst es q.name (suc z))) (sym (counted-own q s))) (sym e)))
+        ap (λ z. v.folds ++ z) (ap (λ z. z ++ tail) (folds-append inner after) ∙ append_assoc (folds_in inner) (folds_in after) tail ∙
+        ap₂ ◌++◌ (ap (λ z. folds_in (child_first es (suc q.spawned ∷ q.name) (suc z))) (sym (counted-child q s)))
+        (ap₂ ◌++◌ (ap (λ z. folds_in (child_first es q.name (suc z))) (sym (counted_own q s))) (sym e)))
     by_kind return e = ap₂ (λ x y. v.folds ++ (x ++ y)) same_left (sym e)
     by_kind sync e = ap₂ (λ x y. v.folds ++ (x ++ y)) same_left (sym e)
     by_kind (read x) e = ap₂ (λ x y. v.folds ++ (x ++ y)) same_left (sym e)
     by_kind (write x y) e = ap₂ (λ x y. v.folds ++ (x ++ y)) same_left (sym e)
     by_kind (fold r x) e =
-        sym (append_assoc v.folds ((r, x) ∷ []) (foldsIn on ++ tail)) ∙
-        ap₂ (λ x' y. (v.folds ++ ((r, x) ∷ [])) ++ (x' ++ y)) (ap (λ z. foldsIn (childFirst es q.name (suc z))) (sym k)) (sym e)
+        sym (append_assoc v.folds ((r, x) ∷ []) (folds_in on ++ tail)) ∙
+        ap₂ (λ x' y. (v.folds ++ ((r, x) ∷ [])) ++ (x' ++ y)) (ap (λ z. folds_in (child_first es q.name (suc z))) (sym k)) (sym e)
 
-whole-acted : (q : Frame) (a : Action) (s : Name → ℕ) (es : List Entry) (vs : List View) → s q.name ≡ q.spawned → NoDup (viewNames vs) → (In (child q).name (viewNames vs) → ⊥)
-    → whole s (entry q a ∷ es) vs ≡ whole (counted q a s) es (viewsActed q a vs)
-whole-acted q a s es [] k u c = refl
-whole-acted q a s es (v ∷ vs) k u c =
+whole_acted : (q : Frame) (a : Action) (s : Name → ℕ) (es : List Entry) (vs : List View) → s q.name ≡ q.spawned → NoDup (view_names vs) → (In (child q).name (view_names vs) → ⊥)
+    → whole s (entry q a ∷ es) vs ≡ whole (counted q a s) es (views_acted q a vs)
+whole_acted q a s es [] k u c = refl
+whole_acted q a s es (v ∷ vs) k u c =
     elim (decided (same v.name q.name)) [
-      | inl t ↦ rw t (let n = same-eq v.name q.name t in whole-mine q a s es v vs (whole s (entry q a ∷ es) vs) n k (sym (whole-skip q a s es vs (λ m. u.0 (Memᴰ.cast n m)) (λ m. c (there m)))))
+      | inl t ↦ rw t (let n = same_eq v.name q.name t in whole_mine q a s es v vs (whole s (entry q a ∷ es) vs) n k (sym (whole_skip q a s es vs (λ m. u.0 (Memᴰ.cast n m)) (λ m. c (there m)))))
       | inr t ↦ rw t (ap₂ (λ x y. v.folds ++ (x ++ y))
-          (ap foldsIn (childFirst-skip (entry q a) es v.name (suc (s v.name)) (same-differ (λ e. differs t (sym e))))
-          ∙ ap (λ z. foldsIn (childFirst es v.name (suc z))) (sym (counted-other q a s v.name (differs t) (λ e. c (here (sym e))))))
-          (whole-acted q a s es vs k u.1 (λ m. c (there m))))
+          (ap folds_in (child_first_skip (entry q a) es v.name (suc (s v.name)) (same_differ (λ e. differs t (sym e))))
+          ∙ ap (λ z. folds_in (child_first es v.name (suc z))) (sym (counted_other q a s v.name (differs t) (λ e. c (here (sym e))))))
+          (whole_acted q a s es vs k u.1 (λ m. c (there m))))
     ]
   where
     differs : same v.name q.name ≡ false → v.name ≢ q.name
@@ -163,22 +163,22 @@ whole-acted q a s es (v ∷ vs) k u c =
 -- ---- the live frames after it
 
 -- a name has one owner
-one-owner : (L : List Frame) → Disjoint L → (f g : Frame) → In f L → In g L → (r : Name) → Owns f r → Owns g r → f ≡ g
-one-owner [] c f g mf mg r o o' = absurd (not-in-nil mf)
-one-owner (x ∷ L) c f g mf mg r o o' = elim (In-cons mf) [
+one_owner : (L : List Frame) → Disjoint L → (f g : Frame) → In f L → In g L → (r : Name) → Owns f r → Owns g r → f ≡ g
+one_owner [] c f g mf mg r o o' = absurd (not-in-nil mf)
+one_owner (x ∷ L) c f g mf mg r o o' = elim (In-cons mf) [
   | inl df ↦ elim (In-cons mg) [ inl dg ↦ df ∙ sym dg | inr ig ↦ absurd (c.0 g ig r (subst (λ z. Owns z r) df o) o') ]
-  | inr if' ↦ elim (In-cons mg) [ inl dg ↦ absurd (c.0 f if' r (subst (λ z. Owns z r) dg o') o) | inr ig ↦ one-owner L c.1 f g if' ig r o o' ]
+  | inr if' ↦ elim (In-cons mg) [ inl dg ↦ absurd (c.0 f if' r (subst (λ z. Owns z r) dg o') o) | inr ig ↦ one_owner L c.1 f g if' ig r o o' ]
 ]
 
-pub counts-acted : (q : Frame) (a : Action) (R : List Frame) (s : Name → ℕ) → Disjoint (q ∷ R) → Counts s (q ∷ R) → Counts (counted q a s) (successors q a ++ R)
-counts-acted q a R s c k f m = elim (In-cases (successors q a) m) [ inl i ↦ new a i | inr i ↦ counted-other q a s f.name (λ e. c.0 f i q.name (inl refl) (inl (sym e))) (λ e. c.0 f i f.name (inr (subst (λ z. below q.name q.spawned z) (sym e) (inl (refl, omega arith)))) (inl refl)) ∙ k f (there i) ]
+pub counts_acted : (q : Frame) (a : Action) (R : List Frame) (s : Name → ℕ) → Disjoint (q ∷ R) → Counts s (q ∷ R) → Counts (counted q a s) (successors q a ++ R)
+counts_acted q a R s c k f m = elim (In-cases (successors q a) m) [ inl i ↦ new a i | inr i ↦ counted_other q a s f.name (λ e. c.0 f i q.name (inl refl) (inl (sym e))) (λ e. c.0 f i f.name (inr (subst (λ z. below q.name q.spawned z) (sym e) (inl (refl, omega arith)))) (inl refl)) ∙ k f (there i) ]
   where
     own : s q.name ≡ q.spawned
     own = k q (here refl)
 
     new : (a : Action) → In f (successors q a) → counted q a s f.name ≡ f.spawned
     new spawn (here e) = rw e (counted-child q s)
-    new spawn (there (here e)) = rw e (counted-own q s)
+    new spawn (there (here e)) = rw e (counted_own q s)
     new return (here e) = rw e own
     new sync (here e) = rw e own
     new (read x) (here e) = rw e own
@@ -188,14 +188,14 @@ counts-acted q a R s c k f m = elim (In-cases (successors q a) m) [ inl i ↦ ne
 -- ---- a run
 
 pub silent : {n nodes places : ℕ} {L₁ L' : List Frame} {es : List Entry} → Disjoint L₁ → ((f : Frame) → In f L' → In f L₁) → LiveRun n nodes places L' es
-    → (p : Name) → (f : Frame) × In f L₁ × (f.name ≡ p) → hasFrame p L' ≡ false → entriesOf p es ≡ []
+    → (p : Name) → (f : Frame) × In f L₁ × (f.name ≡ p) → has_frame p L' ≡ false → entries_of p es ≡ []
 silent {L₁ = L₁} {L' = L'} c sub g p x h = unowned g p (λ f m l o.
-    let e = one-owner L₁ c f x.0 (sub f m) x.1 p o (inl (sym x.2)) in
+    let e = one_owner L₁ c f x.0 (sub f m) x.1 p o (inl (sym x.2)) in
     true≢false (sym (In-hasFrame p L' f m (ap (λ z. z.name) e ∙ x.2)) ∙ h))
 
-none-viewed : (vs : List View) → NamesOf [] (viewNames vs) → vs ≡ []
-none-viewed [] k = refl
-none-viewed (v ∷ vs) k = absurd (not-in-nil (k.alive v.name (here refl)).1)
+none_viewed : (vs : List View) → NamesOf [] (view_names vs) → vs ≡ []
+none_viewed [] k = refl
+none_viewed (v ∷ vs) k = absurd (not-in-nil (k.alive v.name (here refl)).1)
 
 -- what an accepted turn does to the live frames, their views and counts, before the frames that end have ended
 record Moves (M : Machine) (t : Turn) (vs : List View) (s : Name → ℕ) : Type 0 where
@@ -203,20 +203,20 @@ record Moves (M : Machine) (t : Turn) (vs : List View) (s : Name → ℕ) : Type
   counts : Name → ℕ
   disjoint : Disjoint frames
   within : (f : Frame) → In f (live (after_turn M t)) → In f frames
-  viewed : (n : Name) → In n (viewNames (turnViews M t vs)) → (f : Frame) × In f frames × (f.name ≡ n)
+  viewed : (n : Name) → In n (view_names (turn_views M t vs)) → (f : Frame) × In f frames × (f.name ≡ n)
   counted-right : Counts counts frames
-  same_whole : (es : List Entry) → whole s (turnEntry M t ++ es) vs ≡ whole counts es (turnViews M t vs)
+  same_whole : (es : List Entry) → whole s (turn_entry M t ++ es) vs ≡ whole counts es (turn_views M t vs)
 
-moves : (M : Machine) (t : Turn) (vs : List View) (s : Name → ℕ) → Passes M t → FrameTree M → InPostOrder (live M) (viewNames vs) → Counts s (live M) → Moves M t vs s
+moves : (M : Machine) (t : Turn) (vs : List View) (s : Name → ℕ) → Passes M t → FrameTree M → InPostOrder (live M) (view_names vs) → Counts s (live M) → Moves M t vs s
 moves M (acting w a) vs s h tree k cs = record {
   frames = successors q a ++ R;
   counts = counted q a s;
-  disjoint = disjoint-acted q a R c;
-  within = settles-in x.after;
-  viewed = λ n m. acted-alive M w a (viewNames vs) x k.names n (subst (λ d. In n (bottomNames d a (viewNames vs))) x.at (subst (λ l. In n l) (view-names-turn M (acting w a) vs) m));
-  counted-right = counts-acted q a R s c (λ f m. cs f (In-perm (Permᴰ.symm x.before) m));
-  same_whole = subst (λ z. (es : List Entry) → whole s (bottomEntry z a ++ es) vs ≡ whole (counted q a s) es (bottomViews z a vs)) (sym x.at)
-      (λ es. whole-acted q a s es vs (cs q (In-perm (Permᴰ.symm x.before) (here refl))) (post-nodup (viewNames vs) k.post) (child-new M w a (viewNames vs) x tree k.names));
+  disjoint = disjoint_acted q a R c;
+  within = settles_in x.after;
+  viewed = λ n m. acted_alive M w a (view_names vs) x k.names n (subst (λ d. In n (bottom_names d a (view_names vs))) x.at (subst (λ l. In n l) (view_names_turn M (acting w a) vs) m));
+  counted-right = counts_acted q a R s c (λ f m. cs f (In-perm (Permᴰ.symm x.before) m));
+  same_whole = subst (λ z. (es : List Entry) → whole s (bottom_entry z a ++ es) vs ≡ whole (counted q a s) es (bottom_views z a vs)) (sym x.at)
+      (λ es. whole_acted q a s es vs (cs q (In-perm (Permᴰ.symm x.before) (here refl))) (post_nodup (view_names vs) k.post) (child_new M w a (view_names vs) x tree k.names));
 }
   where
     x : Acts M w a
@@ -229,7 +229,7 @@ moves M (acting w a) vs s h tree k cs = record {
     R = x.above ++ rest M w
 
     c : Disjoint (q ∷ R)
-    c = disjoint-perm x.before tree.disjoint
+    c = disjoint_perm x.before tree.disjoint
 moves M (stealing w v) vs s h tree k cs = record {
   frames = live M;
   counts = s;
@@ -241,13 +241,13 @@ moves M (stealing w v) vs s h tree k cs = record {
 }
 
 abbrev TotalsAre : List Step → Machine → Type 0
-TotalsAre ss M = (W : Views) (s : Name → ℕ) → InPostOrder (live M) (viewNames W.views) → Counts s (live M) → live (run M ss) ≡ [] → (runViews M W ss).totals ≡ whole s (trace M ss) W.views ++ W.totals
+TotalsAre ss M = (W : Views) (s : Name → ℕ) → InPostOrder (live M) (view_names W.views) → Counts s (live M) → live (run M ss) ≡ [] → (run_views M W ss).totals ≡ whole s (trace M ss) W.views ++ W.totals
 
-totals-turn : (M : Machine) (t : Turn) (ss : List Step) → Passes M t → FrameTree M → DequeInvariant M → TotalsAre ss (after_turn M t) → (W : Views) (s : Name → ℕ) → InPostOrder (live M) (viewNames W.views) → Counts s (live M) → live (run (after_turn M t) ss) ≡ []
-    → (runViews (after_turn M t) (joinEnded (live (after_turn M t)) [] (turnViews M t W.views) W.totals) ss).totals ≡ whole s (turnEntry M t ++ trace (after_turn M t) ss) W.views ++ W.totals
-totals-turn M t ss h tree dq ih W s k cs e =
-    ih (joinEnded L' [] vs₁ W.totals) m.counts (views-turn M t W h tree k) (λ f i. m.counted-right f (m.within f i)) e
-    ∙ join-keeps m.counts es L' [] vs₁ W.totals (λ n i. silent m.disjoint m.within later n (m.viewed n i))
+totals_turn : (M : Machine) (t : Turn) (ss : List Step) → Passes M t → FrameTree M → DequeInvariant M → TotalsAre ss (after_turn M t) → (W : Views) (s : Name → ℕ) → InPostOrder (live M) (view_names W.views) → Counts s (live M) → live (run (after_turn M t) ss) ≡ []
+    → (run_views (after_turn M t) (join_ended (live (after_turn M t)) [] (turn_views M t W.views) W.totals) ss).totals ≡ whole s (turn_entry M t ++ trace (after_turn M t) ss) W.views ++ W.totals
+totals_turn M t ss h tree dq ih W s k cs e =
+    ih (join_ended L' [] vs₁ W.totals) m.counts (views_turn M t W h tree k) (λ f i. m.counted-right f (m.within f i)) e
+    ∙ join_keeps m.counts es L' [] vs₁ W.totals (λ n i. silent m.disjoint m.within later n (m.viewed n i))
     ∙ ap (λ z. z ++ W.totals) (sym (m.same_whole es))
   where
     m : Moves M t W.views s
@@ -257,40 +257,40 @@ totals-turn M t ss h tree dq ih W s k cs e =
     L' = live (after_turn M t)
 
     vs₁ : List View
-    vs₁ = turnViews M t W.views
+    vs₁ = turn_views M t W.views
 
     es : List Entry
     es = trace (after_turn M t) ss
 
     later : LiveRun (after_turn M t).splitters (after_turn M t).nodes (after_turn M t).places L' es
-    later = live-run _ _ _ (after_turn M t) ss refl refl refl (tree-turn M t h tree) (deques-turn M t h tree dq) e
+    later = live-run _ _ _ (after_turn M t) ss refl refl refl (tree_turn M t h tree) (deques_turn M t h tree dq) e
 
-totals-run : (M : Machine) (ss : List Step) → FrameTree M → DequeInvariant M → TotalsAre ss M
-totals-run M [] tree dq W s k cs e = sym (ap (λ z. whole s [] z ++ W.totals) (none-viewed W.views (subst (λ L. NamesOf L (viewNames W.views)) e k.names)))
-totals-run M (u ∷ ss) tree dq W s k cs e =
-    elim (accepted-or-refused M u) [
-      | inl a ↦ ap₂ (λ N Z. (runViews N Z ss).totals) a.after (views-accepted M W u a)
-          ∙ totals-turn M (turn_of u) ss a.passes tree dq (totals-run (after_turn M (turn_of u)) ss (tree-turn M (turn_of u) a.passes tree) (deques-turn M (turn_of u) a.passes tree dq)) W s k cs (ap (λ N. live (run N ss)) (sym a.after) ∙ e)
+totals_run : (M : Machine) (ss : List Step) → FrameTree M → DequeInvariant M → TotalsAre ss M
+totals_run M [] tree dq W s k cs e = sym (ap (λ z. whole s [] z ++ W.totals) (none_viewed W.views (subst (λ L. NamesOf L (view_names W.views)) e k.names)))
+totals_run M (u ∷ ss) tree dq W s k cs e =
+    elim (accepted_or_refused M u) [
+      | inl a ↦ ap₂ (λ N Z. (run_views N Z ss).totals) a.after (views_accepted M W u a)
+          ∙ totals_turn M (turn_of u) ss a.passes tree dq (totals_run (after_turn M (turn_of u)) ss (tree_turn M (turn_of u) a.passes tree) (deques_turn M (turn_of u) a.passes tree dq)) W s k cs (ap (λ N. live (run N ss)) (sym a.after) ∙ e)
           ∙ ap (λ z. whole s z W.views ++ W.totals) (sym (a.traced ss))
-      | inr r ↦ ap₂ (λ N Z. (runViews N Z ss).totals) r.after (views-refused M W u r) ∙ totals-run M ss tree dq W s k cs (ap (λ N. live (run N ss)) (sym r.after) ∙ e) ∙ ap (λ z. whole s z W.views ++ W.totals) (sym (r.traced ss))
+      | inr r ↦ ap₂ (λ N Z. (run_views N Z ss).totals) r.after (views_refused M W u r) ∙ totals_run M ss tree dq W s k cs (ap (λ N. live (run N ss)) (sym r.after) ∙ e) ∙ ap (λ z. whole s z W.views ++ W.totals) (sym (r.traced ss))
     ]
 
 -- ---- from a start
 
 module _ (w : ℕ) (vs : List ℕ) (nodes places : ℕ) (ss : List Step) (returned : Returned (start w vs nodes places) ss) where
-  totals-childFirst : totalsOf w vs nodes places ss ≡ foldsIn (childFirst (traceOf w vs nodes places ss) [] 1)
-  totals-childFirst =
-      totals-run (start w vs nodes places) ss (tree-start w vs nodes places) (deques-start w vs nodes places) viewsAtStart (λ r. 0) (post-start w vs nodes places) (λ f m. zero-spawned f (subst (λ L. In f L) (live-start w vs nodes places) m)) (returned-ends (start w vs nodes places) ss (tree-start w vs nodes places) returned)
+  totals_child_first : totals_of w vs nodes places ss ≡ folds_in (child_first (trace_of w vs nodes places ss) [] 1)
+  totals_child_first =
+      totals_run (start w vs nodes places) ss (tree-start w vs nodes places) (deques-start w vs nodes places) views_at_start (λ r. 0) (post_start w vs nodes places) (λ f m. zero_spawned f (subst (λ L. In f L) (live-start w vs nodes places) m)) (returned_ends (start w vs nodes places) ss (tree-start w vs nodes places) returned)
       ∙ append-nil _ ∙ append-nil _
     where
-      zero-spawned : (f : Frame) → In f (main vs ∷ []) → 0 ≡ f.spawned
-      zero-spawned f m = ap (λ z. z.spawned) (sym (In-one m))
+      zero_spawned : (f : Frame) → In f (main vs ∷ []) → 0 ≡ f.spawned
+      zero_spawned f m = ap (λ z. z.spawned) (sym (In-one m))
 
   -- "the values folded into its reducer, in the order of Main's child-first list"
-  pub totals-are : totalsOf w vs nodes places ss ≡ mainFolds (traceOf w vs nodes places ss)
-  totals-are = totals-childFirst ∙ ap foldsIn (sym (main-list w vs nodes places ss returned))
+  pub totals_are : totals_of w vs nodes places ss ≡ main_folds (trace_of w vs nodes places ss)
+  totals_are = totals_child_first ∙ ap folds_in (sym (main_list w vs nodes places ss returned))
 
 -- "as in the one-worker run"
-pub totals-same : (w : ℕ) (vs : List ℕ) (nodes places : ℕ) (ss : List Step) → Returned (start w vs nodes places) ss → totalsOf w vs nodes places ss ≡ totalsOf 1 vs nodes places (oneWorkerOf w vs nodes places ss)
-totals-same w vs nodes places ss returned =
-    totals-childFirst w vs nodes places ss returned ∙ ap foldsIn (sym (same-list w vs nodes places ss returned)) ∙ sym (totals-childFirst 1 vs nodes places (oneWorkerOf w vs nodes places ss) (demand3 w vs nodes places ss returned).returns)
+pub totals_same : (w : ℕ) (vs : List ℕ) (nodes places : ℕ) (ss : List Step) → Returned (start w vs nodes places) ss → totals_of w vs nodes places ss ≡ totals_of 1 vs nodes places (one_worker_of w vs nodes places ss)
+totals_same w vs nodes places ss returned =
+    totals_child_first w vs nodes places ss returned ∙ ap folds_in (sym (same_list w vs nodes places ss returned)) ∙ sym (totals_child_first 1 vs nodes places (one_worker_of w vs nodes places ss) (demand3 w vs nodes places ss returned).returns)

@@ -6,9 +6,9 @@ use Rattle.packed.specs.Pool.{refcount, content}
 use Rattle.packed.specs.Theory.Unpacks.{Unpacks, left-same, right-same}
 
 -- of two words
-pub unpacks-elsewhere : {N : ℕ} {tail ws₂ ws₄ : List ℕ} (tail' ws₂' : List ℕ) → ((i : ℕ) → i < 2 * N → get_or ws₂' i 0 ≡ get_or ws₂ i 0) → length ws₂' ≡ 2 * N + length tail' → drop (2 * N) ws₂' ≡ tail'
+pub unpacks_elsewhere : {N : ℕ} {tail ws₂ ws₄ : List ℕ} (tail' ws₂' : List ℕ) → ((i : ℕ) → i < 2 * N → get_or ws₂' i 0 ≡ get_or ws₂ i 0) → length ws₂' ≡ 2 * N + length tail' → drop (2 * N) ws₂' ≡ tail'
     → Unpacks N tail ws₂ ws₄ → Unpacks N tail' ws₂' ws₄
-unpacks-elsewhere {N} {tail} {ws₂} {ws₄} tail' ws₂' same long past U = record {
+unpacks_elsewhere {N} {tail} {ws₂} {ws₄} tail' ws₂' same long past U = record {
   room = U.room;
   long = long;
   past = past;
@@ -25,8 +25,8 @@ unpacks-elsewhere {N} {tail} {ws₂} {ws₄} tail' ws₂' same long past U = rec
     second i b = unfold content in same (2 * i + 1) (omega arith)
 
 -- of four words
-pub unpacks-nodes : {N : ℕ} {tail ws₂ ws₄ ws₄' : List ℕ} → SameNodes N ws₄ ws₄' → Unpacks N tail ws₂ ws₄ → Unpacks N tail ws₂ ws₄'
-unpacks-nodes S U = record {
+pub unpacks_nodes : {N : ℕ} {tail ws₂ ws₄ ws₄' : List ℕ} → SameNodes N ws₄ ws₄' → Unpacks N tail ws₂ ws₄ → Unpacks N tail ws₂ ws₄'
+unpacks_nodes S U = record {
   room = S.room;
   long = U.long;
   past = U.past;

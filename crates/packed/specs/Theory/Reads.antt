@@ -5,32 +5,32 @@ use Rattle.std.proofs.Math.Path.{ap}
 use Prim.Native.Nat.{ℕ, zero, suc, ◌≤◌, ◌<◌, ◌^◌}
 use Rattle.std.proofs.Math.Decide.{ℕ_discrete, dec_le}
 use Rattle.words.specs.Basics.{none, count}
-use Rattle.words.specs.Tests.{ltb-of, nltb-of}
+use Rattle.words.specs.Tests.{ltb_of, nltb_of}
 use Rattle.sizes.specs.Sizes.{bit}
 use Rattle.pool.specs.Pool as Four
 use Rattle.pool.specs.Links.{Link}
-use Rattle.pool.specs.Theory.Invariant.{Invariant, links-at, links-left, links-right, links-leaf}
-use Rattle.pool.specs.Theory.Operations.{Live, root-covers}
-use Rattle.pool.specs.Theory.Walk.{Covers, covers-child}
+use Rattle.pool.specs.Theory.Invariant.{Invariant, links_at, links-left, links-right, links_leaf}
+use Rattle.pool.specs.Theory.Operations.{Live, root_covers}
+use Rattle.pool.specs.Theory.Walk.{Covers, covers_child}
 use Rattle.pool.specs.Theory.Write as FourWrite
-use Rattle.packed.specs.Pool.{refcount, value, left, right, child, sibling, leafOf, readAt, firstShared, rest}
+use Rattle.packed.specs.Pool.{refcount, value, left, right, child, sibling, leaf_of, read_at, first_shared, rest}
 use Rattle.packed.specs.Theory.Unpacks.{Unpacks}
 
 -- ---- the branches of the definitions
 
 module _ (ws : List ℕ) (above i x : ℕ) where
-  pub first-here : (l : ℕ) → 1 < refcount ws i → firstShared l ws above i x ≡ (suc l, i, above)
-  unfolding firstShared
-  first-here zero h = rw (ltb-of h, firstShared)
-  first-here (suc l) h = rw (ltb-of h, firstShared)
+  pub first_here : (l : ℕ) → 1 < refcount ws i → first_shared l ws above i x ≡ (suc l, i, above)
+  unfolding first_shared
+  first_here zero h = rw (ltb_of h, first_shared)
+  first_here (suc l) h = rw (ltb_of h, first_shared)
 
-  pub first-none : refcount ws i ≤ 1 → firstShared zero ws above i x ≡ (0, i, above)
-  unfolding firstShared
-  first-none h = rw (nltb-of h, firstShared)
+  pub first-none : refcount ws i ≤ 1 → first_shared zero ws above i x ≡ (0, i, above)
+  unfolding first_shared
+  first-none h = rw (nltb_of h, first_shared)
 
-  pub first_below : (l : ℕ) → refcount ws i ≤ 1 → firstShared (suc l) ws above i x ≡ firstShared l ws i (child ws i (bit l x)) x
-  unfolding firstShared
-  first_below l h = rw (nltb-of h, firstShared)
+  pub first_below : (l : ℕ) → refcount ws i ≤ 1 → first_shared (suc l) ws above i x ≡ first_shared l ws i (child ws i (bit l x)) x
+  unfolding first_shared
+  first_below l h = rw (nltb_of h, first_shared)
 
 -- ---- an inner node has the same links
 
@@ -49,62 +49,62 @@ module _ {N H : ℕ} {level size : ℕ → ℕ} {ws : List ℕ} {free : ℕ} {fs
   -- the links of an inner node: the left is a node, and the right one or none
   pub inner-links : (l i : ℕ) → i < N → 0 < Four.refcount ws i → level i ≡ suc l → (Four.left ws i < N) × Link N (Four.right ws i)
   inner-links l i b p e =
-      let k = links-at R i (suc l) b p e in (
+      let k = links_at R i (suc l) b p e in (
         (links-left N level size l (size i) (Four.left ws i) (Four.right ws i) k).0,
         elim (ℕ_discrete (Four.right ws i) none) [ yes t ↦ inr t | no t ↦ inl (links-right N level size l (size i) (Four.left ws i) (Four.right ws i) k t).0 ],
       )
 
   -- a leaf has none
-  pub leaf-links : (i : ℕ) → i < N → 0 < Four.refcount ws i → level i ≡ 0 → Four.left ws i ≡ none
-  leaf-links i b p e = (links-leaf N level size (size i) (Four.left ws i) (Four.right ws i) (links-at R i zero b p e)).0
+  pub leaf_links : (i : ℕ) → i < N → 0 < Four.refcount ws i → level i ≡ 0 → Four.left ws i ≡ none
+  leaf_links i b p e = (links_leaf N level size (size i) (Four.left ws i) (Four.right ws i) (links_at R i zero b p e)).0
 
 module _ {N H : ℕ} (most : N ≤ 16384) {level size : ℕ → ℕ} {tail ws₂ ws₄ : List ℕ} {free : ℕ} {fs E : List ℕ} (R : Invariant N H level size ws₄ free fs none E) (U : Unpacks N tail ws₂ ws₄) where
   -- the child on the way to x
-  pub covers-same : (l x i : ℕ) → Covers N level size ws₄ (suc l) x i → (d : ℕ) → child ws₂ i d ≡ Four.child ws₄ i d
-  covers-same l x i K = child-same U i K.inside K.inUse (omega (arith, (inner-links R l i K.inside K.inUse K.atLevel).0))
+  pub covers_same : (l x i : ℕ) → Covers N level size ws₄ (suc l) x i → (d : ℕ) → child ws₂ i d ≡ Four.child ws₄ i d
+  covers_same l x i K = child-same U i K.inside K.in_use (omega (arith, (inner-links R l i K.inside K.in_use K.at_level).0))
 
-  covers-next : (l x i : ℕ) → Covers N level size ws₄ (suc l) x i → Covers N level size ws₄ l x (Four.child ws₄ i (bit l x))
-  covers-next l x i K = covers-child (omega arith) R l x i K
+  covers_next : (l x i : ℕ) → Covers N level size ws₄ (suc l) x i → Covers N level size ws₄ l x (Four.child ws₄ i (bit l x))
+  covers_next l x i K = covers_child (omega arith) R l x i K
 
   -- the leaf, and its value
-  leaf-same : (l x i : ℕ) → Covers N level size ws₄ l x i → (leafOf l ws₂ i x ≡ Four.leafOf l ws₄ i x) × (value ws₂ (leafOf l ws₂ i x) ≡ Four.value ws₄ (Four.leafOf l ws₄ i x))
-  unfolding leafOf Four.leafOf
-  leaf-same zero x i K = (refl, U.leaf i K.inside K.inUse (leaf-links R i K.inside K.inUse K.atLevel))
-  leaf-same (suc l) x i K = rw (covers-same l x i K (bit l x)) (leaf-same l x (Four.child ws₄ i (bit l x)) (covers-next l x i K))
+  leaf_same : (l x i : ℕ) → Covers N level size ws₄ l x i → (leaf_of l ws₂ i x ≡ Four.leaf_of l ws₄ i x) × (value ws₂ (leaf_of l ws₂ i x) ≡ Four.value ws₄ (Four.leaf_of l ws₄ i x))
+  unfolding leaf_of Four.leaf_of
+  leaf_same zero x i K = (refl, U.leaf i K.inside K.in_use (leaf_links R i K.inside K.in_use K.at_level))
+  leaf_same (suc l) x i K = rw (covers_same l x i K (bit l x)) (leaf_same l x (Four.child ws₄ i (bit l x)) (covers_next l x i K))
 
   -- the first node with more holders
-  first-same : (l x above i : ℕ) → Covers N level size ws₄ l x i → firstShared l ws₂ above i x ≡ Four.firstShared l ws₄ above i x
+  first-same : (l x above i : ℕ) → Covers N level size ws₄ l x i → first_shared l ws₂ above i x ≡ Four.first_shared l ws₄ above i x
   first-same zero x above i K = elim (dec_le (Four.refcount ws₄ i) 1) [
     | yes c ↦ first-none ws₂ above i x (omega (arith, U.counts i K.inside)) ∙ sym (FourWrite.first-none ws₄ above i x c)
-    | no c ↦ first-here ws₂ above i x 0 (omega (arith, U.counts i K.inside)) ∙ sym (FourWrite.first-here ws₄ above i x 0 (omega arith))
+    | no c ↦ first_here ws₂ above i x 0 (omega (arith, U.counts i K.inside)) ∙ sym (FourWrite.first_here ws₄ above i x 0 (omega arith))
   ]
   first-same (suc l) x above i K = elim (dec_le (Four.refcount ws₄ i) 1) [
     | yes c ↦ first_below ws₂ above i x l (omega (arith, U.counts i K.inside))
-        ∙ ap (λ j. firstShared l ws₂ i j x) (covers-same l x i K (bit l x))
-        ∙ first-same l x i (Four.child ws₄ i (bit l x)) (covers-next l x i K)
+        ∙ ap (λ j. first_shared l ws₂ i j x) (covers_same l x i K (bit l x))
+        ∙ first-same l x i (Four.child ws₄ i (bit l x)) (covers_next l x i K)
         ∙ sym (FourWrite.first_below ws₄ above i x l c)
-    | no c ↦ first-here ws₂ above i x (suc l) (omega (arith, U.counts i K.inside)) ∙ sym (FourWrite.first-here ws₄ above i x (suc l) (omega arith))
+    | no c ↦ first_here ws₂ above i x (suc l) (omega (arith, U.counts i K.inside)) ∙ sym (FourWrite.first_here ws₄ above i x (suc l) (omega arith))
   ]
 
 -- ---- from a live root
 
 module _ (N H n : ℕ) (most : N ≤ 16384) (cover : n ≤ 2 ^ H) {level size : ℕ → ℕ} {tail ws₂ ws₄ : List ℕ} {free : ℕ} {fs E : List ℕ} (L : Live N H n level size ws₄ free fs E) (U : Unpacks N tail ws₂ ws₄) where
-  on-way : (e x : ℕ) → 0 < count e E → x < n → Covers N level size ws₄ H x e
-  on-way e x p b = root-covers N H n (omega arith) cover L e x p b
+  on_way : (e x : ℕ) → 0 < count e E → x < n → Covers N level size ws₄ H x e
+  on_way e x p b = root_covers N H n (omega arith) cover L e x p b
 
   -- R-10: a frame's leaf
-  pub unpacks-leafOf : (e y : ℕ) → 0 < count e E → y < n → leafOf H ws₂ e y ≡ Four.leafOf H ws₄ e y
-  unpacks-leafOf e y p b = (leaf-same most L.inv U H y e (on-way e y p b)).0
+  pub unpacks_leaf_of : (e y : ℕ) → 0 < count e E → y < n → leaf_of H ws₂ e y ≡ Four.leaf_of H ws₄ e y
+  unpacks_leaf_of e y p b = (leaf_same most L.inv U H y e (on_way e y p b)).0
 
   -- what a frame reads
-  pub unpacks-reads : (e y : ℕ) → 0 < count e E → y < n → readAt H ws₂ e y ≡ Four.readAt H ws₄ e y
-  unfolding readAt Four.readAt
-  unpacks-reads e y p b = (leaf-same most L.inv U H y e (on-way e y p b)).1
+  pub unpacks_reads : (e y : ℕ) → 0 < count e E → y < n → read_at H ws₂ e y ≡ Four.read_at H ws₄ e y
+  unfolding read_at Four.read_at
+  unpacks_reads e y p b = (leaf_same most L.inv U H y e (on_way e y p b)).1
 
   -- how many nodes a write takes
-  pub unpacks-first : (e x : ℕ) → 0 < count e E → x < n → firstShared H ws₂ e e x ≡ Four.firstShared H ws₄ e e x
-  unpacks-first e x p b = first-same most L.inv U H x e e (on-way e x p b)
+  pub unpacks_first : (e x : ℕ) → 0 < count e E → x < n → first_shared H ws₂ e e x ≡ Four.first_shared H ws₄ e e x
+  unpacks_first e x p b = first-same most L.inv U H x e e (on_way e x p b)
 
-  pub unpacks-rest : (e x : ℕ) → 0 < count e E → x < n → rest H ws₂ e x ≡ Four.rest H ws₄ e x
+  pub unpacks_rest : (e x : ℕ) → 0 < count e E → x < n → rest H ws₂ e x ≡ Four.rest H ws₄ e x
   unfolding rest Four.rest
-  unpacks-rest e x p b = ap (λ (p : ℕ × ℕ × ℕ). p.0) (unpacks-first e x p b)
+  unpacks_rest e x p b = ap (λ (p : ℕ × ℕ × ℕ). p.0) (unpacks_first e x p b)

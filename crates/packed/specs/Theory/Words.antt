@@ -4,61 +4,61 @@ use Rattle.std.proofs.Math.Logic.{inl, inr}
 use Rattle.std.proofs.Common.{arith}
 use Rattle.words.specs.Basics.{none, plus, times}
 use Rattle.words.specs.Tests.{decided}
-use Rattle.words.specs.Below.{Words, words-set, plus-word, minus-word, cond-word}
+use Rattle.words.specs.Below.{Words, words-set, plus_word, minus_word, cond_word}
 use Rattle.sizes.specs.Sizes.{bit, height, width}
 use Rattle.pool.specs.Pool.{side}
-use Rattle.packed.specs.Pool.{refcount, content, half, link_in, links, left, right, nextFree, setNode, setRefcount, setContent, setValue, setLink, child, sibling, retain, freed, release, pathNode, copyPath, renew, writeFrom, write, initLevel, initInner, initLeaves, initFree, initPool}
+use Rattle.packed.specs.Pool.{refcount, content, half, link_in, links, left, right, next_free, set_node, set_refcount, set_content, set_value, set_link, child, sibling, retain, freed, release, path_node, copy_path, renew, write_from, write, init_level, init_inner, init_leaves, init_free, init_pool}
 use Rattle.pool.specs.Theory.Words.{PoolWords, WrittenWords}
 
 -- ---- a node
 
-links-word : (l r : ℕ) → links l r < 4294967296
+links_word : (l r : ℕ) → links l r < 4294967296
 unfolding links
-links-word l r = plus-word (half l) (times 65536 (half r))
+links_word l r = plus_word (half l) (times 65536 (half r))
 
 -- half a word, read as a link
-link-word : (h : ℕ) → h < 65536 → link_in h < 4294967296
-link-word h b = cond-word (eqb h 65535) none h (omega arith) (omega arith)
+link_word : (h : ℕ) → h < 65536 → link_in h < 4294967296
+link_word h b = cond_word (eqb h 65535) none h (omega arith) (omega arith)
 
 module _ (ws : List ℕ) (i : ℕ) where
   left_word : left ws i < 4294967296
   unfolding left
-  left_word = link-word (content ws i % 65536) (omega arith)
+  left_word = link_word (content ws i % 65536) (omega arith)
 
-  right-word : right ws i < 4294967296
+  right_word : right ws i < 4294967296
   unfolding right
-  right-word = link-word (content ws i / 65536 % 65536) (omega arith)
+  right_word = link_word (content ws i / 65536 % 65536) (omega arith)
 
 module _ (ws : List ℕ) (i : ℕ) (h : Words ws) where
-  refcount-word : refcount ws i < 4294967296
+  refcount_word : refcount ws i < 4294967296
   unfolding refcount
-  refcount-word = h (2 * i)
+  refcount_word = h (2 * i)
 
-  content-word : content ws i < 4294967296
+  content_word : content ws i < 4294967296
   unfolding content
-  content-word = h (2 * i + 1)
+  content_word = h (2 * i + 1)
 
-  pub words-setNode : (c w : ℕ) → c < 4294967296 → w < 4294967296 → Words (setNode ws i c w)
-  unfolding setNode
-  words-setNode c w p q = words-set (set ws (2 * i) c) (2 * i + 1) w (words-set ws (2 * i) c h p) q
+  pub words-set_node : (c w : ℕ) → c < 4294967296 → w < 4294967296 → Words (set_node ws i c w)
+  unfolding set_node
+  words-set_node c w p q = words-set (set ws (2 * i) c) (2 * i + 1) w (words-set ws (2 * i) c h p) q
 
-  words-setRefcount : (c : ℕ) → c < 4294967296 → Words (setRefcount ws i c)
-  unfolding setRefcount
-  words-setRefcount c p = words-set ws (2 * i) c h p
+  words-set_refcount : (c : ℕ) → c < 4294967296 → Words (set_refcount ws i c)
+  unfolding set_refcount
+  words-set_refcount c p = words-set ws (2 * i) c h p
 
-  words-setContent : (w : ℕ) → w < 4294967296 → Words (setContent ws i w)
-  unfolding setContent
-  words-setContent w p = words-set ws (2 * i + 1) w h p
+  words-set_content : (w : ℕ) → w < 4294967296 → Words (set_content ws i w)
+  unfolding set_content
+  words-set_content w p = words-set ws (2 * i + 1) w h p
 
   pub words-retain : Words (retain ws i)
   unfolding retain
-  words-retain = elim (decided (eqb i none)) [ inl e ↦ rw e h | inr e ↦ rw e (words-setRefcount (plus (refcount ws i) 1) (plus-word _ 1)) ]
+  words-retain = elim (decided (eqb i none)) [ inl e ↦ rw e h | inr e ↦ rw e (words-set_refcount (plus (refcount ws i) 1) (plus_word _ 1)) ]
 
   words-freed : (free : ℕ) → free < 4294967296 → Words (freed ws free i)
-  words-freed free p = words-setNode 0 free (omega arith) p
+  words-freed free p = words-set_node 0 free (omega arith) p
 
-  words-lowered : Words (setRefcount ws i (refcount ws i - 1))
-  words-lowered = words-setRefcount (refcount ws i - 1) (minus-word _ 1 refcount-word)
+  words_lowered : Words (set_refcount ws i (refcount ws i - 1))
+  words_lowered = words-set_refcount (refcount ws i - 1) (minus_word _ 1 refcount_word)
 
 -- ---- the words and the first free node, after a change
 
@@ -69,7 +69,7 @@ words-release N zero ws free k i h p q =
       | inl e ↦
           elim (decided (eqb (refcount ws i - 1) 0)) [
             | inl d ↦ rw (e, d, release) (record { words = words-freed ws i h free p; free = q })
-            | inr d ↦ rw (e, d, release) (record { words = words-lowered ws i h; free = p })
+            | inr d ↦ rw (e, d, release) (record { words = words_lowered ws i h; free = p })
           ]
       | inr e ↦ rw (e, release) (record { words = h; free = p })
     ]
@@ -78,75 +78,75 @@ words-release N (suc l) ws free k i h p q =
     elim (decided (ltb i N)) [
       | inl e ↦
           elim (decided (eqb (refcount ws i - 1) 0)) [
-            | inl d ↦ rw (e, d, release) (words-release N l _ _ _ (right ws i) o.words o.free (right-word ws i))
-            | inr d ↦ rw (e, d, release) (record { words = words-lowered ws i h; free = p })
+            | inl d ↦ rw (e, d, release) (words-release N l _ _ _ (right ws i) o.words o.free (right_word ws i))
+            | inr d ↦ rw (e, d, release) (record { words = words_lowered ws i h; free = p })
           ]
       | inr e ↦ rw (e, release) (record { words = h; free = p })
     ]
 
 -- ---- a write
 
-words-pathNode : (ws : List ℕ) (i b next kept : ℕ) → Words ws → Words (pathNode ws i b next kept)
-unfolding pathNode
-words-pathNode ws i b next kept h = words-retain _ kept (words-setNode ws i h 1 (links (side b next kept) (side b kept next)) (omega arith) (links-word _ _))
+words-path_node : (ws : List ℕ) (i b next kept : ℕ) → Words ws → Words (path_node ws i b next kept)
+unfolding path_node
+words-path_node ws i b next kept h = words-retain _ kept (words-set_node ws i h 1 (links (side b next kept) (side b kept next)) (omega arith) (links_word _ _))
 
-pub words-copyPath : (l : ℕ) (ws : List ℕ) (i old x v : ℕ) → Words ws → v < 4294967296 → (Words (copyPath l ws i old x v).0) × ((copyPath l ws i old x v).1 < 4294967296)
-unfolding copyPath
-words-copyPath zero ws i old x v h p = (words-setNode ws i h 1 v (omega arith) p, content-word ws i h)
-words-copyPath (suc l) ws i old x v h p =
-    words-copyPath l _ (nextFree ws i) (child ws old (bit l x)) x v (words-pathNode ws i (bit l x) (nextFree ws i) (sibling ws old (bit l x)) h) p
+pub words-copy_path : (l : ℕ) (ws : List ℕ) (i old x v : ℕ) → Words ws → v < 4294967296 → (Words (copy_path l ws i old x v).0) × ((copy_path l ws i old x v).1 < 4294967296)
+unfolding copy_path
+words-copy_path zero ws i old x v h p = (words-set_node ws i h 1 v (omega arith) p, content_word ws i h)
+words-copy_path (suc l) ws i old x v h p =
+    words-copy_path l _ (next_free ws i) (child ws old (bit l x)) x v (words-path_node ws i (bit l x) (next_free ws i) (sibling ws old (bit l x)) h) p
 
 words-renew : (l : ℕ) (ws : List ℕ) (free old x v : ℕ) → Words ws → v < 4294967296 → (Words (renew l ws free old x v).0) × ((renew l ws free old x v).1 < 4294967296)
 unfolding renew
-words-renew l ws free old x v h p = (let o = words-copyPath l ws free old x v h p in (words-lowered _ old o.0, o.1))
+words-renew l ws free old x v h p = (let o = words-copy_path l ws free old x v h p in (words_lowered _ old o.0, o.1))
 
-words-setLink : (ws : List ℕ) (i b c : ℕ) → Words ws → Words (setLink ws i b c)
-unfolding setLink
-words-setLink ws i b c h = words-setContent ws i h (links (side b c (left ws i)) (side b (right ws i) c)) (links-word _ _)
+words-set_link : (ws : List ℕ) (i b c : ℕ) → Words ws → Words (set_link ws i b c)
+unfolding set_link
+words-set_link ws i b c h = words-set_content ws i h (links (side b c (left ws i)) (side b (right ws i) c)) (links_word _ _)
 
 -- the frame's root too
 
-words-from : (r i above h : ℕ) (ws : List ℕ) (free k root x v : ℕ) → Words ws → free < 4294967296 → root < 4294967296 → v < 4294967296 → WrittenWords (writeFrom r i above h ws free k root x v)
-unfolding writeFrom setValue
-words-from zero i above h ws free k root x v w f r q = record { words = words-setContent ws i w v q; free = f; root = r }
-words-from (suc m) i above h ws free k root x v w f r q =
+words_from_lem : (r i above h : ℕ) (ws : List ℕ) (free k root x v : ℕ) → Words ws → free < 4294967296 → root < 4294967296 → v < 4294967296 → WrittenWords (write_from r i above h ws free k root x v)
+unfolding write_from set_value
+words_from_lem zero i above h ws free k root x v w f r q = record { words = words-set_content ws i w v q; free = f; root = r }
+words_from_lem (suc m) i above h ws free k root x v w f r q =
     let o = words-renew m ws free i x v w q in
     elim (decided (eqb m h)) [
-      | inl e ↦ rw (e, writeFrom) (record { words = o.0; free = o.1; root = f })
-      | inr e ↦ rw (e, writeFrom) (record { words = words-setLink (renew m ws free i x v).0 above (bit m x) free o.0; free = o.1; root = r })
+      | inl e ↦ rw (e, write_from) (record { words = o.0; free = o.1; root = f })
+      | inr e ↦ rw (e, write_from) (record { words = words-set_link (renew m ws free i x v).0 above (bit m x) free o.0; free = o.1; root = r })
     ]
 
 pub words-write : (l : ℕ) (ws : List ℕ) (free k root x v : ℕ) → Words ws → free < 4294967296 → root < 4294967296 → v < 4294967296 → WrittenWords (write l ws free k root x v)
 unfolding write
-words-write l ws free k root x v w f r q = words-from _ _ _ l ws free k root x v w f r q
+words-write l ws free k root x v w f r q = words_from_lem _ _ _ l ws free k root x v w f r q
 
 -- ---- the start
 
-words-initLevel : (c : ℕ) (ws : List ℕ) (i below k : ℕ) → Words ws → Words (initLevel c ws i below k)
-unfolding initLevel
-words-initLevel zero ws i below k h = h
-words-initLevel (suc c) ws i below k h =
-    words-initLevel c _ (plus i 1) (plus below 2) (k - 2) (words-setNode ws i h 1 (links below (cond (ltb 1 k) (plus below 1) none)) (omega arith) (links-word _ _))
+words-init_level : (c : ℕ) (ws : List ℕ) (i below k : ℕ) → Words ws → Words (init_level c ws i below k)
+unfolding init_level
+words-init_level zero ws i below k h = h
+words-init_level (suc c) ws i below k h =
+    words-init_level c _ (plus i 1) (plus below 2) (k - 2) (words-set_node ws i h 1 (links below (cond (ltb 1 k) (plus below 1) none)) (omega arith) (links_word _ _))
 
-words-initInner : (l : ℕ) (ws : List ℕ) (n i : ℕ) → Words ws → Words (initInner l ws n i).0
-unfolding initInner
-words-initInner zero ws n i h = h
-words-initInner (suc l) ws n i h = words-initInner l _ n (plus i (width n (suc l))) (words-initLevel (width n (suc l)) ws i (plus i (width n (suc l))) (width n l) h)
+words-init_inner : (l : ℕ) (ws : List ℕ) (n i : ℕ) → Words ws → Words (init_inner l ws n i).0
+unfolding init_inner
+words-init_inner zero ws n i h = h
+words-init_inner (suc l) ws n i h = words-init_inner l _ n (plus i (width n (suc l))) (words-init_level (width n (suc l)) ws i (plus i (width n (suc l))) (width n l) h)
 
-words-initLeaves : (c : ℕ) (ws : List ℕ) (i : ℕ) (vs : List ℕ) (j : ℕ) → Words ws → Words vs → Words (initLeaves c ws i vs j)
-unfolding initLeaves
-words-initLeaves zero ws i vs j h p = h
-words-initLeaves (suc c) ws i vs j h p = words-initLeaves c _ (plus i 1) vs (plus j 1) (words-setNode ws i h 1 (get_or vs j 0) (omega arith) (p j)) p
+words-init_leaves : (c : ℕ) (ws : List ℕ) (i : ℕ) (vs : List ℕ) (j : ℕ) → Words ws → Words vs → Words (init_leaves c ws i vs j)
+unfolding init_leaves
+words-init_leaves zero ws i vs j h p = h
+words-init_leaves (suc c) ws i vs j h p = words-init_leaves c _ (plus i 1) vs (plus j 1) (words-set_node ws i h 1 (get_or vs j 0) (omega arith) (p j)) p
 
-words-initFree : (c : ℕ) (ws : List ℕ) (i : ℕ) → Words ws → Words (initFree c ws i)
-unfolding initFree
-words-initFree zero ws i h = h
-words-initFree (suc c) ws i h =
-    words-initFree c _ (plus i 1) (words-setNode ws i h 0 (cond (eqb c 0) none (plus i 1)) (omega arith) (cond-word (eqb c 0) none (plus i 1) (omega arith) (plus-word i 1)))
+words-init_free : (c : ℕ) (ws : List ℕ) (i : ℕ) → Words ws → Words (init_free c ws i)
+unfolding init_free
+words-init_free zero ws i h = h
+words-init_free (suc c) ws i h =
+    words-init_free c _ (plus i 1) (words-set_node ws i h 0 (cond (eqb c 0) none (plus i 1)) (omega arith) (cond_word (eqb c 0) none (plus i 1) (omega arith) (plus_word i 1)))
 
-pub words-initPool : (ws : List ℕ) (n N : ℕ) (vs : List ℕ) → Words ws → Words vs → (Words (initPool ws n N vs).0) × ((initPool ws n N vs).1 < 4294967296)
-unfolding initPool
-words-initPool ws n N vs h p =
-    let q : List ℕ × ℕ = initInner (height n) ws n 0 in
+pub words-init_pool : (ws : List ℕ) (n N : ℕ) (vs : List ℕ) → Words ws → Words vs → (Words (init_pool ws n N vs).0) × ((init_pool ws n N vs).1 < 4294967296)
+unfolding init_pool
+words-init_pool ws n N vs h p =
+    let q : List ℕ × ℕ = init_inner (height n) ws n 0 in
     let i : ℕ = plus q.1 n in
-    (words-initFree (N - i) _ i (words-initLeaves n q.0 q.1 vs 0 (words-initInner (height n) ws n 0 h) p), cond-word (ltb i N) i none (plus-word q.1 n) (omega arith))
+    (words-init_free (N - i) _ i (words-init_leaves n q.0 q.1 vs 0 (words-init_inner (height n) ws n 0 h) p), cond_word (ltb i N) i none (plus_word q.1 n) (omega arith))

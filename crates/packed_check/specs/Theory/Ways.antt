@@ -5,117 +5,117 @@ use Prim.Native.Nat.{ℕ, zero, suc, ◌+◌, ◌-◌, ◌%◌, ◌^◌, ◌≤�
 use Rattle.std.proofs.Math.Decide.{ℕ_discrete, dec_lt}
 use borrow.Author.Tests.{eq-eqb, ne_eqb}
 use Rattle.words.specs.Basics.{none, plus, all}
-use Rattle.words.specs.Tests.{decided, ltb-of, nltb-of}
+use Rattle.words.specs.Tests.{decided, ltb_of, nltb_of}
 use Rattle.sizes.specs.Sizes.{height}
 use Rattle.frames.specs.declared.Frame.{Frame}
-use Rattle.frames.specs.Frames.{frameAt}
+use Rattle.frames.specs.Frames.{frame_at}
 use Rattle.soundness.specs.Soundness.{lives}
 use Rattle.packed.specs.Pool.{left, right, link_in}
 use Rattle.pool_check.specs.Algorithm.{stamp, stamped, linked, unvisited}
-use Rattle.pool_check.specs.Theory.Ways.{Keeps, keeps-refl, keeps-trans, keeps-set}
-use Rattle.packed_check.specs.Algorithm.{meet, visit, below, rootVisited, visitPlace, visitPlaces, nodeRight, chainFrom, settle, runCheck}
-use Rattle.packed_check.specs.Answer.{inBounds}
+use Rattle.pool_check.specs.Theory.Ways.{Keeps, keeps_refl, keeps_trans, keeps_set}
+use Rattle.packed_check.specs.Algorithm.{meet, visit, below, root_visited, visit_place, visit_places, node_right, chain_from, settle, run_check}
+use Rattle.packed_check.specs.Answer.{in_bounds}
 use Rattle.packed_check.specs.declared.PoolChecked.TheVariants.{Bad, Good}
 
 module _ (N : ℕ) (ws : List ℕ) (k i : ℕ) (w : List ℕ) where
-  pub visit-off : (l : ℕ) → N ≤ i → visit N ws l k i w ≡ (w, false)
+  pub visit_off : (l : ℕ) → N ≤ i → visit N ws l k i w ≡ (w, false)
   unfolding visit
-  visit-off zero h = rw (nltb-of h, visit, meet)
-  visit-off (suc l) h = rw (nltb-of h, visit, meet)
+  visit_off zero h = rw (nltb_of h, visit, meet)
+  visit_off (suc l) h = rw (nltb_of h, visit, meet)
 
   module _ (h : i < N) where
-    pub visit-again : (l : ℕ) → get_or w i 0 ≢ 0 → visit N ws l k i w ≡ (linked w i, eqb (get_or w i 0 % 8192) (stamp l k))
+    pub visit_again : (l : ℕ) → get_or w i 0 ≢ 0 → visit N ws l k i w ≡ (linked w i, eqb (get_or w i 0 % 8192) (stamp l k))
     unfolding visit
-    visit-again zero u = rw (ltb-of h, ne_eqb (get_or w i 0) 0 u, visit, meet)
-    visit-again (suc l) u = rw (ltb-of h, ne_eqb (get_or w i 0) 0 u, visit, meet)
+    visit_again zero u = rw (ltb_of h, ne_eqb (get_or w i 0) 0 u, visit, meet)
+    visit_again (suc l) u = rw (ltb_of h, ne_eqb (get_or w i 0) 0 u, visit, meet)
 
     -- the visit goes on below the node
     pub visit-below : get_or w i 0 ≡ 0 → (l : ℕ) → visit N ws l k i w ≡ below N ws l k i (stamped w i (stamp l k))
     unfolding visit below
-    visit-below u zero = rw (ltb-of h, eq-eqb (get_or w i 0) 0 u, visit, meet)
-    visit-below u (suc l) = rw (ltb-of h, eq-eqb (get_or w i 0) 0 u, visit, meet)
+    visit-below u zero = rw (ltb_of h, eq-eqb (get_or w i 0) 0 u, visit, meet)
+    visit-below u (suc l) = rw (ltb_of h, eq-eqb (get_or w i 0) 0 u, visit, meet)
 
 -- a half of a word leads where its link does: that for none is no node's number
 pub visit-half : (N : ℕ) (ws : List ℕ) (l k a : ℕ) (w : List ℕ) → N ≤ 65535 → visit N ws l k (link_in a) w ≡ visit N ws l k a w
 visit-half N ws l k a w few = elim (ℕ_discrete a 65535) [
-  | yes e ↦ rw (eq-eqb a 65535 e) (visit-off N ws k none w l (omega arith) ∙ rw (visit-off N ws k a w l (omega arith)))
+  | yes e ↦ rw (eq-eqb a 65535 e) (visit_off N ws k none w l (omega arith) ∙ rw (visit_off N ws k a w l (omega arith)))
   | no e ↦ rw (ne_eqb a 65535 e)
 ]
 
-pub below-leaf : (N : ℕ) (ws : List ℕ) (l k i : ℕ) (w : List ℕ) → l ≡ 0 → below N ws l k i w ≡ (w, true)
+pub below_leaf : (N : ℕ) (ws : List ℕ) (l k i : ℕ) (w : List ℕ) → l ≡ 0 → below N ws l k i w ≡ (w, true)
 unfolding below
-below-leaf N ws zero k i w e = refl
-below-leaf N ws (suc l) k i w e = absurd (omega arith)
+below_leaf N ws zero k i w e = refl
+below_leaf N ws (suc l) k i w e = absurd (omega arith)
 
 -- the visit of the left child
-abbrev pub onLeft : ℕ → List ℕ → ℕ → ℕ → ℕ → List ℕ → List ℕ × Bool
-onLeft N ws l k i w = visit N ws l (min k (2 ^ l)) (left ws i) w
+abbrev pub on_left : ℕ → List ℕ → ℕ → ℕ → ℕ → List ℕ → List ℕ × Bool
+on_left N ws l k i w = visit N ws l (min k (2 ^ l)) (left ws i) w
 
 module _ (N : ℕ) (ws : List ℕ) (l k i : ℕ) (w : List ℕ) where
-  pub below_left : (onLeft N ws l k i w).1 ≡ false → below N ws (suc l) k i w ≡ ((onLeft N ws l k i w).0, false)
+  pub below_left : (on_left N ws l k i w).1 ≡ false → below N ws (suc l) k i w ≡ ((on_left N ws l k i w).0, false)
   unfolding below
   below_left t = rw t
 
-  pub below_end : (onLeft N ws l k i w).1 ≡ true → k - 2 ^ l ≡ 0 → below N ws (suc l) k i w ≡ ((onLeft N ws l k i w).0, eqb (right ws i) none)
+  pub below_end : (on_left N ws l k i w).1 ≡ true → k - 2 ^ l ≡ 0 → below N ws (suc l) k i w ≡ ((on_left N ws l k i w).0, eqb (right ws i) none)
   unfolding below
   below_end t e = rw (t, eq-eqb (k - 2 ^ l) 0 e)
 
-  pub below_right : (onLeft N ws l k i w).1 ≡ true → k - 2 ^ l ≢ 0 → below N ws (suc l) k i w ≡ visit N ws l (k - 2 ^ l) (right ws i) (onLeft N ws l k i w).0
+  pub below_right : (on_left N ws l k i w).1 ≡ true → k - 2 ^ l ≢ 0 → below N ws (suc l) k i w ≡ visit N ws l (k - 2 ^ l) (right ws i) (on_left N ws l k i w).0
   unfolding below
   below_right t e = rw (t, ne_eqb (k - 2 ^ l) 0 e)
 
 module _ (n h N : ℕ) (fs : List Frame) (ws : List ℕ) (p : ℕ) (w : List ℕ) where
-  pub place-live : lives fs p ≡ true → visitPlace n h N fs ws p w ≡ visit N ws h n (frameAt fs p).root w
-  unfolding visitPlace
-  place-live e = rw (e, visitPlace, rootVisited)
+  pub place-live : lives fs p ≡ true → visit_place n h N fs ws p w ≡ visit N ws h n (frame_at fs p).root w
+  unfolding visit_place
+  place-live e = rw (e, visit_place, root_visited)
 
-  pub place-free : lives fs p ≡ false → visitPlace n h N fs ws p w ≡ (w, true)
-  unfolding visitPlace
-  place-free e = rw (e, visitPlace, rootVisited)
+  pub place_free_lem : lives fs p ≡ false → visit_place n h N fs ws p w ≡ (w, true)
+  unfolding visit_place
+  place_free_lem e = rw (e, visit_place, root_visited)
 
 module _ (N : ℕ) (ws : List ℕ) (first : ℕ) (w : List ℕ) where
-  pub settle-off : all N (nodeRight ws w) ≡ false → settle N ws first w ≡ Bad
+  pub settle_off : all N (node_right ws w) ≡ false → settle N ws first w ≡ Bad
   unfolding settle
-  settle-off e = rw e
+  settle_off e = rw e
 
-  pub settle-on : all N (nodeRight ws w) ≡ true → settle N ws first w ≡ cond (chainFrom N ws w (unvisited N w) first) (Good (unvisited N w)) Bad
+  pub settle_on : all N (node_right ws w) ≡ true → settle N ws first w ≡ cond (chain_from N ws w (unvisited N w) first) (Good (unvisited N w)) Bad
   unfolding settle
-  settle-on e = rw e
+  settle_on e = rw e
 
 module _ (n N first : ℕ) (fs : List Frame) (ws w : List ℕ) where
-  pub run_out : inBounds n N ws w ≡ false → runCheck n N first fs ws w ≡ (w, Bad)
-  unfolding runCheck
-  run_out e = rw (e, runCheck)
+  pub run_out : in_bounds n N ws w ≡ false → run_check n N first fs ws w ≡ (w, Bad)
+  unfolding run_check
+  run_out e = rw (e, run_check)
 
-  pub run-off : inBounds n N ws w ≡ true → (visitPlaces n (height n) N fs ws (length fs) w).1 ≡ false → runCheck n N first fs ws w ≡ ((visitPlaces n (height n) N fs ws (length fs) w).0, Bad)
-  unfolding runCheck
-  run-off e t = rw (e, t, runCheck)
+  pub run_off : in_bounds n N ws w ≡ true → (visit_places n (height n) N fs ws (length fs) w).1 ≡ false → run_check n N first fs ws w ≡ ((visit_places n (height n) N fs ws (length fs) w).0, Bad)
+  unfolding run_check
+  run_off e t = rw (e, t, run_check)
 
-  pub run_on : inBounds n N ws w ≡ true → (visitPlaces n (height n) N fs ws (length fs) w).1 ≡ true → runCheck n N first fs ws w ≡ ((visitPlaces n (height n) N fs ws (length fs) w).0, settle N ws first (visitPlaces n (height n) N fs ws (length fs) w).0)
-  unfolding runCheck
-  run_on e t = rw (e, t, runCheck)
+  pub run_on_lem : in_bounds n N ws w ≡ true → (visit_places n (height n) N fs ws (length fs) w).1 ≡ true → run_check n N first fs ws w ≡ ((visit_places n (height n) N fs ws (length fs) w).0, settle N ws first (visit_places n (height n) N fs ws (length fs) w).0)
+  unfolding run_check
+  run_on_lem e t = rw (e, t, run_check)
 
 module _ (N : ℕ) (ws : List ℕ) (l k i : ℕ) (w : List ℕ) where
   -- by whether node i exists and was visited
-  met-keeps : Keeps N (stamped w i (stamp l k)) (below N ws l k i (stamped w i (stamp l k))).0 → Keeps N w (visit N ws l k i w).0
-  met-keeps deep = elim (dec_lt i N) [
+  met_keeps : Keeps N (stamped w i (stamp l k)) (below N ws l k i (stamped w i (stamp l k))).0 → Keeps N w (visit N ws l k i w).0
+  met_keeps deep = elim (dec_lt i N) [
     | yes h ↦ elim (ℕ_discrete (get_or w i 0) 0) [
-      | yes u ↦ rw (visit-below N ws k i w h u l) (keeps-trans (keeps-set N w i (stamp l k + 8192) h) deep)
-      | no u ↦ rw (visit-again N ws k i w h l u) (keeps-set N w i (plus (get_or w i 0) 8192) h)
+      | yes u ↦ rw (visit-below N ws k i w h u l) (keeps_trans (keeps_set N w i (stamp l k + 8192) h) deep)
+      | no u ↦ rw (visit_again N ws k i w h l u) (keeps_set N w i (plus (get_or w i 0) 8192) h)
     ]
-    | no h ↦ rw (visit-off N ws k i w l (omega arith)) keeps-refl
+    | no h ↦ rw (visit_off N ws k i w l (omega arith)) keeps_refl
   ]
 
-pub visit-keeps : (N : ℕ) (ws : List ℕ) (l k i : ℕ) (w : List ℕ) → Keeps N w (visit N ws l k i w).0
+pub visit_keeps : (N : ℕ) (ws : List ℕ) (l k i : ℕ) (w : List ℕ) → Keeps N w (visit N ws l k i w).0
 unfolding below
-visit-keeps N ws zero k i w = met-keeps N ws 0 k i w keeps-refl
-visit-keeps N ws (suc l) k i w =
+visit_keeps N ws zero k i w = met_keeps N ws 0 k i w keeps_refl
+visit_keeps N ws (suc l) k i w =
     let w₁ = stamped w i (stamp (suc l) k) in
-    let s : Keeps N w₁ (onLeft N ws l k i w₁).0 = visit-keeps N ws l (min k (2 ^ l)) (left ws i) w₁ in
-    met-keeps N ws (suc l) k i w (elim (decided (onLeft N ws l k i w₁).1) [
+    let s : Keeps N w₁ (on_left N ws l k i w₁).0 = visit_keeps N ws l (min k (2 ^ l)) (left ws i) w₁ in
+    met_keeps N ws (suc l) k i w (elim (decided (on_left N ws l k i w₁).1) [
       | inl t ↦ elim (ℕ_discrete (k - 2 ^ l) 0) [
         | yes e ↦ rw (below_end N ws l k i w₁ t e) s
-        | no e ↦ rw (below_right N ws l k i w₁ t e) (keeps-trans s (visit-keeps N ws l (k - 2 ^ l) (right ws i) (onLeft N ws l k i w₁).0))
+        | no e ↦ rw (below_right N ws l k i w₁ t e) (keeps_trans s (visit_keeps N ws l (k - 2 ^ l) (right ws i) (on_left N ws l k i w₁).0))
       ]
       | inr t ↦ rw (below_left N ws l k i w₁ t) s
     ])

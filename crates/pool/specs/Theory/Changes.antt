@@ -2,7 +2,7 @@
 use Rattle.std.specs.Prelude.{◌≡◌, refl, List, ℕ, ◌*◌, ◌≤◌, ◌<◌, length, drop}
 use Rattle.std.proofs.Common.{◌∙◌, arith}
 use Rattle.pool.specs.Pool.{refcount}
-use Rattle.pool.specs.Theory.Nodes.{SameContent, content-refl, content-trans}
+use Rattle.pool.specs.Theory.Nodes.{SameContent, content_refl, content_trans}
 
 -- each node in use in ws has the same links and value in ws'
 abbrev pub Keeps : ℕ → List ℕ → List ℕ → Type 0
@@ -19,13 +19,13 @@ pub record Grows (N : ℕ) (ws ws' : List ℕ) : Type 0 where
 abbrev pub Shrinks : ℕ → List ℕ → List ℕ → Type 0
 Shrinks N ws ws' = Grows N ws' ws
 
-pub grows-refl : (N : ℕ) (ws : List ℕ) → Grows N ws ws
-grows-refl N ws = record { up = λ j b. omega arith; keeps = λ j b p. content-refl ws j; len = refl; rest = refl }
+pub grows_refl : (N : ℕ) (ws : List ℕ) → Grows N ws ws
+grows_refl N ws = record { up = λ j b. omega arith; keeps = λ j b p. content_refl ws j; len = refl; rest = refl }
 
-pub grows-trans : {N : ℕ} {ws ws' ws'' : List ℕ} → Grows N ws ws' → Grows N ws' ws'' → Grows N ws ws''
-grows-trans F G = record {
+pub grows_trans : {N : ℕ} {ws ws' ws'' : List ℕ} → Grows N ws ws' → Grows N ws' ws'' → Grows N ws ws''
+grows_trans F G = record {
   up = λ j b. omega (arith, F.up j b, G.up j b);
-  keeps = λ j b p. content-trans (F.keeps j b p) (G.keeps j b (omega (arith, F.up j b)));
+  keeps = λ j b p. content_trans (F.keeps j b p) (G.keeps j b (omega (arith, F.up j b)));
   len = G.len ∙ F.len;
   rest = G.rest ∙ F.rest;
 }

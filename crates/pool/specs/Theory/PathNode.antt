@@ -4,9 +4,9 @@ use Rattle.std.proofs.Math.Path.{ap}
 use Rattle.std.proofs.Common.{◌∙◌, arith}
 use Rattle.std.proofs.Math.Decide.{ℕ_discrete}
 use Rattle.words.specs.Basics.{none, δ}
-use Rattle.words.specs.Counting.{δ-same, δ-other, δ-le}
-use Rattle.pool.specs.Pool.{refcount, left, right, value, setNode, side, child, sibling, pathNode}
-use Rattle.pool.specs.Theory.Nodes.{NodeIs, SameContent, content-trans, length-setNode, drop-setNode, setNode-is, setNode-other}
+use Rattle.words.specs.Counting.{δ_same, δ_other, δ_le}
+use Rattle.pool.specs.Pool.{refcount, left, right, value, set_node, side, child, sibling, path_node}
+use Rattle.pool.specs.Theory.Nodes.{NodeIs, SameContent, content_trans, length-set_node, drop-set_node, set_node_is, set_node_other}
 use Rattle.pool.specs.Theory.Retain.{length-retain, drop-retain, retain-content, refcount-retain}
 
 -- ---- left or right
@@ -21,12 +21,12 @@ unfolding side
 side_same zero p q = refl
 side_same (suc b) p q = refl
 
-pub side-other : (b d p q : ℕ) → b < 2 → d < 2 → d ≢ b → side d (side b p q) (side b q p) ≡ q
+pub side_other : (b d p q : ℕ) → b < 2 → d < 2 → d ≢ b → side d (side b p q) (side b q p) ≡ q
 unfolding side
-side-other zero zero p q hb hd o = absurd (o refl)
-side-other zero (suc d) p q hb hd o = refl
-side-other (suc b) zero p q hb hd o = refl
-side-other (suc b) (suc d) p q hb hd o = absurd (omega arith)
+side_other zero zero p q hb hd o = absurd (o refl)
+side_other zero (suc d) p q hb hd o = refl
+side_other (suc b) zero p q hb hd o = refl
+side_other (suc b) (suc d) p q hb hd o = absurd (omega arith)
 
 -- the child on one side is the sibling of the other
 pub child-sibling : (ws : List ℕ) (i b d : ℕ) → b < 2 → d < 2 → d ≢ b → child ws i d ≡ sibling ws i b
@@ -38,48 +38,48 @@ child-sibling ws i (suc b) (suc d) hb hd o = absurd (omega arith)
 
 -- ---- the store of one node: a free node a gets the next node on side b and the kept one on the other
 
-module _ (N : ℕ) (small : N ≤ none) (ws : List ℕ) (room : 4 * N ≤ length ws) (a b next kept : ℕ) (inN : a < N) (z : refcount ws a ≡ 0) where
+module _ (N : ℕ) (small : N ≤ none) (ws : List ℕ) (room : 4 * N ≤ length ws) (a b next kept : ℕ) (in_n : a < N) (z : refcount ws a ≡ 0) where
   ws₁ : List ℕ
-  ws₁ = setNode ws a 1 (side b next kept) (side b kept next) 0
+  ws₁ = set_node ws a 1 (side b next kept) (side b kept next) 0
 
   node : NodeIs ws₁ a 1 (side b next kept) (side b kept next) 0
   unfolding ws₁
-  node = setNode-is ws a 1 (side b next kept) (side b kept next) 0 (omega arith)
+  node = set_node_is ws a 1 (side b next kept) (side b kept next) 0 (omega arith)
 
-  pub pathNode-length : length (pathNode ws a b next kept) ≡ length ws
-  unfolding pathNode
-  pathNode-length = length-retain _ kept ∙ length-setNode ws a 1 (side b next kept) (side b kept next) 0
+  pub path_node-length : length (path_node ws a b next kept) ≡ length ws
+  unfolding path_node
+  path_node-length = length-retain _ kept ∙ length-set_node ws a 1 (side b next kept) (side b kept next) 0
 
-  pub pathNode-rest : (kept ≢ none → kept < N) → drop (4 * N) (pathNode ws a b next kept) ≡ drop (4 * N) ws
-  unfolding pathNode
-  pathNode-rest h = drop-retain _ kept N h ∙ drop-setNode ws a 1 (side b next kept) (side b kept next) 0 N inN
+  pub path_node-rest : (kept ≢ none → kept < N) → drop (4 * N) (path_node ws a b next kept) ≡ drop (4 * N) ws
+  unfolding path_node
+  path_node-rest h = drop-retain _ kept N h ∙ drop-set_node ws a 1 (side b next kept) (side b kept next) 0 N in_n
 
-  pub pathNode-left : left (pathNode ws a b next kept) a ≡ side b next kept
-  unfolding pathNode ws₁
-  pathNode-left = (retain-content ws₁ kept a).same_left ∙ node.left_is
+  pub path_node-left : left (path_node ws a b next kept) a ≡ side b next kept
+  unfolding path_node ws₁
+  path_node-left = (retain-content ws₁ kept a).same_left ∙ node.left_is
 
-  pub pathNode-right : right (pathNode ws a b next kept) a ≡ side b kept next
-  unfolding pathNode ws₁
-  pathNode-right = (retain-content ws₁ kept a).same-right ∙ node.right_is
+  pub path_node-right : right (path_node ws a b next kept) a ≡ side b kept next
+  unfolding path_node ws₁
+  path_node-right = (retain-content ws₁ kept a).same-right ∙ node.right_is
 
-  pub pathNode-value : value (pathNode ws a b next kept) a ≡ 0
-  unfolding pathNode ws₁
-  pathNode-value = (retain-content ws₁ kept a).same-value ∙ node.value-is
+  pub path_node-value : value (path_node ws a b next kept) a ≡ 0
+  unfolding path_node ws₁
+  path_node-value = (retain-content ws₁ kept a).same-value ∙ node.value_is
 
-  pub pathNode-other : (j : ℕ) → j ≢ a → SameContent ws (pathNode ws a b next kept) j
-  unfolding pathNode
-  pathNode-other j o = content-trans (setNode-other ws a j 1 (side b next kept) (side b kept next) 0 o).content (retain-content _ kept j)
+  pub path_node_other : (j : ℕ) → j ≢ a → SameContent ws (path_node ws a b next kept) j
+  unfolding path_node
+  path_node_other j o = content_trans (set_node_other ws a j 1 (side b next kept) (side b kept next) 0 o).content (retain-content _ kept j)
 
-  ws₁-refcount : (k : ℕ) → refcount ws₁ k ≡ refcount ws k + δ k a
+  ws₁_refcount : (k : ℕ) → refcount ws₁ k ≡ refcount ws k + δ k a
   unfolding ws₁
-  ws₁-refcount k = elim (ℕ_discrete k a) [
-    | yes e ↦ omega (arith, ap (refcount (setNode ws a 1 (side b next kept) (side b kept next) 0)) e, node.refcount-is, ap (refcount ws) e, ap (λ q. δ q a) e, δ-same a)
-    | no e ↦ omega (arith, (setNode-other ws a k 1 (side b next kept) (side b kept next) 0 e).same-refcount, δ-other k a e)
+  ws₁_refcount k = elim (ℕ_discrete k a) [
+    | yes e ↦ omega (arith, ap (refcount (set_node ws a 1 (side b next kept) (side b kept next) 0)) e, node.refcount_is, ap (refcount ws) e, ap (λ q. δ q a) e, δ_same a)
+    | no e ↦ omega (arith, (set_node_other ws a k 1 (side b next kept) (side b kept next) 0 e).same-refcount, δ_other k a e)
   ]
 
   -- the new node and the kept one gain a holder each
-  pub pathNode-refcount : (kept < N → refcount ws kept + 2 < 2 ^ 32) → (k : ℕ) → k < N → refcount (pathNode ws a b next kept) k ≡ refcount ws k + δ k a + δ k kept
-  unfolding pathNode ws₁
-  pathNode-refcount h k q = refcount-retain ws₁ kept k (omega arith)
-      (λ e. (omega (arith, length-setNode ws a 1 (side b next kept) (side b kept next) 0), omega (arith, h (omega arith), ws₁-refcount kept, δ-le kept a)))
-      ∙ omega (arith, ws₁-refcount k)
+  pub path_node-refcount : (kept < N → refcount ws kept + 2 < 2 ^ 32) → (k : ℕ) → k < N → refcount (path_node ws a b next kept) k ≡ refcount ws k + δ k a + δ k kept
+  unfolding path_node ws₁
+  path_node-refcount h k q = refcount-retain ws₁ kept k (omega arith)
+      (λ e. (omega (arith, length-set_node ws a 1 (side b next kept) (side b kept next) 0), omega (arith, h (omega arith), ws₁_refcount kept, δ_le kept a)))
+      ∙ omega (arith, ws₁_refcount k)

@@ -40,7 +40,7 @@ use Rattle.pool_check.specs.declared.PoolChecked.TheVariants.{Bad}
 use Rattle.pool_check.specs.contracts.PoolChecked as M-PoolChecked
 use Rattle.pool_check.proofs.PoolChecked.TheLaws as L-PoolChecked
 use Rattle.pool_check.specs.declared.PoolChecked.{PoolChecked}
-use Rattle.frames.proofs.Lent.{at-list, Mine, Yours, Lent, Shown, lend, home, show, back, give}
+use Rattle.frames.proofs.Lent.{at_list, Mine, Yours, Lent, Shown, lend, home, show, back, give}
 use Rattle.pool_check.specs.contracts.conclude as callee'
 
 abbrev R-PoolChecked : RattleType
@@ -54,10 +54,10 @@ module _ {M : Type 1} {𝓤 : Ura M} (𝓛 : Logic 𝓤) (mem : Memory → SProp
   Asked = triple_of 𝓛 callee'.signature (callee'.spec 𝓛 mem run)
 
   abbrev pub to-step-g : (κ-pool : Lft) (q-pool : Share) (γ-pool : GName) (ν-work : ℕ) (δ-work : GName) (b-pool o-pool n-pool : ℕ) (pool : List ℕ) (b-work o-work n-work : ℕ) (work : List ℕ) (visited : Bool) (nodes : ℕ) (first : ℕ) → Asked.Ghost
-  to-step-g κ-pool q-pool γ-pool ν-work δ-work b-pool o-pool n-pool pool b-work o-work n-work work visited nodes first = (((κ-pool, ((ν-work ∷ []), tt)), (q-pool, (full_share, tt)), tt, (visited, (at-list b-pool o-pool γ-pool pool, (at-list b-work o-work δ-work work, (nodes, (first, tt))))), (vbool visited ∷ [], (slice_val (b-pool, o-pool) n-pool ∷ [], (slice_val (b-work, o-work) n-work ∷ [], (vint w32 nodes ∷ [], (vint w32 first ∷ [], tt)))))), tt)
+  to-step-g κ-pool q-pool γ-pool ν-work δ-work b-pool o-pool n-pool pool b-work o-work n-work work visited nodes first = (((κ-pool, ((ν-work ∷ []), tt)), (q-pool, (full_share, tt)), tt, (visited, (at_list b-pool o-pool γ-pool pool, (at_list b-work o-work δ-work work, (nodes, (first, tt))))), (vbool visited ∷ [], (slice_val (b-pool, o-pool) n-pool ∷ [], (slice_val (b-work, o-work) n-work ∷ [], (vint w32 nodes ∷ [], (vint w32 first ∷ [], tt)))))), tt)
 
-  pub goes-step-g : (κ-pool : Lft) (q-pool : Share) (γ-pool : GName) (ν-work : ℕ) (δ-work : GName) (b-pool o-pool n-pool : ℕ) (pool : List ℕ) (b-work o-work n-work : ℕ) (work : List ℕ) (visited : Bool) (nodes : ℕ) (first : ℕ) → (nodes-good : nodes < 2 ^ 32) (first_Good : first < 2 ^ 32) (ok' : (4 * nodes ≤ length pool) × (nodes ≤ length work)) → ent 𝓤 (⋆ 𝓛 (‵ (flft κ-pool q-pool) ∷ ‵ (flft (ν-work ∷ []) full_share) ∷ ‵ ((ShrSlice (named 0) κ-pool u32).own_val (at-list b-pool o-pool γ-pool pool) (slice_val (b-pool, o-pool) n-pool ∷ [])) ∷ ‵ ((MutSlice (named 0) (ν-work ∷ []) u32).own_val (at-list b-work o-work δ-work work) (slice_val (b-work, o-work) n-work ∷ [])) ∷ [])) (Asked.pre (to-step-g κ-pool q-pool γ-pool ν-work δ-work b-pool o-pool n-pool pool b-work o-work n-work work visited nodes first))
-  goes-step-g κ-pool q-pool γ-pool ν-work δ-work b-pool o-pool n-pool pool b-work o-work n-work work visited nodes first nodes-good first_Good ok' = qed 𝓛 (‵ (flft κ-pool q-pool) ∷ ‵ (flft (ν-work ∷ []) full_share) ∷ ‵ ((ShrSlice (named 0) κ-pool u32).own_val (at-list b-pool o-pool γ-pool pool) (slice_val (b-pool, o-pool) n-pool ∷ [])) ∷ ‵ ((MutSlice (named 0) (ν-work ∷ []) u32).own_val (at-list b-work o-work δ-work work) (slice_val (b-work, o-work) n-work ∷ [])) ∷ []) ∵ says ! ok' $ nothing ! $ move ! (1 ∷ 2 ∷ 0 ∷ []) $ group ! 3 $ frame ! $
+  pub goes-step-g : (κ-pool : Lft) (q-pool : Share) (γ-pool : GName) (ν-work : ℕ) (δ-work : GName) (b-pool o-pool n-pool : ℕ) (pool : List ℕ) (b-work o-work n-work : ℕ) (work : List ℕ) (visited : Bool) (nodes : ℕ) (first : ℕ) → (nodes-good : nodes < 2 ^ 32) (first_Good : first < 2 ^ 32) (ok' : (4 * nodes ≤ length pool) × (nodes ≤ length work)) → ent 𝓤 (⋆ 𝓛 (‵ (flft κ-pool q-pool) ∷ ‵ (flft (ν-work ∷ []) full_share) ∷ ‵ ((ShrSlice (named 0) κ-pool u32).own_val (at_list b-pool o-pool γ-pool pool) (slice_val (b-pool, o-pool) n-pool ∷ [])) ∷ ‵ ((MutSlice (named 0) (ν-work ∷ []) u32).own_val (at_list b-work o-work δ-work work) (slice_val (b-work, o-work) n-work ∷ [])) ∷ [])) (Asked.pre (to-step-g κ-pool q-pool γ-pool ν-work δ-work b-pool o-pool n-pool pool b-work o-work n-work work visited nodes first))
+  goes-step-g κ-pool q-pool γ-pool ν-work δ-work b-pool o-pool n-pool pool b-work o-work n-work work visited nodes first nodes-good first_Good ok' = qed 𝓛 (‵ (flft κ-pool q-pool) ∷ ‵ (flft (ν-work ∷ []) full_share) ∷ ‵ ((ShrSlice (named 0) κ-pool u32).own_val (at_list b-pool o-pool γ-pool pool) (slice_val (b-pool, o-pool) n-pool ∷ [])) ∷ ‵ ((MutSlice (named 0) (ν-work ∷ []) u32).own_val (at_list b-work o-work δ-work work) (slice_val (b-work, o-work) n-work ∷ [])) ∷ []) ∵ says ! ok' $ nothing ! $ move ! (1 ∷ 2 ∷ 0 ∷ []) $ group ! 3 $ frame ! $
       nothing ! $ owned ! u32 (Is u32) (uint_Makes 𝓛 w32) first _ (refl, first_Good) $ fjoin ! $ owned ! u32 (Is u32) (uint_Makes 𝓛 w32) nodes _ (refl, nodes-good) $ fjoin ! $ move ! (2 ∷ 0 ∷ []) $ fjoin ! $ move ! (1 ∷ 0 ∷ []) $ fjoin ! $ owned ! bool (Is bool) (bool_Makes 𝓛) visited _ refl $ fjoin ! $ done !
 
 module _ {M : Type 1} {𝓤 : Ura M} {𝓛 : Logic 𝓤} {K : Type 0} (mem : Memory → SProp 𝓤) (run : Routine → Fun 𝓤)
@@ -65,16 +65,16 @@ module _ {M : Type 1} {𝓤 : Ura M} {𝓛 : Logic 𝓤} {K : Type 0} (mem : Mem
   open 𝓛 use {H}
 
   pub step-g : K → FmC 𝓤 H 𝓛.laws C → Triple 𝓤 (C name') (Asked 𝓛 mem run) → {κ-pool : Lft} {q-pool : Share} {γ-pool : GName} {κ-work : Lft} {q-work : Share} {γ-work : GName} → (b-pool o-pool n-pool : ℕ) (pool : List ℕ) (b-work o-work n-work : ℕ) (work : List ℕ) (visited : Bool) (nodes : ℕ) (first : ℕ) → (nodes-good : nodes < 2 ^ 32) → (first_Good : first < 2 ^ 32) → (4 * nodes ≤ length pool) × (nodes ≤ length work) → length work ≡ n-work → Room u32 n-work →
-      ((ν-work : ℕ) (δ-work : GName) → Opds K 𝓛 (raw ((Asked 𝓛 mem run).pre (to-step-g 𝓛 mem run κ-pool q-pool γ-pool ν-work δ-work b-pool o-pool n-pool pool b-work o-work n-work work visited nodes first)) ∷ ‵ (Lent u32 κ-work (ν-work ∷ []) q-work γ-work b-work o-work δ-work work) ∷ ‵ ((ShrSlice (named 0) κ-pool u32).own_val (at-list b-pool o-pool γ-pool pool) (slice_val (b-pool, o-pool) n-pool ∷ [])) ∷ Γ) E opds' (vbool visited ∷ slice_val (b-pool, o-pool) n-pool ∷ slice_val (b-work, o-work) n-work ∷ vint w32 nodes ∷ vint w32 first ∷ [])) →
+      ((ν-work : ℕ) (δ-work : GName) → Opds K 𝓛 (raw ((Asked 𝓛 mem run).pre (to-step-g 𝓛 mem run κ-pool q-pool γ-pool ν-work δ-work b-pool o-pool n-pool pool b-work o-work n-work work visited nodes first)) ∷ ‵ (Lent u32 κ-work (ν-work ∷ []) q-work γ-work b-work o-work δ-work work) ∷ ‵ ((ShrSlice (named 0) κ-pool u32).own_val (at_list b-pool o-pool γ-pool pool) (slice_val (b-pool, o-pool) n-pool ∷ [])) ∷ Γ) E opds' (vbool visited ∷ slice_val (b-pool, o-pool) n-pool ∷ slice_val (b-work, o-work) n-work ∷ vint w32 nodes ∷ vint w32 first ∷ [])) →
       ((res' : PoolChecked) (zs-work : List ℕ) → Is R-PoolChecked res' (val-PoolChecked res' ∷ []) → (zs-work ≡ cleared nodes work) × (res' ≡ cond visited (settle nodes pool first work) Bad) → length zs-work ≡ length work → Seq K 𝓛 (‵ (Yours u32 κ-pool q-pool γ-pool b-pool o-pool n-pool pool) ∷ ‵ (Mine u32 κ-work q-work γ-work b-work o-work n-work zs-work) ∷ Γ) (lands C Λ E dest' (val-PoolChecked res') rest' post')) →
       Seq K 𝓛 (‵ (Yours u32 κ-pool q-pool γ-pool b-pool o-pool n-pool pool) ∷ ‵ (Mine u32 κ-work q-work γ-work b-work o-work n-work work) ∷ Γ) (runs C Λ E (seq (call name' opds' dest') rest') post')
   step-g t' fm' known' {κ-pool} {q-pool} {γ-pool} {κ-work} {q-work} {γ-work} b-pool o-pool n-pool pool b-work o-work n-work work visited nodes first nodes-good first_Good ok' len-work room-work os' k' =
       give t' u32 b-pool o-pool n-pool pool $ move t' (3 ∷ []) $ lend t' tt u32 b-work o-work n-work work len-work (λ ν-work δ-work.
       move t' (3 ∷ 0 ∷ 4 ∷ 1 ∷ []) $ group t' 4 $ use1 𝓛 (raw ((Asked 𝓛 mem run).pre (to-step-g 𝓛 mem run κ-pool q-pool γ-pool ν-work δ-work b-pool o-pool n-pool pool b-work o-work n-work work visited nodes first))) (goes-step-g 𝓛 mem run κ-pool q-pool γ-pool ν-work δ-work b-pool o-pool n-pool pool b-work o-work n-work work visited nodes first nodes-good first_Good ok') $
       calls_at t' fm' (Asked 𝓛 mem run) known' (to-step-g 𝓛 mem run κ-pool q-pool γ-pool ν-work δ-work b-pool o-pool n-pool pool b-work o-work n-work work visited nodes first) (os' ν-work δ-work) (λ w'.
-      use1 𝓛 (later (some (λ (res' : PoolChecked). ((‵ (flft κ-pool q-pool) ⊛ (‵ (flft (ν-work ∷ []) full_share) ⊛ ‵ ftrue)) ⊛ ‵ (R-PoolChecked.own res' (w' ∷ []))) ⊛ raw (ensured 𝓛 callee'.ended (callee'.clauses 𝓛 mem run) (κ-pool, ((ν-work ∷ []), tt)) (visited, (at-list b-pool o-pool γ-pool pool, (at-list b-work o-work δ-work work, (nodes, (first, tt))))) tt res')))) (id⊢ 𝓤 _) $ await t' tt $ pick t' (λ res'. split t' $ move t' (1 ∷ []) $
-      use1 𝓛 (some (λ (zs' : Unit {0} × (Unit {0} × (List ℕ × (Unit {0} × (Unit {0} × Unit {0}))))). ‵ (lasts callee'.ended (κ-pool, ((ν-work ∷ []), tt)) (visited, (at-list b-pool o-pool γ-pool pool, (at-list b-work o-work δ-work work, (nodes, (first, tt))))) zs') ⊛ raw (fact 𝓤 ((zs'.1.1.0 ≡ cleared nodes work) × (res' ≡ cond visited (settle nodes pool first work) Bad))))) (id⊢ 𝓤 _) $ pick t' (λ zs'. split t' $ move t' (1 ∷ []) $ heard t' ((zs'.1.1.0 ≡ cleared nodes work) × (res' ≡ cond visited (settle nodes pool first work) Bad)) (λ e'.
-      fsplit t' $ drop t' $ fsplit t' $ drop t' $ fsplit t' $ fsplit t' $ move t' (1 ∷ []) $ feq_l t' (λ same-work. move t' (1 ∷ []) $ fsplit t' $ drop t' $ fsplit t' $ drop t' $ drop t' $
+      use1 𝓛 (later (some (λ (res' : PoolChecked). ((‵ (flft κ-pool q-pool) ⊛ (‵ (flft (ν-work ∷ []) full_share) ⊛ ‵ ftrue)) ⊛ ‵ (R-PoolChecked.own res' (w' ∷ []))) ⊛ raw (ensured 𝓛 callee'.ended (callee'.clauses 𝓛 mem run) (κ-pool, ((ν-work ∷ []), tt)) (visited, (at_list b-pool o-pool γ-pool pool, (at_list b-work o-work δ-work work, (nodes, (first, tt))))) tt res')))) (id⊢ 𝓤 _) $ await t' tt $ pick t' (λ res'. split t' $ move t' (1 ∷ []) $
+      use1 𝓛 (some (λ (zs' : Unit {0} × (Unit {0} × (List ℕ × (Unit {0} × (Unit {0} × Unit {0}))))). ‵ (lasts callee'.ended (κ-pool, ((ν-work ∷ []), tt)) (visited, (at_list b-pool o-pool γ-pool pool, (at_list b-work o-work δ-work work, (nodes, (first, tt))))) zs') ⊛ raw (fact 𝓤 ((zs'.1.1.0 ≡ cleared nodes work) × (res' ≡ cond visited (settle nodes pool first work) Bad))))) (id⊢ 𝓤 _) $ pick t' (λ zs'. split t' $ move t' (1 ∷ []) $ heard t' ((zs'.1.1.0 ≡ cleared nodes work) × (res' ≡ cond visited (settle nodes pool first work) Bad)) (λ e'.
+      fsplit t' $ drop t' $ fsplit t' $ drop t' $ fsplit t' $ fsplit t' $ move t' (1 ∷ []) $ feq_l t' (λ same_work. move t' (1 ∷ []) $ fsplit t' $ drop t' $ fsplit t' $ drop t' $ drop t' $
       move t' (1 ∷ []) $ split t' $ move t' (1 ∷ []) $ peeks t' R-PoolChecked (Is R-PoolChecked) (shows 𝓛 R-PoolChecked) res' (w' ∷ []) (λ is'. drop t' $ split t' $ move t' (1 ∷ []) $ split t' $ move t' (1 ∷ []) $ drop t' $
-      move t' (0 ∷ 3 ∷ 2 ∷ []) $ home t' tt u32 b-work o-work n-work work zs'.1.1.0 len-work room-work same-work $ move t' (2 ∷ 1 ∷ []) $ fjoin t' $
-      subst (λ (v' : Val). Seq K 𝓛 (‵ (Yours u32 κ-pool q-pool γ-pool b-pool o-pool n-pool pool) ∷ ‵ (Mine u32 κ-work q-work γ-work b-work o-work n-work zs'.1.1.0) ∷ Γ) (lands C Λ E dest' v' rest' post')) (sym (ap only (EL.tells M-PoolChecked.the_type L-PoolChecked.the_laws res' _ is'))) (k' res' zs'.1.1.0 (subst (Is R-PoolChecked res') (EL.tells M-PoolChecked.the_type L-PoolChecked.the_laws res' _ is') is') e' same-work))))))))
+      move t' (0 ∷ 3 ∷ 2 ∷ []) $ home t' tt u32 b-work o-work n-work work zs'.1.1.0 len-work room-work same_work $ move t' (2 ∷ 1 ∷ []) $ fjoin t' $
+      subst (λ (v' : Val). Seq K 𝓛 (‵ (Yours u32 κ-pool q-pool γ-pool b-pool o-pool n-pool pool) ∷ ‵ (Mine u32 κ-work q-work γ-work b-work o-work n-work zs'.1.1.0) ∷ Γ) (lands C Λ E dest' v' rest' post')) (sym (ap only (EL.tells M-PoolChecked.the_type L-PoolChecked.the_laws res' _ is'))) (k' res' zs'.1.1.0 (subst (Is R-PoolChecked res') (EL.tells M-PoolChecked.the_type L-PoolChecked.the_laws res' _ is') is') e' same_work))))))))

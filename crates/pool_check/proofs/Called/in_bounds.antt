@@ -32,8 +32,8 @@ use denote.Triple.Statement.{Contract, Triple}
 use denote.Triple.Call.{calls_at, calls_at_last}
 use denote.Triple.Clauses.{ensured, lasts}
 use denote.Triple.Walked.{says}
-use Rattle.pool_check.specs.Answer.{inBounds}
-use Rattle.frames.proofs.Lent.{at-list, Mine, Yours, Lent, Shown, lend, home, show, back, give}
+use Rattle.pool_check.specs.Answer.{in_bounds}
+use Rattle.frames.proofs.Lent.{at_list, Mine, Yours, Lent, Shown, lend, home, show, back, give}
 use Rattle.pool_check.specs.contracts.in_bounds as callee'
 
 module _ {M : Type 1} {𝓤 : Ura M} (𝓛 : Logic 𝓤) (mem : Memory → SProp 𝓤) (run : Routine → Fun 𝓤) where
@@ -41,10 +41,10 @@ module _ {M : Type 1} {𝓤 : Ura M} (𝓛 : Logic 𝓤) (mem : Memory → SProp
   Asked = triple_of 𝓛 callee'.signature (callee'.spec 𝓛 mem run)
 
   abbrev pub to-step-gs : (κ-pool : Lft) (q-pool : Share) (γ-pool : GName) (ν-work : ℕ) (δ-work : GName) (b-pool o-pool n-pool : ℕ) (pool : List ℕ) (b-work o-work n-work : ℕ) (work : List ℕ) (n : ℕ) (nodes : ℕ) → Asked.Ghost
-  to-step-gs κ-pool q-pool γ-pool ν-work δ-work b-pool o-pool n-pool pool b-work o-work n-work work n nodes = (((κ-pool, ((ν-work ∷ []), tt)), (q-pool, (full_share, tt)), tt, (n, (nodes, (at-list b-pool o-pool γ-pool pool, (at-list b-work o-work δ-work work, tt)))), (vint w32 n ∷ [], (vint w32 nodes ∷ [], (slice_val (b-pool, o-pool) n-pool ∷ [], (slice_val (b-work, o-work) n-work ∷ [], tt))))), tt)
+  to-step-gs κ-pool q-pool γ-pool ν-work δ-work b-pool o-pool n-pool pool b-work o-work n-work work n nodes = (((κ-pool, ((ν-work ∷ []), tt)), (q-pool, (full_share, tt)), tt, (n, (nodes, (at_list b-pool o-pool γ-pool pool, (at_list b-work o-work δ-work work, tt)))), (vint w32 n ∷ [], (vint w32 nodes ∷ [], (slice_val (b-pool, o-pool) n-pool ∷ [], (slice_val (b-work, o-work) n-work ∷ [], tt))))), tt)
 
-  pub goes-step-gs : (κ-pool : Lft) (q-pool : Share) (γ-pool : GName) (ν-work : ℕ) (δ-work : GName) (b-pool o-pool n-pool : ℕ) (pool : List ℕ) (b-work o-work n-work : ℕ) (work : List ℕ) (n : ℕ) (nodes : ℕ) → (n-good : n < 2 ^ 32) (nodes-good : nodes < 2 ^ 32) → ent 𝓤 (⋆ 𝓛 (‵ (flft κ-pool q-pool) ∷ ‵ (flft (ν-work ∷ []) full_share) ∷ ‵ ((ShrSlice (named 0) κ-pool u32).own_val (at-list b-pool o-pool γ-pool pool) (slice_val (b-pool, o-pool) n-pool ∷ [])) ∷ ‵ ((ShrSlice (named 0) (ν-work ∷ []) u32).own_val (at-list b-work o-work δ-work work) (slice_val (b-work, o-work) n-work ∷ [])) ∷ [])) (Asked.pre (to-step-gs κ-pool q-pool γ-pool ν-work δ-work b-pool o-pool n-pool pool b-work o-work n-work work n nodes))
-  goes-step-gs κ-pool q-pool γ-pool ν-work δ-work b-pool o-pool n-pool pool b-work o-work n-work work n nodes n-good nodes-good = qed 𝓛 (‵ (flft κ-pool q-pool) ∷ ‵ (flft (ν-work ∷ []) full_share) ∷ ‵ ((ShrSlice (named 0) κ-pool u32).own_val (at-list b-pool o-pool γ-pool pool) (slice_val (b-pool, o-pool) n-pool ∷ [])) ∷ ‵ ((ShrSlice (named 0) (ν-work ∷ []) u32).own_val (at-list b-work o-work δ-work work) (slice_val (b-work, o-work) n-work ∷ [])) ∷ []) ∵ nothing ! $ move ! (1 ∷ 2 ∷ 0 ∷ []) $ group ! 3 $ move ! (1 ∷ 2 ∷ 0 ∷ []) $
+  pub goes-step-gs : (κ-pool : Lft) (q-pool : Share) (γ-pool : GName) (ν-work : ℕ) (δ-work : GName) (b-pool o-pool n-pool : ℕ) (pool : List ℕ) (b-work o-work n-work : ℕ) (work : List ℕ) (n : ℕ) (nodes : ℕ) → (n-good : n < 2 ^ 32) (nodes-good : nodes < 2 ^ 32) → ent 𝓤 (⋆ 𝓛 (‵ (flft κ-pool q-pool) ∷ ‵ (flft (ν-work ∷ []) full_share) ∷ ‵ ((ShrSlice (named 0) κ-pool u32).own_val (at_list b-pool o-pool γ-pool pool) (slice_val (b-pool, o-pool) n-pool ∷ [])) ∷ ‵ ((ShrSlice (named 0) (ν-work ∷ []) u32).own_val (at_list b-work o-work δ-work work) (slice_val (b-work, o-work) n-work ∷ [])) ∷ [])) (Asked.pre (to-step-gs κ-pool q-pool γ-pool ν-work δ-work b-pool o-pool n-pool pool b-work o-work n-work work n nodes))
+  goes-step-gs κ-pool q-pool γ-pool ν-work δ-work b-pool o-pool n-pool pool b-work o-work n-work work n nodes n-good nodes-good = qed 𝓛 (‵ (flft κ-pool q-pool) ∷ ‵ (flft (ν-work ∷ []) full_share) ∷ ‵ ((ShrSlice (named 0) κ-pool u32).own_val (at_list b-pool o-pool γ-pool pool) (slice_val (b-pool, o-pool) n-pool ∷ [])) ∷ ‵ ((ShrSlice (named 0) (ν-work ∷ []) u32).own_val (at_list b-work o-work δ-work work) (slice_val (b-work, o-work) n-work ∷ [])) ∷ []) ∵ nothing ! $ move ! (1 ∷ 2 ∷ 0 ∷ []) $ group ! 3 $ move ! (1 ∷ 2 ∷ 0 ∷ []) $
       nothing ! $ move ! (2 ∷ 0 ∷ []) $ fjoin ! $ move ! (1 ∷ 0 ∷ []) $ fjoin ! $ owned ! u32 (Is u32) (uint_Makes 𝓛 w32) nodes _ (refl, nodes-good) $ fjoin ! $ owned ! u32 (Is u32) (uint_Makes 𝓛 w32) n _ (refl, n-good) $ fjoin ! $ move ! (1 ∷ 0 ∷ []) $ join ! $ frame ! $ done !
 
 module _ {M : Type 1} {𝓤 : Ura M} {𝓛 : Logic 𝓤} {K : Type 0} (mem : Memory → SProp 𝓤) (run : Routine → Fun 𝓤)
@@ -52,15 +52,15 @@ module _ {M : Type 1} {𝓤 : Ura M} {𝓛 : Logic 𝓤} {K : Type 0} (mem : Mem
   open 𝓛 use {H}
 
   pub step-gs : K → FmC 𝓤 H 𝓛.laws C → Triple 𝓤 (C name') (Asked 𝓛 mem run) → {κ-pool : Lft} {q-pool : Share} {γ-pool : GName} {κ-work : Lft} {q-work : Share} {γ-work : GName} → (b-pool o-pool n-pool : ℕ) (pool : List ℕ) (b-work o-work n-work : ℕ) (work : List ℕ) (n : ℕ) (nodes : ℕ) → (n-good : n < 2 ^ 32) → (nodes-good : nodes < 2 ^ 32) → length work ≡ n-work → Room u32 n-work →
-      ((ν-work : ℕ) (δ-work : GName) → Opds K 𝓛 (raw ((Asked 𝓛 mem run).pre (to-step-gs 𝓛 mem run κ-pool q-pool γ-pool ν-work δ-work b-pool o-pool n-pool pool b-work o-work n-work work n nodes)) ∷ ‵ (Shown u32 κ-work (ν-work ∷ []) q-work γ-work b-work o-work work) ∷ ‵ ((ShrSlice (named 0) κ-pool u32).own_val (at-list b-pool o-pool γ-pool pool) (slice_val (b-pool, o-pool) n-pool ∷ [])) ∷ Γ) E opds' (vint w32 n ∷ vint w32 nodes ∷ slice_val (b-pool, o-pool) n-pool ∷ slice_val (b-work, o-work) n-work ∷ [])) →
-      ((res' : Bool) → res' ≡ inBounds n nodes pool work → Seq K 𝓛 (‵ (Yours u32 κ-pool q-pool γ-pool b-pool o-pool n-pool pool) ∷ ‵ (Mine u32 κ-work q-work γ-work b-work o-work n-work work) ∷ Γ) (lands C Λ E dest' (vbool res') rest' post')) →
+      ((ν-work : ℕ) (δ-work : GName) → Opds K 𝓛 (raw ((Asked 𝓛 mem run).pre (to-step-gs 𝓛 mem run κ-pool q-pool γ-pool ν-work δ-work b-pool o-pool n-pool pool b-work o-work n-work work n nodes)) ∷ ‵ (Shown u32 κ-work (ν-work ∷ []) q-work γ-work b-work o-work work) ∷ ‵ ((ShrSlice (named 0) κ-pool u32).own_val (at_list b-pool o-pool γ-pool pool) (slice_val (b-pool, o-pool) n-pool ∷ [])) ∷ Γ) E opds' (vint w32 n ∷ vint w32 nodes ∷ slice_val (b-pool, o-pool) n-pool ∷ slice_val (b-work, o-work) n-work ∷ [])) →
+      ((res' : Bool) → res' ≡ in_bounds n nodes pool work → Seq K 𝓛 (‵ (Yours u32 κ-pool q-pool γ-pool b-pool o-pool n-pool pool) ∷ ‵ (Mine u32 κ-work q-work γ-work b-work o-work n-work work) ∷ Γ) (lands C Λ E dest' (vbool res') rest' post')) →
       Seq K 𝓛 (‵ (Yours u32 κ-pool q-pool γ-pool b-pool o-pool n-pool pool) ∷ ‵ (Mine u32 κ-work q-work γ-work b-work o-work n-work work) ∷ Γ) (runs C Λ E (seq (call name' opds' dest') rest') post')
   step-gs t' fm' known' {κ-pool} {q-pool} {γ-pool} {κ-work} {q-work} {γ-work} b-pool o-pool n-pool pool b-work o-work n-work work n nodes n-good nodes-good len-work room-work os' k' =
       give t' u32 b-pool o-pool n-pool pool $ move t' (3 ∷ []) $ show t' tt u32 b-work o-work n-work work len-work (λ ν-work δ-work.
       move t' (3 ∷ 0 ∷ 4 ∷ 1 ∷ []) $ group t' 4 $ use1 𝓛 (raw ((Asked 𝓛 mem run).pre (to-step-gs 𝓛 mem run κ-pool q-pool γ-pool ν-work δ-work b-pool o-pool n-pool pool b-work o-work n-work work n nodes))) (goes-step-gs 𝓛 mem run κ-pool q-pool γ-pool ν-work δ-work b-pool o-pool n-pool pool b-work o-work n-work work n nodes n-good nodes-good) $
       calls_at t' fm' (Asked 𝓛 mem run) known' (to-step-gs 𝓛 mem run κ-pool q-pool γ-pool ν-work δ-work b-pool o-pool n-pool pool b-work o-work n-work work n nodes) (os' ν-work δ-work) (λ w'.
-      use1 𝓛 (later (some (λ (res' : Bool). ((‵ (flft κ-pool q-pool) ⊛ (‵ (flft (ν-work ∷ []) full_share) ⊛ ‵ ftrue)) ⊛ ‵ (bool.own_val res' (w' ∷ []))) ⊛ raw (ensured 𝓛 callee'.ended (callee'.clauses 𝓛 mem run) (κ-pool, ((ν-work ∷ []), tt)) (n, (nodes, (at-list b-pool o-pool γ-pool pool, (at-list b-work o-work δ-work work, tt)))) tt res')))) (id⊢ 𝓤 _) $ await t' tt $ pick t' (λ res'. split t' $ move t' (1 ∷ []) $
-      use1 𝓛 (some (λ (zs' : Unit {0} × (Unit {0} × (Unit {0} × (Unit {0} × Unit {0})))). ‵ (lasts callee'.ended (κ-pool, ((ν-work ∷ []), tt)) (n, (nodes, (at-list b-pool o-pool γ-pool pool, (at-list b-work o-work δ-work work, tt)))) zs') ⊛ raw (fact 𝓤 (res' ≡ inBounds n nodes pool work)))) (id⊢ 𝓤 _) $ pick t' (λ zs'. split t' $ move t' (1 ∷ []) $ heard t' (res' ≡ inBounds n nodes pool work) (λ e'.
+      use1 𝓛 (later (some (λ (res' : Bool). ((‵ (flft κ-pool q-pool) ⊛ (‵ (flft (ν-work ∷ []) full_share) ⊛ ‵ ftrue)) ⊛ ‵ (bool.own_val res' (w' ∷ []))) ⊛ raw (ensured 𝓛 callee'.ended (callee'.clauses 𝓛 mem run) (κ-pool, ((ν-work ∷ []), tt)) (n, (nodes, (at_list b-pool o-pool γ-pool pool, (at_list b-work o-work δ-work work, tt)))) tt res')))) (id⊢ 𝓤 _) $ await t' tt $ pick t' (λ res'. split t' $ move t' (1 ∷ []) $
+      use1 𝓛 (some (λ (zs' : Unit {0} × (Unit {0} × (Unit {0} × (Unit {0} × Unit {0})))). ‵ (lasts callee'.ended (κ-pool, ((ν-work ∷ []), tt)) (n, (nodes, (at_list b-pool o-pool γ-pool pool, (at_list b-work o-work δ-work work, tt)))) zs') ⊛ raw (fact 𝓤 (res' ≡ in_bounds n nodes pool work)))) (id⊢ 𝓤 _) $ pick t' (λ zs'. split t' $ move t' (1 ∷ []) $ heard t' (res' ≡ in_bounds n nodes pool work) (λ e'.
       fsplit t' $ drop t' $ fsplit t' $ drop t' $ fsplit t' $ drop t' $ fsplit t' $ drop t' $ drop t' $
       move t' (0 ∷ []) $ split t' $ move t' (1 ∷ []) $ peeks t' bool (Is bool) (shows 𝓛 bool) res' (w' ∷ []) (λ is'. drop t' $ split t' $ move t' (1 ∷ []) $ split t' $ move t' (1 ∷ []) $ drop t' $
       move t' (0 ∷ 2 ∷ []) $ back t' tt u32 b-work o-work n-work work len-work room-work $ move t' (2 ∷ 1 ∷ []) $ fjoin t' $

@@ -36,7 +36,7 @@ use Rattle.pool_check.specs.declared.PoolChecked.TheVariants.{Bad}
 use Rattle.pool_check.specs.contracts.PoolChecked as M-PoolChecked
 use Rattle.pool_check.proofs.PoolChecked.TheLaws as L-PoolChecked
 use Rattle.pool_check.specs.declared.PoolChecked.{PoolChecked}
-use Rattle.frames.proofs.Lent.{at-list, Mine, Yours, Lent, Shown, lend, home, show, back, give}
+use Rattle.frames.proofs.Lent.{at_list, Mine, Yours, Lent, Shown, lend, home, show, back, give}
 use Rattle.pool_check.specs.contracts.out_of_bounds as callee'
 
 abbrev R-PoolChecked : RattleType

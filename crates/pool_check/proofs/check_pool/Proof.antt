@@ -44,10 +44,10 @@ use denote.Triple.Statement.{Triple}
 use denote.Triple.Table.{entered, cited}
 use denote.Triple.Walked.{says, needs, Stays, stay_slice, stay_none, stay_none_slice, walk_of, Walks, ends_at, walked, Goes-slice, Goes-none, Goes-none_slice, walk_Meets}
 use borrow.Author.Rules.{scaled_Fits}
-use Rattle.frames.proofs.Lent.{at-list, Mine, Yours, ty_at, exit-unless, exit-if, leave-if, fork, skipped, regroup, matched, matched-last, const, is_true, is_false, not-not, differ, widen, less-fits, after, turn-of, take_out, put_in, put_back, look-out, look-back, free_all}
+use Rattle.frames.proofs.Lent.{at_list, Mine, Yours, ty_at, exit_unless, exit_if, leave_if, fork, skipped, regroup, matched, matched_last, const, is_true, is_false, not_not, differ, widen, less_fits, after, turn_of_lem, take_out, put_in, put_back, look_out, look_back, free_all}
 use Rattle.soundness.specs.Soundness.{cleared}
-use Rattle.frames.specs.Widths.{maxPlaces}
-use Rattle.pool_check.specs.Answer.{poolChecked}
+use Rattle.frames.specs.Widths.{max_places}
+use Rattle.pool_check.specs.Answer.{pool_checked}
 use Rattle.pool_check.specs.Algorithm.{DeadFrom}
 use Rattle.pool_check.proofs.Called.clear as S-clear
 use Rattle.pool_check.proofs.work.clear.Symbol as D-clear
@@ -110,7 +110,7 @@ module _ {M : Type 1} {𝓤 : Ura M} (𝓛 : Logic 𝓤) (mem : Memory → SProp
   n-work = length work
 
   abbrev args' : ℕ × (ℕ × (ℕ × (ℕ × (Bor (List Frame) × (Bor (List ℕ) × (Bor (List ℕ) × Unit {0}))))))
-  args' = (n, (nodes, (first', (end, (at-list b-frames o-frames γ-frames frames, (at-list b-pool o-pool γ-pool pool, (at-list b-work o-work γ-work work, tt)))))))
+  args' = (n, (nodes, (first', (end, (at_list b-frames o-frames γ-frames frames, (at_list b-pool o-pool γ-pool pool, (at_list b-work o-work γ-work work, tt)))))))
 
   abbrev vals' : Vals f'.signature (κ-frames, (κ-pool, (κ-work, tt)))
   vals' = (vint w32 n ∷ [], (vint w32 nodes ∷ [], (vint w32 first' ∷ [], (vint w32 end ∷ [], (slice_val (b-frames, o-frames) (length frames) ∷ [], (slice_val (b-pool, o-pool) (length pool) ∷ [], (slice_val (b-work, o-work) (length work) ∷ [], tt)))))))
@@ -121,10 +121,10 @@ module _ {M : Type 1} {𝓤 : Ura M} (𝓛 : Logic 𝓤) (mem : Memory → SProp
   abbrev Post : Val → SProp 𝓤
   Post = (walk_of 𝓛 f'.ended stayed (f'.clauses 𝓛 mem run)).post bound'
 
-  exits' : (res' : PoolChecked) (zs-work : List ℕ) → Is R-PoolChecked res' (val-PoolChecked res' ∷ []) → (zs-work ≡ cleared nodes work) × (res' ≡ poolChecked n nodes first' frames pool work) → length zs-work ≡ length work → ent 𝓤 (⋆ 𝓛 (‵ (Yours R-Frame κ-frames q-frames γ-frames b-frames o-frames n-frames frames) ∷ ‵ (Yours u32 κ-pool q-pool γ-pool b-pool o-pool n-pool pool) ∷ ‵ (Mine u32 κ-work q-work γ-work b-work o-work n-work zs-work) ∷ [])) (Post (val-PoolChecked res'))
-  exits' res' zs-work good' e' same-work =
+  exits' : (res' : PoolChecked) (zs-work : List ℕ) → Is R-PoolChecked res' (val-PoolChecked res' ∷ []) → (zs-work ≡ cleared nodes work) × (res' ≡ pool_checked n nodes first' frames pool work) → length zs-work ≡ length work → ent 𝓤 (⋆ 𝓛 (‵ (Yours R-Frame κ-frames q-frames γ-frames b-frames o-frames n-frames frames) ∷ ‵ (Yours u32 κ-pool q-pool γ-pool b-pool o-pool n-pool pool) ∷ ‵ (Mine u32 κ-work q-work γ-work b-work o-work n-work zs-work) ∷ [])) (Post (val-PoolChecked res'))
+  exits' res' zs-work good' e' same_work =
       qed 𝓛 (‵ (Yours R-Frame κ-frames q-frames γ-frames b-frames o-frames n-frames frames) ∷ ‵ (Yours u32 κ-pool q-pool γ-pool b-pool o-pool n-pool pool) ∷ ‵ (Mine u32 κ-work q-work γ-work b-work o-work n-work zs-work) ∷ []) ∵
-      suffices ! _ (ends_at 𝓛 f'.ended stayed (f'.clauses 𝓛 mem run) bound' (val-PoolChecked res') res' (tt, (tt, (tt, (tt, (tt, (tt, (zs-work, tt))))))) (tt, (tt, (tt, (tt, (tt, (tt, (same-work, tt)))))))) $ says ! e' $
+      suffices ! _ (ends_at 𝓛 f'.ended stayed (f'.clauses 𝓛 mem run) bound' (val-PoolChecked res') res' (tt, (tt, (tt, (tt, (tt, (tt, (zs-work, tt))))))) (tt, (tt, (tt, (tt, (tt, (tt, (same_work, tt)))))))) $ says ! e' $
       fsplit ! $ move ! (2 ∷ []) $ fsplit ! $ move ! (4 ∷ []) $ fsplit ! $ nothing ! $ move ! (6 ∷ 4 ∷ 2 ∷ 0 ∷ []) $ group ! 4 $ frame ! $
       nothing ! $ move ! (1 ∷ 0 ∷ []) $ fjoin ! $ move ! (1 ∷ 0 ∷ []) $ fjoin ! $ move ! (1 ∷ 0 ∷ []) $ fjoin ! $ owned ! u32 (Is u32) (uint_Makes 𝓛 w32) end _ (refl, end_fits) $ fjoin ! $ owned ! u32 (Is u32) (uint_Makes 𝓛 w32) first' _ (refl, first'-fits) $ fjoin ! $ owned ! u32 (Is u32) (uint_Makes 𝓛 w32) nodes _ (refl, nodes-fits) $ fjoin ! $ owned ! u32 (Is u32) (uint_Makes 𝓛 w32) n _ (refl, n-fits) $ fjoin ! $ frame ! $
       owned ! R-PoolChecked (Is R-PoolChecked) (EL.makes M-PoolChecked.the_type L-PoolChecked.the_plain 𝓛) res' _ good' $ done !
@@ -133,7 +133,7 @@ module _ {M : Type 1} {𝓤 : Ura M} (𝓛 : Logic 𝓤) (mem : Memory → SProp
     abbrev fm : FmC 𝓤 H 𝓛.laws 𝓣.C
     fm = fm_of 𝓤 H 𝓛.laws 𝓣
 
-    walk : (length frames ≤ maxPlaces) × DeadFrom frames end → ent 𝓤 (on_entry 𝓛 f'.signature (κ-frames, (κ-pool, (κ-work, tt))) (q-frames, (q-pool, (q-work, tt))) args' vals') (WpFn 𝓤 H 𝓣.C 𝓣.Λ code.function (vint w32 n ∷ vint w32 nodes ∷ vint w32 first' ∷ vint w32 end ∷ slice_val (b-frames, o-frames) (length frames) ∷ slice_val (b-pool, o-pool) (length pool) ∷ slice_val (b-work, o-work) (length work) ∷ []) Post)
+    walk : (length frames ≤ max_places) × DeadFrom frames end → ent 𝓤 (on_entry 𝓛 f'.signature (κ-frames, (κ-pool, (κ-work, tt))) (q-frames, (q-pool, (q-work, tt))) args' vals') (WpFn 𝓤 H 𝓣.C 𝓣.Λ code.function (vint w32 n ∷ vint w32 nodes ∷ vint w32 first' ∷ vint w32 end ∷ slice_val (b-frames, o-frames) (length frames) ∷ slice_val (b-pool, o-pool) (length pool) ∷ slice_val (b-work, o-work) (length work) ∷ []) Post)
     walk ok' =
         qed 𝓛 ((‵ (flft κ-frames q-frames) ⊛ ‵ (flft κ-pool q-pool) ⊛ ‵ (flft κ-work q-work) ⊛ ‵ ftrue) ∷ ‵ (owns (u32 ∷ u32 ∷ u32 ∷ u32 ∷ ShrSlice (named 0) κ-frames R-Frame ∷ ShrSlice (named 1) κ-pool u32 ∷ MutSlice (named 2) κ-work u32 ∷ []) args' vals') ∷ []) ∵ enter ! 𝓣.C 𝓣.Λ code.function (vint w32 n ∷ vint w32 nodes ∷ vint w32 first' ∷ vint w32 end ∷ slice_val (b-frames, o-frames) (length frames) ∷ slice_val (b-pool, o-pool) (length pool) ∷ slice_val (b-work, o-work) (length work) ∷ []) _ $
         alloc1 ! (λ l₀. alloc1 ! (λ l₁. alloc1 ! (λ l₂. alloc1 ! (λ l₃. alloc1 ! (λ l₄. alloc1 ! (λ l₅. alloc1 ! (λ l₆. alloc1 ! (λ l₇. alloc1 ! (λ l₈. alloc1 ! (λ l₉. alloc1 ! (λ l₁₀. alloc1 ! (λ l₁₁. alloc1 ! (λ l₁₂. alloc1 ! (λ l₁₃. alloc1 ! (λ l₁₄. alloc1 ! (λ l₁₅. alloc1 ! (λ l₁₆. alloc1 ! (λ l₁₇. alloc1 ! (λ l₁₈. alloc1 ! (λ l₁₉. alloc0 ! $ params1 ! $
@@ -155,7 +155,7 @@ module _ {M : Type 1} {𝓤 : Ura M} (𝓛 : Logic 𝓤) (mem : Memory → SProp
         (λ ν-0 δ-0. and_then ! (load ! (from ! (stop !)) (look ! 40 refl)) (and_then ! (load ! (from ! (stop !)) (look ! 38 refl)) (and_then ! (load ! (from ! (stop !)) (look ! 30 refl)) (and_then ! (load ! (from ! (stop !)) (look ! 14 refl)) (no_more !))))) (λ r-2 r-2-is.
         land ! (from ! (stop !)) (init ! 17 refl (tt, tt)) $
         assigns ! (un ! (load ! (from ! (stop !)) (look ! 17 refl)) tt) (from ! (stop !)) (init ! 11 refl (tt, tt)) $
-        leave-if ! (load ! (from ! (stop !)) (look ! 11 refl))
+        leave_if ! (load ! (from ! (stop !)) (look ! 11 refl))
         (λ test-3.
         -- _0 = pool_check::out_of_bounds()
         S-out-of-bounds.step mem run ! fm known-out-of-bounds
@@ -170,20 +170,20 @@ module _ {M : Type 1} {𝓤 : Ura M} (𝓛 : Logic 𝓤) (mem : Memory → SProp
         assigns ! (agg ! (and_then ! (load ! (from ! (stop !)) (look ! 9 refl)) (and_then ! (load ! (from ! (fld ! refl (stop !))) (look_in ! 27 (sub ! 1 refl (whole !)))) (no_more !)))) (from ! (stop !)) (init ! 7 refl (tt, (tt, (record { fits = room-work.0 }, tt)))) $
         -- _8 = pool_check::trees::visit_places(_5, _6, _17, _1, _2, _4)
         move ! (2 ∷ 0 ∷ 1 ∷ []) $
-        S-visit-places.step-gg mem run ! fm known-visit-places b-frames o-frames n-frames frames b-pool o-pool n-pool pool b-work o-work n-work work-1 n nodes end n-fits nodes-fits end_fits (F.needs-6 n nodes first' end frames pool work n-fits nodes-fits first'-fits end_fits room-frames.0 room-pool.0 room-work.0 ok' work-1 done-1 same-work-1 r-2 r-2-is (is_true r-2 (not-not r-2 test-3))) (same-work-1) room-work
+        S-visit-places.step-gg mem run ! fm known-visit-places b-frames o-frames n-frames frames b-pool o-pool n-pool pool b-work o-work n-work work-1 n nodes end n-fits nodes-fits end_fits (F.needs-6 n nodes first' end frames pool work n-fits nodes-fits first'-fits end_fits room-frames.0 room-pool.0 room-work.0 ok' work-1 done-1 same-work-1 r-2 r-2-is (is_true r-2 (not_not r-2 test-3))) (same-work-1) room-work
         (λ ν-0 δ-0. and_then ! (load ! (from ! (stop !)) (look ! 32 refl)) (and_then ! (load ! (from ! (stop !)) (look ! 30 refl)) (and_then ! (load ! (from ! (stop !)) (look ! 8 refl)) (and_then ! (load ! (from ! (stop !)) (look ! 40 refl)) (and_then ! (load ! (from ! (stop !)) (look ! 38 refl)) (and_then ! (load ! (from ! (stop !)) (look ! 34 refl)) (no_more !))))))) (λ visited work-6 visited-is same-work-6.
         land ! (from ! (stop !)) (init ! 25 refl (tt, tt)) $
         assigns ! (addr ! (from ! (fld ! refl (hop ! (look_in ! 27 (sub ! 0 refl (whole !))) (stop !))))) (from ! (stop !)) (init ! 5 refl (tt, tt)) $
         assigns ! (agg ! (and_then ! (load ! (from ! (stop !)) (look ! 5 refl)) (and_then ! (load ! (from ! (fld ! refl (stop !))) (look_in ! 27 (sub ! 1 refl (whole !)))) (no_more !)))) (from ! (stop !)) (init ! 3 refl (tt, (tt, (record { fits = room-work.0 }, tt)))) $
         -- _0 = pool_check::conclude(_8, _6, _19, _2, _3)
         move ! (1 ∷ 2 ∷ []) $
-        S-conclude.step-g mem run ! fm known-conclude b-pool o-pool n-pool pool b-work o-work n-work work-6 visited nodes first' nodes-fits first'-fits (F.needs-7 n nodes first' end frames pool work n-fits nodes-fits first'-fits end_fits room-frames.0 room-pool.0 room-work.0 ok' work-1 done-1 same-work-1 r-2 r-2-is (is_true r-2 (not-not r-2 test-3)) visited work-6 visited-is same-work-6) (same-work-6 ∙ same-work-1) room-work
+        S-conclude.step-g mem run ! fm known-conclude b-pool o-pool n-pool pool b-work o-work n-work work-6 visited nodes first' nodes-fits first'-fits (F.needs-7 n nodes first' end frames pool work n-fits nodes-fits first'-fits end_fits room-frames.0 room-pool.0 room-work.0 ok' work-1 done-1 same-work-1 r-2 r-2-is (is_true r-2 (not_not r-2 test-3)) visited work-6 visited-is same-work-6) (same-work-6 ∙ same-work-1) room-work
         (λ ν-0 δ-0. and_then ! (load ! (from ! (stop !)) (look ! 26 refl)) (and_then ! (load ! (from ! (stop !)) (look ! 30 refl)) (and_then ! (load ! (from ! (stop !)) (look ! 4 refl)) (and_then ! (load ! (from ! (stop !)) (look ! 38 refl)) (and_then ! (load ! (from ! (stop !)) (look ! 36 refl)) (no_more !)))))) (λ r-7 work-7 r-7-good r-7-is same-work-7.
         land ! (from ! (stop !)) (init ! 41 refl ((EL.lawful M-PoolChecked.the_type L-PoolChecked.the_laws 𝓛 tt).typed r-7 _ r-7-good).0) $
         returns_within ! Post refl (look ! 41 refl) $ forget ! 3 refl $ forget ! 5 refl $ forget ! 7 refl $ forget ! 9 refl $ forget ! 11 refl $ forget ! 13 refl $ forget ! 15 refl $ forget ! 17 refl $ forget ! 19 refl $ forget ! 21 refl $ forget ! 23 refl $ forget ! 25 refl $ forget ! 27 refl $ forget ! 29 refl $ forget ! 31 refl $ forget ! 33 refl $ forget ! 35 refl $ forget ! 37 refl $ forget ! 39 refl $ forget ! 41 refl $
         free_all ! 3 refl $
         move ! (2 ∷ 0 ∷ 1 ∷ []) $
-        by ! (exits' r-7 work-7 r-7-good (F.out-8 n nodes first' end frames pool work n-fits nodes-fits first'-fits end_fits room-frames.0 room-pool.0 room-work.0 ok' work-1 done-1 same-work-1 r-2 r-2-is (is_true r-2 (not-not r-2 test-3)) visited work-6 visited-is same-work-6 r-7 work-7 r-7-is same-work-7) (same-work-7 ∙ same-work-6 ∙ same-work-1)))))))))))))))))))))))))))
+        by ! (exits' r-7 work-7 r-7-good (F.out-8 n nodes first' end frames pool work n-fits nodes-fits first'-fits end_fits room-frames.0 room-pool.0 room-work.0 ok' work-1 done-1 same-work-1 r-2 r-2-is (is_true r-2 (not_not r-2 test-3)) visited work-6 visited-is same-work-6 r-7 work-7 r-7-is same-work-7) (same-work-7 ∙ same-work-6 ∙ same-work-1)))))))))))))))))))))))))))
 
 module _ {M : Type 1} {𝓤 : Ura M} (𝓛 : Logic 𝓤) (mem : Memory → SProp 𝓤) (run : Routine → Fun 𝓤) (𝓣 : Tables 𝓤 𝓛.H) where
   open 𝓛 use {H}
@@ -192,7 +192,7 @@ module _ {M : Type 1} {𝓤 : Ura M} (𝓛 : Logic 𝓤) (mem : Memory → SProp
   walks known-clear known-in-bounds known-out-of-bounds known-visit-places known-conclude = walked 𝓛 f'.ended stayed (f'.clauses 𝓛 mem run) (WpFn 𝓤 H 𝓣.C 𝓣.Λ code.function)
       (λ κs. (uint_vals w32, (uint_vals w32, (uint_vals w32, (uint_vals w32, (shr_slice_vals, (shr_slice_vals, (shr_slice_vals, tt))))))))
       (λ κs. (uint_Tells w32, (uint_Tells w32, (uint_Tells w32, (uint_Tells w32, (shr_slice_Tells (named 0) κs.0 R-Frame, (shr_slice_Tells (named 1) κs.1.0 u32, (mut_slice_Tells (named 2) κs.1.1.0 u32, tt))))))))
-      (λ κs qs bounds a g are. needs 𝓤 ((length a.1.1.1.1.0.now ≤ maxPlaces) × DeadFrom a.1.1.1.1.0.now a.1.1.1.0) _
+      (λ κs qs bounds a g are. needs 𝓤 ((length a.1.1.1.1.0.now ≤ max_places) × DeadFrom a.1.1.1.1.0.now a.1.1.1.0) _
       (walk 𝓛 mem run κs.0 qs.0 a.1.1.1.1.0.ref_ptr.0 a.1.1.1.1.0.ref_ptr.1 a.1.1.1.1.0.ghost_name a.1.1.1.1.0.now κs.1.0 qs.1.0 a.1.1.1.1.1.0.ref_ptr.0 a.1.1.1.1.1.0.ref_ptr.1 a.1.1.1.1.1.0.ghost_name a.1.1.1.1.1.0.now κs.1.1.0 qs.1.1.0 a.1.1.1.1.1.1.0.ref_ptr.0 a.1.1.1.1.1.1.0.ref_ptr.1 a.1.1.1.1.1.1.0.ghost_name a.1.1.1.1.1.1.0.now a.0 are.0.1 a.1.0 are.1.0.1 a.1.1.0 are.1.1.0.1 a.1.1.1.0 are.1.1.1.0.1 are.1.1.1.1.0.0.1 are.1.1.1.1.1.0.0.1 are.1.1.1.1.1.1.0.0.1 𝓣 known-clear known-in-bounds known-out-of-bounds known-visit-places known-conclude))
 
   meets : Triple 𝓤 (𝓣.C #clear) (S-clear.Asked 𝓛 mem run) → Triple 𝓤 (𝓣.C #in-bounds) (S-in-bounds.Asked 𝓛 mem run) → Triple 𝓤 (𝓣.C #out-of-bounds) (S-out-of-bounds.Asked 𝓛 mem run) → Triple 𝓤 (𝓣.C #visit-places) (S-visit-places.Asked 𝓛 mem run) → Triple 𝓤 (𝓣.C #conclude) (S-conclude.Asked 𝓛 mem run) → Meets 𝓛 f'.signature (WpFn 𝓤 H 𝓣.C 𝓣.Λ code.function) (f'.spec 𝓛 mem run)

@@ -5,27 +5,27 @@ use Rattle.std.proofs.lemmas.List.{length-replicate, get_or-replicate}
 use Rattle.std.proofs.Math.ListN.{get_or-append}
 use Rattle.words.specs.Tests.{decided}
 use Rattle.soundness.specs.Soundness.{cleared}
-use Rattle.pool_check.specs.Theory.Ways.{Keeps, keeps-refl}
+use Rattle.pool_check.specs.Theory.Ways.{Keeps, keeps_refl}
 
-pub clear-yes : (N : ℕ) (w : List ℕ) → N ≤ length w → cleared N w ≡ replicate N 0 ++ drop N w
+pub clear_yes : (N : ℕ) (w : List ℕ) → N ≤ length w → cleared N w ≡ replicate N 0 ++ drop N w
 unfolding cleared
-clear-yes N w h = rw (le-leb N (length w) h)
+clear_yes N w h = rw (le-leb N (length w) h)
 
-pub clear-no : (N : ℕ) (w : List ℕ) → leb N (length w) ≡ false → cleared N w ≡ w
+pub clear_no : (N : ℕ) (w : List ℕ) → leb N (length w) ≡ false → cleared N w ≡ w
 unfolding cleared
-clear-no N w h = rw h
+clear_no N w h = rw h
 
-pub clear-keeps : (N : ℕ) (w : List ℕ) → Keeps N w (cleared N w)
-clear-keeps N w = elim (decided (leb N (length w))) [
+pub clear_keeps : (N : ℕ) (w : List ℕ) → Keeps N w (cleared N w)
+clear_keeps N w = elim (decided (leb N (length w))) [
   | inl e ↦ (
       let h : N ≤ length w = leb-true N (length w) e in
-      rw (clear-yes N w h)
+      rw (clear_yes N w h)
       (record { size = length-append (replicate N 0) (drop N w) ∙ omega (arith, length-replicate {A = ℕ} N 0, length-drop N w); rest = drop_at (replicate N 0) (drop N w) N (length-replicate N 0) }))
-  | inr e ↦ rw (clear-no N w e) keeps-refl
+  | inr e ↦ rw (clear_no N w e) keeps_refl
 ]
 
-pub clear-same : (N : ℕ) (w w' : List ℕ) → N ≤ length w → Keeps N w w' → cleared N w' ≡ cleared N w
-clear-same N w w' h k = rw (clear-yes N w h, clear-yes N w' (omega (arith, k.size)), k.rest)
+pub clear_same : (N : ℕ) (w w' : List ℕ) → N ≤ length w → Keeps N w w' → cleared N w' ≡ cleared N w
+clear_same N w w' h k = rw (clear_yes N w h, clear_yes N w' (omega (arith, k.size)), k.rest)
 
-pub clear-zeros : (N : ℕ) (w : List ℕ) (x : ℕ) → N ≤ length w → x < N → get_or (cleared N w) x 0 ≡ 0
-clear-zeros N w x h b = rw (clear-yes N w h) (get_or-append (replicate N 0) (drop N w) 0 x (omega (arith, length-replicate {A = ℕ} N 0)) ∙ get_or-replicate N x 0 0 b)
+pub clear_zeros : (N : ℕ) (w : List ℕ) (x : ℕ) → N ≤ length w → x < N → get_or (cleared N w) x 0 ≡ 0
+clear_zeros N w x h b = rw (clear_yes N w h) (get_or-append (replicate N 0) (drop N w) 0 x (omega (arith, length-replicate {A = ℕ} N 0)) ∙ get_or-replicate N x 0 0 b)

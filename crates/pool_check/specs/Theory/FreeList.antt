@@ -3,15 +3,15 @@
 use Rattle.std.specs.Prelude.{◌≡◌, refl, true, List, ℕ, suc, ◌≤◌, ◌<◌, eqb, length}
 use Rattle.std.proofs.Common.{sym, ◌∙◌, arith, eqb-true, eq-eqb}
 use Rattle.words.specs.Basics.{count, follow, below}
-use Rattle.words.specs.Counting.{sum-le, sum-cong}
+use Rattle.words.specs.Counting.{sum_le, sum_cong}
 use Rattle.words.specs.Tests.{both}
 use Rattle.words.specs.Loops.{count-sum}
-use Rattle.words.specs.Followed.{Listed, listed-all, chain-listed, listed-chain}
-use Rattle.pool.specs.Pool.{nextFree}
-use Rattle.pool_check.specs.Algorithm.{fresh, unvisited, bare, vacant, chainFrom}
+use Rattle.words.specs.Followed.{Listed, listed_all, chain_listed, listed_chain}
+use Rattle.pool.specs.Pool.{next_free}
+use Rattle.pool_check.specs.Algorithm.{fresh, unvisited, bare, vacant, chain_from}
 
-pub unvisited-le : (N : ℕ) (w : List ℕ) → unvisited N w ≤ N
-unvisited-le N w = omega (arith, sum-le N 1 (fresh w) (λ j. omega arith))
+pub unvisited_le : (N : ℕ) (w : List ℕ) → unvisited N w ≤ N
+unvisited_le N w = omega (arith, sum_le N 1 (fresh w) (λ j. omega arith))
 
 -- ---- a chain that ends
 
@@ -20,13 +20,13 @@ abbrev Vacants : ℕ → List ℕ → List ℕ → ℕ → List ℕ → Type 0
 Vacants N ws w c xs = Listed N (vacant ws w) c xs
 
 module _ (N : ℕ) (ws w : List ℕ) (few : N ≤ 16384) where
-  pub chain-sound : (c f a : ℕ) → c ≤ f → chainFrom N ws w c a ≡ true → Vacants N ws w c (follow (suc f) (nextFree ws) a)
-  unfolding chainFrom
-  chain-sound = chain-listed N (nextFree ws) (vacant ws w) (chainFrom N ws w) (omega arith) (λ a. refl) (λ c a. refl)
+  pub chain_sound : (c f a : ℕ) → c ≤ f → chain_from N ws w c a ≡ true → Vacants N ws w c (follow (suc f) (next_free ws) a)
+  unfolding chain_from
+  chain_sound = chain_listed N (next_free ws) (vacant ws w) (chain_from N ws w) (omega arith) (λ a. refl) (λ c a. refl)
 
-  pub chain-complete : (c f a : ℕ) → c ≤ f → Vacants N ws w c (follow (suc f) (nextFree ws) a) → chainFrom N ws w c a ≡ true
-  unfolding chainFrom
-  chain-complete = listed-chain N (nextFree ws) (vacant ws w) (chainFrom N ws w) (omega arith) (λ a. refl) (λ c a. refl)
+  pub chain_complete : (c f a : ℕ) → c ≤ f → Vacants N ws w c (follow (suc f) (next_free ws) a) → chain_from N ws w c a ≡ true
+  unfolding chain_from
+  chain_complete = listed_chain N (next_free ws) (vacant ws w) (chain_from N ws w) (omega arith) (λ a. refl) (λ c a. refl)
 
 -- ---- and the nodes that were not visited
 
@@ -38,19 +38,19 @@ pub record Chained (N : ℕ) (ws w xs : List ℕ) : Type 0 where
 
 module _ (N : ℕ) (ws w xs : List ℕ) where
   pub chained-length : Chained N ws w xs → length xs ≡ unvisited N w
-  chained-length p = sym (count-sum N xs p.within) ∙ sum-cong N (λ i. count i xs) (fresh w) p.once
+  chained-length p = sym (count-sum N xs p.within) ∙ sum_cong N (λ i. count i xs) (fresh w) p.once
 
   -- a vacant node was not visited
-  vacant-of : (x : ℕ) → vacant ws w x ≡ true → (fresh w x ≡ 1) × (bare ws x ≡ true)
+  vacant_of : (x : ℕ) → vacant ws w x ≡ true → (fresh w x ≡ 1) × (bare ws x ≡ true)
   unfolding vacant
-  vacant-of x t = let p = both (eqb (fresh w x) 1) _ t in (eqb-true (fresh w x) 1 p.0, p.1)
+  vacant_of x t = let p = both (eqb (fresh w x) 1) _ t in (eqb-true (fresh w x) 1 p.0, p.1)
 
   -- as many different ones as there are: each of them
   pub chained : Vacants N ws w (unvisited N w) xs → Chained N ws w xs
   chained v = record {
     within = v.within;
-    once = listed-all N (vacant ws w) (unvisited N w) xs (fresh w) (λ x t. (vacant-of x t).0) (omega arith) v;
-    empty = λ x b o. (vacant-of x (v.passes x b o)).1;
+    once = listed_all N (vacant ws w) (unvisited N w) xs (fresh w) (λ x t. (vacant_of x t).0) (omega arith) v;
+    empty = λ x b o. (vacant_of x (v.passes x b o)).1;
   }
 
   pub vacants : Chained N ws w xs → Vacants N ws w (unvisited N w) xs

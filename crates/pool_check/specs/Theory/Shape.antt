@@ -6,10 +6,10 @@ use Prim.Native.Nat.{ℕ, zero, suc, ◌+◌, ◌-◌, ◌*◌, ◌^◌, ◌≤�
 use Rattle.std.proofs.Math.Decide.{ℕ_discrete}
 use borrow.Author.Tests.{eq-eqb, ne_eqb, eqb-true}
 use Rattle.words.specs.Basics.{none}
-use Rattle.words.specs.Tests.{decided, both, lt_of, ltb-of, true≢false}
+use Rattle.words.specs.Tests.{decided, both, lt_of, ltb_of, true≢false}
 use Rattle.sizes.specs.Leaves.{leaves, leaves-left, leaves-right, leaves-some, leaves_none}
 use Rattle.pool.specs.Pool.{left, right, value}
-use Rattle.soundness.specs.Trees.{treeAt, nodesAt}
+use Rattle.soundness.specs.Trees.{tree_at, nodes_at}
 use Rattle.pool_check.specs.Algorithm.{shaped}
 
 -- node i is the root of a tree of level l over k splitters
@@ -30,37 +30,37 @@ nodes ws (suc l) k i =
 -- ---- these are the trees of the definition
 
 -- a group's right half is empty if it has no splitter
-right-empty : (n l g k : ℕ) → k ≡ leaves n (suc l) g → ltb ((2 * g + 1) * 2 ^ l) n ≡ false → eqb (k - 2 ^ l) 0 ≡ true
-right-empty n l g k e h = eq-eqb (k - 2 ^ l) 0 (omega (arith, ap (λ (q : ℕ). q - 2 ^ l) e, leaves-right n l g, leaves_none n l (2 * g + 1) (λ b. true≢false (sym (ltb-of b) ∙ h))))
+right_empty : (n l g k : ℕ) → k ≡ leaves n (suc l) g → ltb ((2 * g + 1) * 2 ^ l) n ≡ false → eqb (k - 2 ^ l) 0 ≡ true
+right_empty n l g k e h = eq-eqb (k - 2 ^ l) 0 (omega (arith, ap (λ (q : ℕ). q - 2 ^ l) e, leaves-right n l g, leaves_none n l (2 * g + 1) (λ b. true≢false (sym (ltb_of b) ∙ h))))
 
 right-some : (n l g k : ℕ) → k ≡ leaves n (suc l) g → ltb ((2 * g + 1) * 2 ^ l) n ≡ true → eqb (k - 2 ^ l) 0 ≡ false
 right-some n l g k e h = ne_eqb (k - 2 ^ l) 0 (omega (arith, ap (λ (q : ℕ). q - 2 ^ l) e, leaves-right n l g, leaves-some n l (2 * g + 1) (lt_of h)))
 
 module _ (n l g k : ℕ) (e : k ≡ leaves n (suc l) g) where
-  left-part : min k (2 ^ l) ≡ leaves n l (2 * g)
-  left-part = ap (λ (q : ℕ). min q (2 ^ l)) e ∙ leaves-left n l g
+  left_part : min k (2 ^ l) ≡ leaves n l (2 * g)
+  left_part = ap (λ (q : ℕ). min q (2 ^ l)) e ∙ leaves-left n l g
 
-  right-part : k - 2 ^ l ≡ leaves n l (2 * g + 1)
-  right-part = ap (λ (q : ℕ). q - 2 ^ l) e ∙ leaves-right n l g
+  right_part : k - 2 ^ l ≡ leaves n l (2 * g + 1)
+  right_part = ap (λ (q : ℕ). q - 2 ^ l) e ∙ leaves-right n l g
 
-pub tree_is : (n N : ℕ) (ws : List ℕ) (l g k i : ℕ) → k ≡ leaves n l g → tree N ws l k i ≡ treeAt n N ws l g i
-unfolding tree treeAt
+pub tree_is : (n N : ℕ) (ws : List ℕ) (l g k i : ℕ) → k ≡ leaves n l g → tree N ws l k i ≡ tree_at n N ws l g i
+unfolding tree tree_at
 tree_is n N ws zero g k i e = refl
 tree_is n N ws (suc l) g k i e =
-    rw (tree_is n N ws l (2 * g) (min k (2 ^ l)) (left ws i) (left-part n l g k e))
+    rw (tree_is n N ws l (2 * g) (min k (2 ^ l)) (left ws i) (left_part n l g k e))
     (elim (decided (ltb ((2 * g + 1) * 2 ^ l) n)) [
-      | inl h ↦ rw (h, right-some n l g k e h, tree_is n N ws l (2 * g + 1) (k - 2 ^ l) (right ws i) (right-part n l g k e))
-      | inr h ↦ rw (h, right-empty n l g k e h)
+      | inl h ↦ rw (h, right-some n l g k e h, tree_is n N ws l (2 * g + 1) (k - 2 ^ l) (right ws i) (right_part n l g k e))
+      | inr h ↦ rw (h, right_empty n l g k e h)
     ])
 
-pub nodes-is : (n : ℕ) (ws : List ℕ) (l g k i : ℕ) → k ≡ leaves n l g → nodes ws l k i ≡ nodesAt n ws l g i
-unfolding nodes nodesAt
-nodes-is n ws zero g k i e = refl
-nodes-is n ws (suc l) g k i e =
-    rw (nodes-is n ws l (2 * g) (min k (2 ^ l)) (left ws i) (left-part n l g k e))
+pub nodes_is : (n : ℕ) (ws : List ℕ) (l g k i : ℕ) → k ≡ leaves n l g → nodes ws l k i ≡ nodes_at n ws l g i
+unfolding nodes nodes_at
+nodes_is n ws zero g k i e = refl
+nodes_is n ws (suc l) g k i e =
+    rw (nodes_is n ws l (2 * g) (min k (2 ^ l)) (left ws i) (left_part n l g k e))
     (elim (decided (ltb ((2 * g + 1) * 2 ^ l) n)) [
-      | inl h ↦ rw (h, right-some n l g k e h, nodes-is n ws l (2 * g + 1) (k - 2 ^ l) (right ws i) (right-part n l g k e))
-      | inr h ↦ rw (h, right-empty n l g k e h)
+      | inl h ↦ rw (h, right-some n l g k e h, nodes_is n ws l (2 * g + 1) (k - 2 ^ l) (right ws i) (right_part n l g k e))
+      | inr h ↦ rw (h, right_empty n l g k e h)
     ])
 
 -- ---- a tree taken apart
@@ -84,8 +84,8 @@ module _ (N : ℕ) (ws : List ℕ) (k i : ℕ) where
     pub tree-left : tree N ws l (min k (2 ^ l)) (left ws i) ≡ true
     tree-left = halves.0
 
-    pub tree-end : k - 2 ^ l ≡ 0 → right ws i ≡ none
-    tree-end e = eqb-true (right ws i) none (rw (eq-eqb (k - 2 ^ l) 0 e) at halves.1)
+    pub tree_end : k - 2 ^ l ≡ 0 → right ws i ≡ none
+    tree_end e = eqb-true (right ws i) none (rw (eq-eqb (k - 2 ^ l) 0 e) at halves.1)
 
     pub tree-right : (k - 2 ^ l ≡ 0 → ⊥) → tree N ws l (k - 2 ^ l) (right ws i) ≡ true
     tree-right e = rw (ne_eqb (k - 2 ^ l) 0 e) at halves.1
@@ -93,27 +93,27 @@ module _ (N : ℕ) (ws : List ℕ) (k i : ℕ) where
 -- ---- and put together
 
 module _ (N : ℕ) (ws : List ℕ) (k i : ℕ) (b : i < N) where
-  pub leaf-tree : shaped ws 0 i ≡ true → tree N ws 0 k i ≡ true
+  pub leaf_tree : shaped ws 0 i ≡ true → tree N ws 0 k i ≡ true
   unfolding tree
-  leaf-tree t = rw (ltb-of b) t
+  leaf_tree t = rw (ltb_of b) t
 
   module _ (l : ℕ) (s : shaped ws (suc l) i ≡ true) (t : tree N ws l (min k (2 ^ l)) (left ws i) ≡ true) where
-    pub end-tree : k - 2 ^ l ≡ 0 → eqb (right ws i) none ≡ true → tree N ws (suc l) k i ≡ true
+    pub end_tree : k - 2 ^ l ≡ 0 → eqb (right ws i) none ≡ true → tree N ws (suc l) k i ≡ true
     unfolding tree
-    end-tree e h = rw (ltb-of b, s, t, eq-eqb (k - 2 ^ l) 0 e) h
+    end_tree e h = rw (ltb_of b, s, t, eq-eqb (k - 2 ^ l) 0 e) h
 
     pub inner-tree : (k - 2 ^ l ≡ 0 → ⊥) → tree N ws l (k - 2 ^ l) (right ws i) ≡ true → tree N ws (suc l) k i ≡ true
     unfolding tree
-    inner-tree e h = rw (ltb-of b, s, t, ne_eqb (k - 2 ^ l) 0 e) h
+    inner-tree e h = rw (ltb_of b, s, t, ne_eqb (k - 2 ^ l) 0 e) h
 
 module _ (ws : List ℕ) (k i : ℕ) where
-  pub leaf-nodes : nodes ws 0 k i ≡ i ∷ ([] ++ [])
+  pub leaf_nodes : nodes ws 0 k i ≡ i ∷ ([] ++ [])
   unfolding nodes
-  leaf-nodes = refl
+  leaf_nodes = refl
 
-  pub end-nodes : (l : ℕ) → k - 2 ^ l ≡ 0 → nodes ws (suc l) k i ≡ i ∷ (nodes ws l (min k (2 ^ l)) (left ws i) ++ [])
+  pub end_nodes : (l : ℕ) → k - 2 ^ l ≡ 0 → nodes ws (suc l) k i ≡ i ∷ (nodes ws l (min k (2 ^ l)) (left ws i) ++ [])
   unfolding nodes
-  end-nodes l e = rw (eq-eqb (k - 2 ^ l) 0 e)
+  end_nodes l e = rw (eq-eqb (k - 2 ^ l) 0 e)
 
   pub inner-nodes : (l : ℕ) → (k - 2 ^ l ≡ 0 → ⊥) → nodes ws (suc l) k i ≡ i ∷ (nodes ws l (min k (2 ^ l)) (left ws i) ++ nodes ws l (k - 2 ^ l) (right ws i))
   unfolding nodes
@@ -141,24 +141,24 @@ none-tree : (N : ℕ) (ws : List ℕ) (l k j : ℕ) → N ≤ 16384 → j ≡ no
 none-tree N ws l k j few e t = omega (arith, tree-node N ws k j l t)
 
 -- a leaf has no left child
-leaf-left : (N : ℕ) (ws : List ℕ) (k i : ℕ) → tree N ws 0 k i ≡ true → left ws i ≡ none
-leaf-left N ws k i t = eqb-true (left ws i) none (both (eqb (left ws i) none) (eqb (right ws i) none) (tree-shaped N ws k i 0 t)).0
+leaf_left : (N : ℕ) (ws : List ℕ) (k i : ℕ) → tree N ws 0 k i ≡ true → left ws i ≡ none
+leaf_left N ws k i t = eqb-true (left ws i) none (both (eqb (left ws i) none) (eqb (right ws i) none) (tree-shaped N ws k i 0 t)).0
 
 module _ (n N : ℕ) (ws : List ℕ) (few : N ≤ 16384) where
   pub unique : (l k l' k' i : ℕ) → Fits n l k → Fits n l' k' → tree N ws l k i ≡ true → tree N ws l' k' i ≡ true → (l ≡ l') × (k ≡ k')
   unique zero k zero k' i f f' t t' = (refl, omega (arith, f.some, f.most, f.covered, f'.some, f'.most, f'.covered))
-  unique zero k (suc l') k' i f f' t t' = absurd (none-tree N ws l' (min k' (2 ^ l')) (left ws i) few (leaf-left N ws k i t) (tree-left N ws k' i l' t'))
-  unique (suc l) k zero k' i f f' t t' = absurd (none-tree N ws l (min k (2 ^ l)) (left ws i) few (leaf-left N ws k' i t') (tree-left N ws k i l t))
+  unique zero k (suc l') k' i f f' t t' = absurd (none-tree N ws l' (min k' (2 ^ l')) (left ws i) few (leaf_left N ws k i t) (tree-left N ws k' i l' t'))
+  unique (suc l) k zero k' i f f' t t' = absurd (none-tree N ws l (min k (2 ^ l)) (left ws i) few (leaf_left N ws k' i t') (tree-left N ws k i l t))
   unique (suc l) k (suc l') k' i f f' t t' =
       let L = unique l (min k (2 ^ l)) l' (min k' (2 ^ l')) (left ws i) (fits-left n l k f) (fits-left n l' k' f') (tree-left N ws k i l t) (tree-left N ws k' i l' t') in
       let p : 2 ^ l ≡ 2 ^ l' = ap (λ (q : ℕ). 2 ^ q) L.0 in
       elim (ℕ_discrete (k - 2 ^ l) 0) [
         | yes e ↦ elim (ℕ_discrete (k' - 2 ^ l') 0) [
           | yes e' ↦ (ap suc L.0, omega (arith, L.1))
-          | no e' ↦ absurd (none-tree N ws l' (k' - 2 ^ l') (right ws i) few (tree-end N ws k i l t e) (tree-right N ws k' i l' t' e'))
+          | no e' ↦ absurd (none-tree N ws l' (k' - 2 ^ l') (right ws i) few (tree_end N ws k i l t e) (tree-right N ws k' i l' t' e'))
         ]
         | no e ↦ elim (ℕ_discrete (k' - 2 ^ l') 0) [
-          | yes e' ↦ absurd (none-tree N ws l (k - 2 ^ l) (right ws i) few (tree-end N ws k' i l' t' e') (tree-right N ws k i l t e))
+          | yes e' ↦ absurd (none-tree N ws l (k - 2 ^ l) (right ws i) few (tree_end N ws k' i l' t' e') (tree-right N ws k i l t e))
           | no e' ↦ (
               let R = unique l (k - 2 ^ l) l' (k' - 2 ^ l') (right ws i) (fits-right n l k f e) (fits-right n l' k' f' e') (tree-right N ws k i l t e) (tree-right N ws k' i l' t' e') in
               (ap suc L.0, omega (arith, R.1)))

@@ -3,38 +3,38 @@
 use Rattle.std.specs.Prelude.{◌≡◌, refl, false, cond, List, [], ◌∷◌, ◌++◌, map, ℕ, zero, suc, ◌*◌, ◌<◌, eqb, ltb}
 use Rattle.std.proofs.Common.{sym, ap, ap₂, ◌∙◌, inl, inr, zero-mul, one-mul, arith, ne_eqb}
 use Rattle.words.specs.Basics.{none, plus, times}
-use Rattle.words.specs.Tests.{decided, lt_of, nltb-of, ge-of}
+use Rattle.words.specs.Tests.{decided, lt_of, nltb_of, ge_of}
 use Rattle.reducers.specs.declared.Sum.{Sum}
 use Rattle.reducers.specs.declared.Min.{Min}
 use Rattle.reducers.specs.declared.Affine.{Affine}
 use Rattle.reducers.specs.declared.View.{View}
-use Rattle.reducers.specs.Reducers.{identitySum, identityMin, identityAffine, joinSum, joinMin, joinAffine, foldedSum, foldedMin, foldedAffine, identityView, joinView, foldView, joinedFrom, totalSum, totalMin, totalAffine, valuesInto, viewFrom, view_of}
+use Rattle.reducers.specs.Reducers.{identity_sum, identity_min, identity_affine, join_sum, join_min, join_affine, folded_sum, folded_min, folded_affine, identity_view, join_view, fold_view, joined_from, total_sum, total_min, total_affine, values_into, view_from, view_of}
 use Rattle.reducers.specs.Law.{MinWord, ViewWord}
-use Rattle.reducers.specs.Theory.Modulo.{mul-mod-mod}
-use Rattle.reducers.specs.Theory.Laws.{sum-law, min-law, affine-law, view-law, view-eq}
+use Rattle.reducers.specs.Theory.Modulo.{mul_mod_mod}
+use Rattle.reducers.specs.Theory.Laws.{sum_law, min_law, affine_law, view_law, view_eq}
 
 -- ---- values of any size: the identity joined on the left reduces one to a word, which a join on its left does not see
 
-sum-value : (a : Sum) (v : ℕ) → joinSum a (joinSum identitySum (foldedSum v)) ≡ joinSum a (foldedSum v)
-sum-value a v = ap foldedSum (omega arith)
+sum-value : (a : Sum) (v : ℕ) → join_sum a (join_sum identity_sum (folded_sum v)) ≡ join_sum a (folded_sum v)
+sum-value a v = ap folded_sum (omega arith)
 
-min-word : (a : Min) (v : ℕ) → MinWord a → MinWord (joinMin a (foldedMin v))
-min-word a v p = elim (decided (ltb v a.value)) [ inl e ↦ rw e (omega (arith, lt_of {a = v} {b = a.value} e)) | inr e ↦ rw e p ]
+min_word : (a : Min) (v : ℕ) → MinWord a → MinWord (join_min a (folded_min v))
+min_word a v p = elim (decided (ltb v a.value)) [ inl e ↦ rw e (omega (arith, lt_of {a = v} {b = a.value} e)) | inr e ↦ rw e p ]
 
-min-value : (a : Min) (v : ℕ) → MinWord a → joinMin a (joinMin identityMin (foldedMin v)) ≡ joinMin a (foldedMin v)
-min-value a v p = elim (decided (ltb v none)) [
+min_value : (a : Min) (v : ℕ) → MinWord a → join_min a (join_min identity_min (folded_min v)) ≡ join_min a (folded_min v)
+min_value a v p = elim (decided (ltb v none)) [
   | inl e ↦ rw e
-  | inr e ↦ rw (e, nltb-of {a = none} {b = a.value} (omega arith), nltb-of {a = v} {b = a.value} (omega (arith, ge-of {a = v} {b = none} e)))
+  | inr e ↦ rw (e, nltb_of {a = none} {b = a.value} (omega arith), nltb_of {a = v} {b = a.value} (omega (arith, ge_of {a = v} {b = none} e)))
 ]
 
-affine-value : (a : Affine) (v : ℕ) → joinAffine a (joinAffine identityAffine (foldedAffine v)) ≡ joinAffine a (foldedAffine v)
-affine-value a v = ap₂ (λ (m d : ℕ). record { multiplier = m; addend = d }) (product a.multiplier) (ap₂ plus (product a.addend) constant ∙ omega arith)
+affine_value : (a : Affine) (v : ℕ) → join_affine a (join_affine identity_affine (folded_affine v)) ≡ join_affine a (folded_affine v)
+affine_value a v = ap₂ (λ (m d : ℕ). record { multiplier = m; addend = d }) (product a.multiplier) (ap₂ plus (product a.addend) constant ∙ omega arith)
   where
     b : Affine
-    b = foldedAffine v
+    b = folded_affine v
 
     product : (x : ℕ) → times x (times 1 b.multiplier) ≡ times x b.multiplier
-    product x = mul-mod-mod 4294967296 x (1 * b.multiplier) ∙ ap (times x) (one-mul b.multiplier)
+    product x = mul_mod_mod 4294967296 x (1 * b.multiplier) ∙ ap (times x) (one-mul b.multiplier)
 
     constant : plus (times 0 b.multiplier) b.addend ≡ b.addend
     constant = rw (zero-mul b.multiplier) (omega arith)
@@ -42,92 +42,92 @@ affine-value a v = ap₂ (λ (m d : ℕ). record { multiplier = m; addend = d })
 -- ---- words
 
 -- of any value: sums and products are taken modulo 4,294,967,296, and a minimum is at most what it was
-pub fold_word : (w : View) (r v : ℕ) → ViewWord w → ViewWord (foldView w r v)
-unfolding foldView
+pub fold_word : (w : View) (r v : ℕ) → ViewWord w → ViewWord (fold_view w r v)
+unfolding fold_view
 fold_word w zero v p = (omega arith, p.1, p.2)
-fold_word w (suc zero) v p = (p.0, min-word w.min v p.1, p.2)
+fold_word w (suc zero) v p = (p.0, min_word w.min v p.1, p.2)
 fold_word w (suc (suc zero)) v p = (p.0, p.1, (omega arith, omega arith))
 fold_word w (suc (suc (suc r))) v p = p
 
-pub from-word : (w : View) (l : List (ℕ × ℕ)) → ViewWord w → ViewWord (viewFrom w l)
-from-word w [] p = p
-from-word w (x ∷ l) p = from-word (foldView w x.0 x.1) l (fold_word w x.0 x.1 p)
+pub from_word : (w : View) (l : List (ℕ × ℕ)) → ViewWord w → ViewWord (view_from w l)
+from_word w [] p = p
+from_word w (x ∷ l) p = from_word (fold_view w x.0 x.1) l (fold_word w x.0 x.1 p)
 
-pub view-word : (l : List (ℕ × ℕ)) → ViewWord (view_of l)
-view-word l = from-word identityView l view-law.identity-word
+pub view_word_lem : (l : List (ℕ × ℕ)) → ViewWord (view_of l)
+view_word_lem l = from_word identity_view l view_law.identity_word
 
 -- ---- one list after another
 
-pub from-append : (w : View) (a b : List (ℕ × ℕ)) → viewFrom w (a ++ b) ≡ viewFrom (viewFrom w a) b
-from-append w [] b = refl
-from-append w (x ∷ a) b = from-append (foldView w x.0 x.1) a b
+pub from_append : (w : View) (a b : List (ℕ × ℕ)) → view_from w (a ++ b) ≡ view_from (view_from w a) b
+from_append w [] b = refl
+from_append w (x ∷ a) b = from_append (fold_view w x.0 x.1) a b
 
 -- one more value
-pub view-snoc : (l : List (ℕ × ℕ)) (r v : ℕ) → view_of (l ++ ((r, v) ∷ [])) ≡ foldView (view_of l) r v
-view-snoc l r v = from-append identityView l ((r, v) ∷ [])
+pub view_snoc : (l : List (ℕ × ℕ)) (r v : ℕ) → view_of (l ++ ((r, v) ∷ [])) ≡ fold_view (view_of l) r v
+view_snoc l r v = from_append identity_view l ((r, v) ∷ [])
 
 -- a value folded is the view of that value, joined on the right
-pub fold-join : (w : View) (r v : ℕ) → ViewWord w → foldView w r v ≡ joinView w (foldView identityView r v)
-unfolding foldView
-fold-join w zero v p = sym (view-eq (sum-value w.sum v) (min-law.right w.min p.1) (affine-law.right w.affine p.2))
-fold-join w (suc zero) v p = sym (view-eq (sum-law.right w.sum p.0) (min-value w.min v p.1) (affine-law.right w.affine p.2))
-fold-join w (suc (suc zero)) v p = sym (view-eq (sum-law.right w.sum p.0) (min-law.right w.min p.1) (affine-value w.affine v))
-fold-join w (suc (suc (suc r))) v p = sym (view-law.right w p)
+pub fold_join : (w : View) (r v : ℕ) → ViewWord w → fold_view w r v ≡ join_view w (fold_view identity_view r v)
+unfolding fold_view
+fold_join w zero v p = sym (view_eq (sum-value w.sum v) (min_law.right w.min p.1) (affine_law.right w.affine p.2))
+fold_join w (suc zero) v p = sym (view_eq (sum_law.right w.sum p.0) (min_value w.min v p.1) (affine_law.right w.affine p.2))
+fold_join w (suc (suc zero)) v p = sym (view_eq (sum_law.right w.sum p.0) (min_law.right w.min p.1) (affine_value w.affine v))
+fold_join w (suc (suc (suc r))) v p = sym (view_law.right w p)
 
-pub from-join : (w : View) (l : List (ℕ × ℕ)) → ViewWord w → viewFrom w l ≡ joinView w (view_of l)
-from-join w [] p = sym (view-law.right w p)
-from-join w (x ∷ l) p =
-    let one = foldView identityView x.0 x.1 in
-    let one_word : ViewWord one = fold_word identityView x.0 x.1 view-law.identity-word in
-    from-join (foldView w x.0 x.1) l (fold_word w x.0 x.1 p)
-    ∙ ap (λ (u : View). joinView u (view_of l)) (fold-join w x.0 x.1 p)
-    ∙ view-law.grouping w one (view_of l) p one_word (view-word l)
-    ∙ ap (joinView w) (sym (from-join one l one_word))
+pub from_join : (w : View) (l : List (ℕ × ℕ)) → ViewWord w → view_from w l ≡ join_view w (view_of l)
+from_join w [] p = sym (view_law.right w p)
+from_join w (x ∷ l) p =
+    let one = fold_view identity_view x.0 x.1 in
+    let one_word : ViewWord one = fold_word identity_view x.0 x.1 view_law.identity_word in
+    from_join (fold_view w x.0 x.1) l (fold_word w x.0 x.1 p)
+    ∙ ap (λ (u : View). join_view u (view_of l)) (fold_join w x.0 x.1 p)
+    ∙ view_law.grouping w one (view_of l) p one_word (view_word_lem l)
+    ∙ ap (join_view w) (sym (from_join one l one_word))
 
-pub view-append : (a b : List (ℕ × ℕ)) → view_of (a ++ b) ≡ joinView (view_of a) (view_of b)
-view-append a b = from-append identityView a b ∙ from-join (view_of a) b (view-word a)
+pub view_append : (a b : List (ℕ × ℕ)) → view_of (a ++ b) ≡ join_view (view_of a) (view_of b)
+view_append a b = from_append identity_view a b ∙ from_join (view_of a) b (view_word_lem a)
 
 -- ---- the total of each reducer: "the identity joined with the values folded into its reducer"
 
 -- a part of the view that changes with the values folded into reducer k, and with no others
-module _ {A : Type 0} (part : View → A) (join : A → A → A) (folded : ℕ → A) (k : ℕ) (step : (w : View) (r v : ℕ) → part (foldView w r v) ≡ cond (eqb r k) (join (part w) (folded v)) (part w)) where
-  part-from : (w : View) (l : List (ℕ × ℕ)) → part (viewFrom w l) ≡ joinedFrom join (part w) (map folded (valuesInto k l))
-  part-from w [] = refl
-  part-from w (x ∷ l) = part-from (foldView w x.0 x.1) l ∙ elim (decided (eqb x.0 k)) [
+module _ {A : Type 0} (part : View → A) (join : A → A → A) (folded : ℕ → A) (k : ℕ) (step : (w : View) (r v : ℕ) → part (fold_view w r v) ≡ cond (eqb r k) (join (part w) (folded v)) (part w)) where
+  part_from : (w : View) (l : List (ℕ × ℕ)) → part (view_from w l) ≡ joined_from join (part w) (map folded (values_into k l))
+  part_from w [] = refl
+  part_from w (x ∷ l) = part_from (fold_view w x.0 x.1) l ∙ elim (decided (eqb x.0 k)) [
     | inl e ↦ rw (step w x.0 x.1, e)
     | inr e ↦ rw (step w x.0 x.1, e)
   ]
 
 -- a number from 3 on is none of 0, 1 and 2
-no-reducer : (k r : ℕ) → k < 3 → eqb (suc (suc (suc r))) k ≡ false
-no-reducer k r h = ne_eqb (suc (suc (suc r))) k (λ e. omega arith)
+no_reducer : (k r : ℕ) → k < 3 → eqb (suc (suc (suc r))) k ≡ false
+no_reducer k r h = ne_eqb (suc (suc (suc r))) k (λ e. omega arith)
 
-sum_step : (w : View) (r v : ℕ) → (foldView w r v).sum ≡ cond (eqb r 0) (joinSum w.sum (foldedSum v)) w.sum
-unfolding foldView
+sum_step : (w : View) (r v : ℕ) → (fold_view w r v).sum ≡ cond (eqb r 0) (join_sum w.sum (folded_sum v)) w.sum
+unfolding fold_view
 sum_step w zero v = refl
 sum_step w (suc zero) v = refl
 sum_step w (suc (suc zero)) v = refl
-sum_step w (suc (suc (suc r))) v = rw (no-reducer 0 r (omega arith))
+sum_step w (suc (suc (suc r))) v = rw (no_reducer 0 r (omega arith))
 
-min-step : (w : View) (r v : ℕ) → (foldView w r v).min ≡ cond (eqb r 1) (joinMin w.min (foldedMin v)) w.min
-unfolding foldView
-min-step w zero v = refl
-min-step w (suc zero) v = refl
-min-step w (suc (suc zero)) v = refl
-min-step w (suc (suc (suc r))) v = rw (no-reducer 1 r (omega arith))
+min_step : (w : View) (r v : ℕ) → (fold_view w r v).min ≡ cond (eqb r 1) (join_min w.min (folded_min v)) w.min
+unfolding fold_view
+min_step w zero v = refl
+min_step w (suc zero) v = refl
+min_step w (suc (suc zero)) v = refl
+min_step w (suc (suc (suc r))) v = rw (no_reducer 1 r (omega arith))
 
-affine-step : (w : View) (r v : ℕ) → (foldView w r v).affine ≡ cond (eqb r 2) (joinAffine w.affine (foldedAffine v)) w.affine
-unfolding foldView
-affine-step w zero v = refl
-affine-step w (suc zero) v = refl
-affine-step w (suc (suc zero)) v = refl
-affine-step w (suc (suc (suc r))) v = rw (no-reducer 2 r (omega arith))
+affine_step : (w : View) (r v : ℕ) → (fold_view w r v).affine ≡ cond (eqb r 2) (join_affine w.affine (folded_affine v)) w.affine
+unfolding fold_view
+affine_step w zero v = refl
+affine_step w (suc zero) v = refl
+affine_step w (suc (suc zero)) v = refl
+affine_step w (suc (suc (suc r))) v = rw (no_reducer 2 r (omega arith))
 
-pub sum-total : (l : List (ℕ × ℕ)) → (view_of l).sum ≡ totalSum (valuesInto 0 l)
-sum-total l = part-from (λ (w : View). w.sum) joinSum foldedSum 0 sum_step identityView l
+pub sum-total : (l : List (ℕ × ℕ)) → (view_of l).sum ≡ total_sum (values_into 0 l)
+sum-total l = part_from (λ (w : View). w.sum) join_sum folded_sum 0 sum_step identity_view l
 
-pub min-total : (l : List (ℕ × ℕ)) → (view_of l).min ≡ totalMin (valuesInto 1 l)
-min-total l = part-from (λ (w : View). w.min) joinMin foldedMin 1 min-step identityView l
+pub min_total : (l : List (ℕ × ℕ)) → (view_of l).min ≡ total_min (values_into 1 l)
+min_total l = part_from (λ (w : View). w.min) join_min folded_min 1 min_step identity_view l
 
-pub affine-total : (l : List (ℕ × ℕ)) → (view_of l).affine ≡ totalAffine (valuesInto 2 l)
-affine-total l = part-from (λ (w : View). w.affine) joinAffine foldedAffine 2 affine-step identityView l
+pub affine_total : (l : List (ℕ × ℕ)) → (view_of l).affine ≡ total_affine (values_into 2 l)
+affine_total l = part_from (λ (w : View). w.affine) join_affine folded_affine 2 affine_step identity_view l

@@ -6,76 +6,76 @@ use Rattle.std.proofs.lemmas.List.{length-replicate}
 use Rattle.words.specs.Tests.{decided}
 use Rattle.words.specs.Below.{Words, words-zeros}
 use Rattle.packed.specs.Theory.Unpacks.{Unpacks}
-use Rattle.packed.specs.Theory.Pack.{words-converted, unpacks-same}
-use Rattle.soundness.specs.Layout.{fourWords, two_words}
-use Rattle.semantics.specs.Entries.{State, numbersOf, wholeNodes}
-use Rattle.semantics.specs.Images.{savedBytes}
-use Rattle.semantics.specs.Calls.{Start, startResult, afterStart, Run, Call, call, save, load, begun, runAfter, run_of}
+use Rattle.packed.specs.Theory.Pack.{words-converted, unpacks_same}
+use Rattle.soundness.specs.Layout.{four_words, two_words}
+use Rattle.semantics.specs.Entries.{State, numbers_of, whole_nodes}
+use Rattle.semantics.specs.Images.{saved_bytes}
+use Rattle.semantics.specs.Calls.{Start, start_result, after_start, Run, Call, call, save, load, begun, run_after, run_of}
 use Rattle.semantics.specs.Demands.{StateWords, StartWords, CallWords, AllCallWords, run_from}
 use Rattle.semantics.specs.Matching.{AsManyNodes}
-use Rattle.semantics.specs.Convert.{ConvertResult, changeOver, changedOver}
-use Rattle.semantics.specs.ConvertDemands.{SameCall, SameCalls, inPool, withoutImages, SameRuns, AsIfBegunSo}
-use Rattle.semantics.specs.Theory.Images.{sound-room}
-use Rattle.semantics.specs.Theory.Matching.{match-unpacks}
-use Rattle.semantics.specs.Theory.Converts.{ConvertTaken, convert-taken, not_taken, accepted-convert}
-use Rattle.semantics.specs.Theory.AlikeRuns.{Alike, old-words, AlikeRuns, alike-after, alike-calls, alike-begun}
+use Rattle.semantics.specs.Convert.{ConvertResult, change_over, changed_over}
+use Rattle.semantics.specs.ConvertDemands.{SameCall, SameCalls, in_pool, without_images, SameRuns, AsIfBegunSo}
+use Rattle.semantics.specs.Theory.Images.{sound_room}
+use Rattle.semantics.specs.Theory.Matching.{match_unpacks}
+use Rattle.semantics.specs.Theory.Converts.{ConvertTaken, convert_taken, not_taken, accepted_convert}
+use Rattle.semantics.specs.Theory.AlikeRuns.{Alike, old_words, AlikeRuns, alike_after, alike_calls, alike_begun}
 
 -- ---- the same call in the other layout
 
 -- a target that is too short, or long enough, for an image of `other` bytes, as this one is for `bytes`
-abbrev otherTarget : ℕ → ℕ → List ℕ → List ℕ
-otherTarget bytes other target = cond (ltb (length target) bytes) [] (replicate other 0)
+abbrev other_target : ℕ → ℕ → List ℕ → List ℕ
+other_target bytes other target = cond (ltb (length target) bytes) [] (replicate other 0)
 
-target-same : (bytes other : ℕ) (target : List ℕ) → 0 < other → ltb (length target) bytes ≡ ltb (length (otherTarget bytes other target)) other
-target-same bytes other target h = elim (decided (ltb (length target) bytes)) [
+target_same : (bytes other : ℕ) (target : List ℕ) → 0 < other → ltb (length target) bytes ≡ ltb (length (other_target bytes other target)) other
+target_same bytes other target h = elim (decided (ltb (length target) bytes)) [
   | inl t ↦ rw t (sym (lt-ltb 0 other h))
   | inr t ↦ rw t (sym (le-ltb (length (replicate other 0)) other (omega (arith, length-replicate {A = ℕ} other 0))))
 ]
 
 -- in the old layout, of a run that has the state of r₄
-abbrev oldCall : Run → Call → Call
-oldCall r₄ (call k) = call k
-oldCall r₄ (save work target) = save work (otherTarget (savedBytes two_words r₄.now.state) (savedBytes fourWords r₄.now.state) target)
-oldCall r₄ (load i ns ds ws work) = load i ns ds (replicate (4 * wholeNodes two_words ws) 0) work
+abbrev old_call : Run → Call → Call
+old_call r₄ (call k) = call k
+old_call r₄ (save work target) = save work (other_target (saved_bytes two_words r₄.now.state) (saved_bytes four_words r₄.now.state) target)
+old_call r₄ (load i ns ds ws work) = load i ns ds (replicate (4 * whole_nodes two_words ws) 0) work
 
-oldCall-words : (r₄ : Run) (c : Call) → CallWords c → CallWords (oldCall r₄ c)
-oldCall-words r₄ (call k) w = w
-oldCall-words r₄ (save work target) w = tt
-oldCall-words r₄ (load i ns ds ws work) w = words-zeros (4 * wholeNodes two_words ws)
+old_call_words : (r₄ : Run) (c : Call) → CallWords c → CallWords (old_call r₄ c)
+old_call_words r₄ (call k) w = w
+old_call_words r₄ (save work target) w = tt
+old_call_words r₄ (load i ns ds ws work) w = words-zeros (4 * whole_nodes two_words ws)
 
-old-same : (r r₄ : Run) (c : Call) → r.now.state ≡ r₄.now.state → SameCall r r₄ c (oldCall r₄ c)
-old-same r r₄ (call k) e = refl
-old-same r r₄ (save work target) e =
+old_same : (r r₄ : Run) (c : Call) → r.now.state ≡ r₄.now.state → SameCall r r₄ c (old_call r₄ c)
+old_same r r₄ (call k) e = refl
+old_same r r₄ (save work target) e =
     let s = r₄.now.state in
-    (refl, ap (λ (t : State). ltb (length target) (savedBytes two_words t)) e ∙ target-same (savedBytes two_words s) (savedBytes fourWords s) target (omega arith))
-old-same r r₄ (load i ns ds ws work) e = (refl, refl, refl, refl, omega (arith, length-replicate {A = ℕ} (4 * wholeNodes two_words ws) 0))
+    (refl, ap (λ (t : State). ltb (length target) (saved_bytes two_words t)) e ∙ target_same (saved_bytes two_words s) (saved_bytes four_words s) target (omega arith))
+old_same r r₄ (load i ns ds ws work) e = (refl, refl, refl, refl, omega (arith, length-replicate {A = ℕ} (4 * whole_nodes two_words ws) 0))
 
 -- in the new layout
-abbrev newCall : Run → Call → Call
-newCall r₂ (call k) = call k
-newCall r₂ (save work target) = save work (otherTarget (savedBytes fourWords r₂.now.state) (savedBytes two_words r₂.now.state) target)
-newCall r₂ (load i ns ds ws work) = load i ns ds (replicate (2 * wholeNodes fourWords ws) 0) work
+abbrev new_call : Run → Call → Call
+new_call r₂ (call k) = call k
+new_call r₂ (save work target) = save work (other_target (saved_bytes four_words r₂.now.state) (saved_bytes two_words r₂.now.state) target)
+new_call r₂ (load i ns ds ws work) = load i ns ds (replicate (2 * whole_nodes four_words ws) 0) work
 
-newCall-words : (r₂ : Run) (c : Call) → CallWords c → CallWords (newCall r₂ c)
-newCall-words r₂ (call k) w = w
-newCall-words r₂ (save work target) w = tt
-newCall-words r₂ (load i ns ds ws work) w = words-zeros (2 * wholeNodes fourWords ws)
+new_call_words : (r₂ : Run) (c : Call) → CallWords c → CallWords (new_call r₂ c)
+new_call_words r₂ (call k) w = w
+new_call_words r₂ (save work target) w = tt
+new_call_words r₂ (load i ns ds ws work) w = words-zeros (2 * whole_nodes four_words ws)
 
-new-same : (r₂ r₄ : Run) (c : Call) → r₂.now.state ≡ r₄.now.state → SameCall r₂ r₄ (newCall r₂ c) c
-new-same r₂ r₄ (call k) e = refl
-new-same r₂ r₄ (save work target) e =
+new_same : (r₂ r₄ : Run) (c : Call) → r₂.now.state ≡ r₄.now.state → SameCall r₂ r₄ (new_call r₂ c) c
+new_same r₂ r₄ (call k) e = refl
+new_same r₂ r₄ (save work target) e =
     let s = r₂.now.state in
-    (refl, sym (target-same (savedBytes fourWords s) (savedBytes two_words s) target (omega arith)) ∙ ap (λ (t : State). ltb (length target) (savedBytes fourWords t)) e)
-new-same r₂ r₄ (load i ns ds ws work) e = (refl, refl, refl, refl, omega (arith, length-replicate {A = ℕ} (2 * wholeNodes fourWords ws) 0))
+    (refl, sym (target_same (saved_bytes four_words s) (saved_bytes two_words s) target (omega arith)) ∙ ap (λ (t : State). ltb (length target) (saved_bytes four_words t)) e)
+new_same r₂ r₄ (load i ns ds ws work) e = (refl, refl, refl, refl, omega (arith, length-replicate {A = ℕ} (2 * whole_nodes four_words ws) 0))
 
 -- so each list of calls in the old layout has one in the new
-new-calls : (N : ℕ) (cs : List Call) (r₂ r₄ : Run) → AllCallWords cs → AlikeRuns N r₂ r₄ → (cs₂ : List Call) × AllCallWords cs₂ × SameCalls r₂ r₄ cs₂ cs
-new-calls N [] r₂ r₄ w A = ([], tt, tt)
-new-calls N (c ∷ cs) r₂ r₄ w A =
-    let c₂ = newCall r₂ c in
-    let w₂ = newCall-words r₂ c w.0 in
-    let m = new-same r₂ r₄ c A.state in
-    let R = new-calls N cs (runAfter two_words r₂ c₂) (runAfter fourWords r₄ c) w.1 (alike-after N c₂ c r₂ r₄ w₂ w.0 m A) in
+new_calls : (N : ℕ) (cs : List Call) (r₂ r₄ : Run) → AllCallWords cs → AlikeRuns N r₂ r₄ → (cs₂ : List Call) × AllCallWords cs₂ × SameCalls r₂ r₄ cs₂ cs
+new_calls N [] r₂ r₄ w A = ([], tt, tt)
+new_calls N (c ∷ cs) r₂ r₄ w A =
+    let c₂ = new_call r₂ c in
+    let w₂ = new_call_words r₂ c w.0 in
+    let m = new_same r₂ r₄ c A.state in
+    let R = new_calls N cs (run_after two_words r₂ c₂) (run_after four_words r₄ c) w.1 (alike_after N c₂ c r₂ r₄ w₂ w.0 m A) in
     (c₂ ∷ R.0, (w₂, R.1), (m, R.2))
 
 -- ---- two runs in the new layout
@@ -91,17 +91,17 @@ module _ (N : ℕ) where
   both-after [] r r' w B = B
   both-after (c ∷ cs) r r' w B =
       let r₄ = B.old in
-      let w₄ = oldCall-words r₄ c w.0 in
-      both-after cs (runAfter two_words r c) (runAfter two_words r' c) w.1 (record {
-        old = runAfter fourWords r₄ (oldCall r₄ c);
-        first = alike-after N c (oldCall r₄ c) r r₄ w.0 w₄ (old-same r r₄ c B.first.state) B.first;
-        second = alike-after N c (oldCall r₄ c) r' r₄ w.0 w₄ (old-same r' r₄ c B.second.state) B.second;
+      let w₄ = old_call_words r₄ c w.0 in
+      both-after cs (run_after two_words r c) (run_after two_words r' c) w.1 (record {
+        old = run_after four_words r₄ (old_call r₄ c);
+        first = alike_after N c (old_call r₄ c) r r₄ w.0 w₄ (old_same r r₄ c B.first.state) B.first;
+        second = alike_after N c (old_call r₄ c) r' r₄ w.0 w₄ (old_same r' r₄ c B.second.state) B.second;
       })
 
   -- the new pool unpacks to the old one
-  alike-unpacks : {s : State} {ws₂ ws₄ : List ℕ} → Alike N s ws₂ ws₄ → Unpacks N (drop (2 * N) ws₂) ws₂ ws₄
-  alike-unpacks {s} {ws₂} {ws₄} A =
-      subst (λ (n : ℕ). Unpacks n (drop (2 * n) ws₂) ws₂ ws₄) A.nodes (match-unpacks s ws₂ A.match.two-sound ws₄ (sound-room fourWords s ws₄ A.match.four-sound) A.match.matches)
+  alike_unpacks : {s : State} {ws₂ ws₄ : List ℕ} → Alike N s ws₂ ws₄ → Unpacks N (drop (2 * N) ws₂) ws₂ ws₄
+  alike_unpacks {s} {ws₂} {ws₄} A =
+      subst (λ (n : ℕ). Unpacks n (drop (2 * n) ws₂) ws₂ ws₄) A.nodes (match_unpacks s ws₂ A.match.two_sound ws₄ (sound_room four_words s ws₄ A.match.four_sound) A.match.matches)
 
   -- so they have answered the same, and have the same state and nodes
   both-same : (r r' : Run) → AlikeBoth r r' → SameRuns N r r'
@@ -115,59 +115,59 @@ module _ (N : ℕ) where
         nodes = λ e.
             let A = F.standing e in
             let A' = S.standing (S.stateless ∙ sym F.stateless ∙ e) in
-            unpacks-same A.words.pool A'.words.pool (alike-unpacks A) (alike-unpacks A');
+            unpacks_same A.words.pool A'.words.pool (alike_unpacks A) (alike_unpacks A');
       }
 
 -- ---- the change-over
 
-module _ (N : ℕ) (r₂ r₄ : Run) (A : AlikeRuns N r₂ r₄) (work : List ℕ) (z : (changeOver r₄.now work).result ≡ 0) where
+module _ (N : ℕ) (r₂ r₄ : Run) (A : AlikeRuns N r₂ r₄) (work : List ℕ) (z : (change_over r₄.now work).result ≡ 0) where
   taken : ConvertTaken r₄.now.state r₄.now.pool work
-  taken = convert-taken r₄.now.state r₄.now.pool work z
+  taken = convert_taken r₄.now.state r₄.now.pool work z
 
   -- the run that was changed over is like the old one
-  changed-alike : AlikeRuns N (changedOver r₄ work) (withoutImages r₄)
-  changed-alike = record {
+  changed_alike : AlikeRuns N (changed_over r₄ work) (without_images r₄)
+  changed_alike = record {
     exchanges = refl;
     stateless = refl;
     state = refl;
     standing = λ e.
         let S = A.standing (A.stateless ∙ e) in
-        let W : StateWords r₄.now.state r₄.now.pool = subst (λ (t : State). StateWords t r₄.now.pool) A.state (old-words S) in
-        let pool = subst Words (sym (ap (λ (o : ConvertResult). o.pool) taken.is)) (words-converted (numbersOf r₄.now.state).nodes r₄.now.pool W.pool) in
+        let W : StateWords r₄.now.state r₄.now.pool = subst (λ (t : State). StateWords t r₄.now.pool) A.state (old_words S) in
+        let pool = subst Words (sym (ap (λ (o : ConvertResult). o.pool) taken.is)) (words-converted (numbers_of r₄.now.state).nodes r₄.now.pool W.pool) in
         record {
-          match = (accepted-convert r₄.now.state r₄.now.pool work z).match;
+          match = (accepted_convert r₄.now.state r₄.now.pool work z).match;
           words = record { numbers = W.numbers; deques = W.deques; frames = W.frames; pool = pool };
           words₄ = W.pool;
-          nodes = ap (λ (t : State). (numbersOf t).nodes) (sym A.state) ∙ S.nodes;
+          nodes = ap (λ (t : State). (numbers_of t).nodes) (sym A.state) ∙ S.nodes;
         };
     none = λ e. absurd (not_taken r₄.now work taken (A.none (A.stateless ∙ e)).1);
     images = tt;
   }
 
   -- and so is the one in the new layout
-  begun-alike : AlikeRuns N (withoutImages r₂) (withoutImages r₄)
-  begun-alike = record { exchanges = A.exchanges; stateless = A.stateless; state = A.state; standing = A.standing; none = A.none; images = tt }
+  begun_alike : AlikeRuns N (without_images r₂) (without_images r₄)
+  begun_alike = record { exchanges = A.exchanges; stateless = A.stateless; state = A.state; standing = A.standing; none = A.none; images = tt }
 
-  changed-both : AlikeBoth N (changedOver r₄ work) (withoutImages r₂)
-  changed-both = record { old = withoutImages r₄; first = changed-alike; second = begun-alike }
+  changed_both : AlikeBoth N (changed_over r₄ work) (without_images r₂)
+  changed_both = record { old = without_images r₄; first = changed_alike; second = begun_alike }
 
 -- ---- the statements
 
-pub as-if-begun-so : (b : Start) (before : List Call) (work : List ℕ) (after : List Call) (ws : List ℕ) (before₂ : List Call)
-    → (startResult fourWords b).result ≡ 0 → StartWords b → Words ws → AsManyNodes ws b.pool → AllCallWords before → AllCallWords before₂ → AllCallWords after
-    → SameCalls (begun (afterStart two_words (inPool b ws))) (begun (afterStart fourWords b)) before₂ before
-    → (changeOver (run_from fourWords b before).now work).result ≡ 0
+pub as_if_begun_so : (b : Start) (before : List Call) (work : List ℕ) (after : List Call) (ws : List ℕ) (before₂ : List Call)
+    → (start_result four_words b).result ≡ 0 → StartWords b → Words ws → AsManyNodes ws b.pool → AllCallWords before → AllCallWords before₂ → AllCallWords after
+    → SameCalls (begun (after_start two_words (in_pool b ws))) (begun (after_start four_words b)) before₂ before
+    → (change_over (run_from four_words b before).now work).result ≡ 0
     → AsIfBegunSo b before work after ws before₂
-as-if-begun-so b before work after ws before₂ z w w₂ m words words₂ words-after same taken-over =
-    let N = wholeNodes fourWords b.pool in
-    let r₂ = run_from two_words (inPool b ws) before₂ in
-    let r₄ = run_from fourWords b before in
-    let A : AlikeRuns N r₂ r₄ = alike-calls N before₂ before (begun (afterStart two_words (inPool b ws))) (begun (afterStart fourWords b)) words₂ words same (alike-begun b ws z w w₂ m) in
-    both-same N (run_of two_words (changedOver r₄ work) after) (run_of two_words (withoutImages r₂) after)
-    (both-after N after (changedOver r₄ work) (withoutImages r₂) words-after (changed-both N r₂ r₄ A work taken-over))
+as_if_begun_so b before work after ws before₂ z w w₂ m words words₂ words-after same taken-over =
+    let N = whole_nodes four_words b.pool in
+    let r₂ = run_from two_words (in_pool b ws) before₂ in
+    let r₄ = run_from four_words b before in
+    let A : AlikeRuns N r₂ r₄ = alike_calls N before₂ before (begun (after_start two_words (in_pool b ws))) (begun (after_start four_words b)) words₂ words same (alike_begun b ws z w w₂ m) in
+    both-same N (run_of two_words (changed_over r₄ work) after) (run_of two_words (without_images r₂) after)
+    (both-after N after (changed_over r₄ work) (without_images r₂) words-after (changed_both N r₂ r₄ A work taken-over))
 
 -- and there is such a run in the new layout, for each one that was changed over
-pub begun-so-too : (b : Start) (before : List Call) (ws : List ℕ) → (startResult fourWords b).result ≡ 0 → StartWords b → Words ws → AsManyNodes ws b.pool → AllCallWords before
-    → (before₂ : List Call) × AllCallWords before₂ × SameCalls (begun (afterStart two_words (inPool b ws))) (begun (afterStart fourWords b)) before₂ before
-begun-so-too b before ws z w w₂ m words =
-    new-calls (wholeNodes fourWords b.pool) before (begun (afterStart two_words (inPool b ws))) (begun (afterStart fourWords b)) words (alike-begun b ws z w w₂ m)
+pub begun_so_too : (b : Start) (before : List Call) (ws : List ℕ) → (start_result four_words b).result ≡ 0 → StartWords b → Words ws → AsManyNodes ws b.pool → AllCallWords before
+    → (before₂ : List Call) × AllCallWords before₂ × SameCalls (begun (after_start two_words (in_pool b ws))) (begun (after_start four_words b)) before₂ before
+begun_so_too b before ws z w w₂ m words =
+    new_calls (whole_nodes four_words b.pool) before (begun (after_start two_words (in_pool b ws))) (begun (after_start four_words b)) words (alike_begun b ws z w w₂ m)

@@ -7,7 +7,7 @@ use Rattle.sizes.specs.Sizes.{height}
 use Rattle.model.specs.History.{History}
 use Rattle.model.specs.Machine.{Machine, live}
 use Rattle.semantics.specs.Core.{Core}
-use Rattle.semantics.specs.Theory.Relation.{Trees, Relates, rootsOf}
+use Rattle.semantics.specs.Theory.Relation.{Trees, Relates, roots_of}
 use Rattle.semantics.specs.Theory.Places.{same_numbers, tree_of}
 use Rattle.semantics.specs.Theory.Pools.{SameNodes}
 use Rattle.semantics.specs.Theory.SoundSteps.{Carried}
@@ -15,8 +15,8 @@ use Rattle.soundness.specs.Layout.{Layout}
 use Rattle.semantics.specs.Theory.Pools.{PoolLaws}
 
 -- the core with another pool
-abbrev pub withPool : Core → List ℕ → Core
-withPool c ws = record { head = c.head; totals = c.totals; deques = c.deques; frames = c.frames; pool = ws }
+abbrev pub with_pool : Core → List ℕ → Core
+with_pool c ws = record { head = c.head; totals = c.totals; deques = c.deques; frames = c.frames; pool = ws }
 
 module _ (L L' : Layout) where
   -- these frames read in ws', of the layout L', what they read in ws, of L
@@ -24,12 +24,12 @@ module _ (L L' : Layout) where
   SameReads n ws ws' Fs = (F : ℕ × History) → In F Fs → (y : ℕ) → y < n → L'.read (height n) ws' F.0 y ≡ L.read (height n) ws F.0 y
 
   -- the frames keep their places, so that the links and the views beside the relation stand as they are
-  unfoldable pub relates-in : {P P' : Trees} {M : Machine} {c : Core} (ws' : List ℕ) (r : Relates L P M c) → let Fs = rootsOf c.frames r.at (live M) in
-      P' ws' c.head.numbers.free_node c.head.free_count Fs → SameReads M.splitters c.pool ws' Fs → Relates L' P' M (withPool c ws')
-  relates-in {M = M} {c} ws' r T S = record {
+  unfoldable pub relates_in : {P P' : Trees} {M : Machine} {c : Core} (ws' : List ℕ) (r : Relates L P M c) → let Fs = roots_of c.frames r.at (live M) in
+      P' ws' c.head.numbers.free_node c.head.free_count Fs → SameReads M.splitters c.pool ws' Fs → Relates L' P' M (with_pool c ws')
+  relates_in {M = M} {c} ws' r T S = record {
     at = r.at;
     gs = r.gs;
-    numbers = same_numbers M c (withPool c ws') M.deques M.suspended refl r.numbers refl refl refl refl refl refl;
+    numbers = same_numbers M c (with_pool c ws') M.deques M.suspended refl r.numbers refl refl refl refl refl refl;
     formed = r.formed;
     deques = r.deques;
     running = r.running;
@@ -42,16 +42,16 @@ module _ (L L' : Layout) where
   }
 
 module _ (layout : Layout) (pools : PoolLaws layout) where
-  pub carried-elsewhere : (M : Machine) (c : Core) (ws' : List ℕ) → Carried layout pools M c → SameNodes layout c.head.numbers.nodes c.pool ws' → Carried layout pools M (withPool c ws')
-  unfolding relates-in
-  carried-elsewhere M c ws' K S =
-      let T = pools.live-trees c.head.numbers.nodes M.splitters K.related.numbers.nodes-le c.pool ws' _ _ _ K.related.trees S in
+  pub carried_elsewhere : (M : Machine) (c : Core) (ws' : List ℕ) → Carried layout pools M c → SameNodes layout c.head.numbers.nodes c.pool ws' → Carried layout pools M (with_pool c ws')
+  unfolding relates_in
+  carried_elsewhere M c ws' K S =
+      let T = pools.live_trees c.head.numbers.nodes M.splitters K.related.numbers.nodes_le c.pool ws' _ _ _ K.related.trees S in
       record {
-        related = relates-in layout layout ws' K.related T.0 T.1;
+        related = relates_in layout layout ws' K.related T.0 T.1;
         links = K.links;
         tree = K.tree;
         deques = K.deques;
         marks = K.marks;
         bounds = K.bounds;
-        same-free = K.same-free;
+        same_free = K.same_free;
       }

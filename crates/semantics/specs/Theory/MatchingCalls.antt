@@ -4,214 +4,214 @@ use Rattle.std.proofs.Math.Path.{refl}
 use Rattle.std.proofs.Common.{sym, ap, ◌∙◌, subst, arith}
 use Rattle.std.proofs.Math.Logic.{inl, inr}
 use Rattle.std.proofs.Math.Dec.{ltb}
-use Rattle.words.specs.Tests.{decided, neither, ge-of}
-use Rattle.sizes.specs.Sizes.{treeNodes}
-use Rattle.frames.specs.Widths.{maxPlaces}
+use Rattle.words.specs.Tests.{decided, neither, ge_of}
+use Rattle.sizes.specs.Sizes.{tree_nodes}
+use Rattle.frames.specs.Widths.{max_places}
 use Rattle.pool.specs.Pool as Four
 use Rattle.packed.specs.Pool as Two
 use Rattle.packed.specs.Theory.Unpacks.{Unpacks}
-use Rattle.packed.specs.Theory.Start.{start-unpacks}
-use Rattle.soundness.specs.Layout.{fourWords, two_words}
+use Rattle.packed.specs.Theory.Start.{start_unpacks}
+use Rattle.soundness.specs.Layout.{four_words, two_words}
 use Rattle.soundness.specs.Soundness.{checked, cleared}
 use Rattle.model.specs.declared.Decoded.{Decoded}
 use Rattle.model.specs.declared.Decoded.TheVariants.{Valid, Invalid}
 use Rattle.model.specs.Machine.{Machine}
 use Rattle.semantics.specs.Core.{Core, StepResult}
-use Rattle.semantics.specs.Entries.{State, fits, numbersOf, totalsOf, core_of, state_of, chainFree, wholeNodes, StartResult, startOn, startWith, startAccepted, startRefused, recordOn, outsideDone, outsideWith, outsideOn, recordsOf, putAnswer, RecordsResult, recordsResult, runOn, tapeDone, unfitTape, tapeWith, tapeOn}
+use Rattle.semantics.specs.Entries.{State, fits, numbers_of, totals_of, core_of, state_of, chain_free, whole_nodes, StartResult, start_on, start_with, start_accepted, start_refused, record_on, outside_done, outside_with, outside_on, records_of, put_answer, RecordsResult, records_result, run_on, tape_done, unfit_tape, tape_with, tape_on}
 use Rattle.semantics.specs.declared.Refusal.{Refusal}
 use Rattle.semantics.specs.declared.Refusal.TheVariants.{Values, Workers, Places, Nodes}
-use Rattle.semantics.specs.Answers.{refusalNumber, answerWords}
-use Rattle.semantics.specs.Timing.{Timing, timingAtStart, timedBy, workerIn, timedOver}
-use Rattle.semantics.specs.Report.{timingOf}
+use Rattle.semantics.specs.Answers.{refusal_number, answer_words}
+use Rattle.semantics.specs.Timing.{Timing, timing_at_start, timed_by, worker_in, timed_over}
+use Rattle.semantics.specs.Report.{timing_of}
 use Rattle.semantics.specs.Calls.{Start}
-use Rattle.semantics.specs.Demands.{plainStart, plainBegun}
+use Rattle.semantics.specs.Demands.{plain_start, plain_begun}
 use Rattle.semantics.specs.Matching.{SoundMatch, AsManyNodes, SameStart, StartsMatch, SameOutside, StepsMatch, SameTape, TapesMatch}
-use Rattle.semantics.specs.Theory.NumberWords.{numbers-in}
-use Rattle.semantics.specs.Theory.Fitting.{true-fits, totals-long}
-use Rattle.semantics.specs.Theory.Simulation.{numbers-kept}
-use Rattle.semantics.specs.Theory.FourPools.{four-pools}
-use Rattle.semantics.specs.Theory.SoundSteps.{Carried, is-sound, sound-carried, step-carried}
-use Rattle.semantics.specs.Theory.Elsewhere.{withPool}
-use Rattle.semantics.specs.Theory.Images.{sound-room}
-use Rattle.semantics.specs.Theory.Starts.{Fit, in-range}
-use Rattle.semantics.specs.Theory.StartRelates.{firstCore}
-use Rattle.semantics.specs.Theory.StartedRuns.{carried, start-follows}
-use Rattle.semantics.specs.Theory.MatchingSteps.{Alike, step-alike}
-use Rattle.semantics.specs.Theory.Matching.{unpacks-match, same-free, match-unpacks}
+use Rattle.semantics.specs.Theory.NumberWords.{numbers_in_lem}
+use Rattle.semantics.specs.Theory.Fitting.{true_fits, totals_long}
+use Rattle.semantics.specs.Theory.Simulation.{numbers_kept}
+use Rattle.semantics.specs.Theory.FourPools.{four_pools}
+use Rattle.semantics.specs.Theory.SoundSteps.{Carried, is_sound_lem, sound_carried, step_carried}
+use Rattle.semantics.specs.Theory.Elsewhere.{with_pool}
+use Rattle.semantics.specs.Theory.Images.{sound_room}
+use Rattle.semantics.specs.Theory.Starts.{Fit, in_range}
+use Rattle.semantics.specs.Theory.StartRelates.{first_core}
+use Rattle.semantics.specs.Theory.StartedRuns.{carried, start_follows}
+use Rattle.semantics.specs.Theory.MatchingSteps.{Alike, step_alike}
+use Rattle.semantics.specs.Theory.Matching.{unpacks_match, same_free, match_unpacks}
 
 -- ---- a record
 
 -- the old core, with its plain machine, and N nodes
 record Core₄ (N : ℕ) (c : Core) : Type 0 where
   machine : Machine
-  carried : Carried fourWords four-pools machine c
+  carried : Carried four_words four_pools machine c
   nodes : c.head.numbers.nodes ≡ N
 
-record-core : {N : ℕ} {c : Core} (d : Decoded) → Core₄ N c → Core₄ N (recordOn fourWords c d).core
-record-core {c = c} (Valid st) K = record { machine = _; carried = step-carried fourWords four-pools K.machine c st K.carried; nodes = (numbers-kept fourWords c st).nodes ∙ K.nodes }
-record-core Invalid K = K
+record_core : {N : ℕ} {c : Core} (d : Decoded) → Core₄ N c → Core₄ N (record_on four_words c d).core
+record_core {c = c} (Valid st) K = record { machine = _; carried = step_carried four_words four_pools K.machine c st K.carried; nodes = (numbers_kept four_words c st).nodes ∙ K.nodes }
+record_core Invalid K = K
 
-record-alike : {N : ℕ} {c : Core} {tail ws : List ℕ} (d : Decoded) → Core₄ N c → Unpacks N tail ws c.pool → Alike N tail (recordOn two_words (withPool c ws) d) (recordOn fourWords c d)
-record-alike {N} {c} {tail} {ws} (Valid st) K U =
-    subst (λ (m : ℕ). Unpacks m tail ws c.pool → Alike m tail (recordOn two_words (withPool c ws) (Valid st)) (recordOn fourWords c (Valid st))) K.nodes (λ u. step-alike K.machine c K.carried tail ws u st) U
-record-alike {ws = ws} Invalid K U = record { pool = ws; same = refl; unpacks = U }
+record_alike : {N : ℕ} {c : Core} {tail ws : List ℕ} (d : Decoded) → Core₄ N c → Unpacks N tail ws c.pool → Alike N tail (record_on two_words (with_pool c ws) d) (record_on four_words c d)
+record_alike {N} {c} {tail} {ws} (Valid st) K U =
+    subst (λ (m : ℕ). Unpacks m tail ws c.pool → Alike m tail (record_on two_words (with_pool c ws) (Valid st)) (record_on four_words c (Valid st))) K.nodes (λ u. step_alike K.machine c K.carried tail ws u st) U
+record_alike {ws = ws} Invalid K U = record { pool = ws; same = refl; unpacks = U }
 
 -- the state that it leaves, with both pools
-left-match : {N : ℕ} {c : Core} {tail ws : List ℕ} → Core₄ N c → Unpacks N tail ws c.pool → SoundMatch (state_of c) ws c.pool
-left-match {N} {c} {tail} {ws} K U =
-    let e : (numbersOf (state_of c)).nodes ≡ N = ap (λ s. s.nodes) (numbers-in c.head.numbers c.totals K.carried.related.totals.long) ∙ K.nodes in
-    unpacks-match (state_of c) ws c.pool tail (is-sound fourWords four-pools K.carried).0 (subst (λ (m : ℕ). Unpacks m tail ws c.pool) (sym e) U)
+left_match : {N : ℕ} {c : Core} {tail ws : List ℕ} → Core₄ N c → Unpacks N tail ws c.pool → SoundMatch (state_of c) ws c.pool
+left_match {N} {c} {tail} {ws} K U =
+    let e : (numbers_of (state_of c)).nodes ≡ N = ap (λ s. s.nodes) (numbers_in_lem c.head.numbers c.totals K.carried.related.totals.long) ∙ K.nodes in
+    unpacks_match (state_of c) ws c.pool tail (is_sound_lem four_words four_pools K.carried).0 (subst (λ (m : ℕ). Unpacks m tail ws c.pool) (sym e) U)
 
 -- ---- the records of a tape
 
 record RunAlike (N : ℕ) (tail : List ℕ) (r₂ r₄ : RecordsResult) : Type 0 where
   pool : List ℕ
-  same : r₂ ≡ recordsResult (withPool r₄.core pool) r₄.answers
+  same : r₂ ≡ records_result (with_pool r₄.core pool) r₄.answers
   unpacks : Unpacks N tail pool r₄.core.pool
   core : Core₄ N r₄.core
 
-run-alike : {N : ℕ} {tail : List ℕ} (ds : List Decoded) (c : Core) (ws as' : List ℕ) (k : ℕ) → Core₄ N c → Unpacks N tail ws c.pool
-    → RunAlike N tail (runOn two_words (recordsResult (withPool c ws) as') k ds) (runOn fourWords (recordsResult c as') k ds)
-unfolding runOn
-run-alike [] c ws as' k K U = record { pool = ws; same = refl; unpacks = U; core = K }
-run-alike {N} {tail} (d ∷ ds) c ws as' k K U =
-    let A = record-alike d K U in
-    let o : StepResult = recordOn fourWords c d in
-    let r₄ : RecordsResult = runOn fourWords (recordsResult o.core (putAnswer as' k o.answer)) (k + 2) ds in
-    subst (λ (x : StepResult). RunAlike N tail (runOn two_words (recordsResult x.core (putAnswer as' k x.answer)) (k + 2) ds) r₄) (sym A.same)
-    (run-alike ds o.core A.pool (putAnswer as' k o.answer) (k + 2) (record-core d K) A.unpacks)
+run_alike : {N : ℕ} {tail : List ℕ} (ds : List Decoded) (c : Core) (ws as' : List ℕ) (k : ℕ) → Core₄ N c → Unpacks N tail ws c.pool
+    → RunAlike N tail (run_on two_words (records_result (with_pool c ws) as') k ds) (run_on four_words (records_result c as') k ds)
+unfolding run_on
+run_alike [] c ws as' k K U = record { pool = ws; same = refl; unpacks = U; core = K }
+run_alike {N} {tail} (d ∷ ds) c ws as' k K U =
+    let A = record_alike d K U in
+    let o : StepResult = record_on four_words c d in
+    let r₄ : RecordsResult = run_on four_words (records_result o.core (put_answer as' k o.answer)) (k + 2) ds in
+    subst (λ (x : StepResult). RunAlike N tail (run_on two_words (records_result x.core (put_answer as' k x.answer)) (k + 2) ds) r₄) (sym A.same)
+    (run_alike ds o.core A.pool (put_answer as' k o.answer) (k + 2) (record_core d K) A.unpacks)
 
 -- R-7: and their clocks
-timed-alike : {N : ℕ} {tail : List ℕ} (ds : List Decoded) (c : Core) (ws : List ℕ) (t : Timing) → Core₄ N c → Unpacks N tail ws c.pool → timedOver two_words (withPool c ws) ds t ≡ timedOver fourWords c ds t
-unfolding timedOver
-timed-alike [] c ws t K U = refl
-timed-alike (d ∷ ds) c ws t K U =
-    let A = record-alike d K U in
-    let a = answerWords (recordOn fourWords c d).answer in
-    ap (λ (x : StepResult). timedOver two_words x.core ds (timedBy c (workerIn d) (answerWords x.answer) t)) A.same
-    ∙ timed-alike ds (recordOn fourWords c d).core A.pool (timedBy c (workerIn d) a t) (record-core d K) A.unpacks
+timed_alike : {N : ℕ} {tail : List ℕ} (ds : List Decoded) (c : Core) (ws : List ℕ) (t : Timing) → Core₄ N c → Unpacks N tail ws c.pool → timed_over two_words (with_pool c ws) ds t ≡ timed_over four_words c ds t
+unfolding timed_over
+timed_alike [] c ws t K U = refl
+timed_alike (d ∷ ds) c ws t K U =
+    let A = record_alike d K U in
+    let a = answer_words (record_on four_words c d).answer in
+    ap (λ (x : StepResult). timed_over two_words x.core ds (timed_by c (worker_in d) (answer_words x.answer) t)) A.same
+    ∙ timed_alike ds (record_on four_words c d).core A.pool (timed_by c (worker_in d) a t) (record_core d K) A.unpacks
 
 -- ---- a sound state with matching pools
 
 module _ (s : State) (ws₂ ws₄ : List ℕ) (S : SoundMatch s ws₂ ws₄) where
   abbrev N : ℕ
-  N = (numbersOf s).nodes
+  N = (numbers_of s).nodes
 
   unpacks : Unpacks N (drop (2 * N) ws₂) ws₂ ws₄
-  unpacks = match-unpacks s ws₂ S.two-sound ws₄ (sound-room fourWords s ws₄ S.four-sound) S.matches
+  unpacks = match_unpacks s ws₂ S.two_sound ws₄ (sound_room four_words s ws₄ S.four_sound) S.matches
 
-  as-many-free : chainFree two_words s ws₂ ≡ chainFree fourWords s ws₄
-  as-many-free = same-free s ws₂ ws₄ (drop (2 * N) ws₂) S.four-sound unpacks
+  as_many_free : chain_free two_words s ws₂ ≡ chain_free four_words s ws₄
+  as_many_free = same_free s ws₂ ws₄ (drop (2 * N) ws₂) S.four_sound unpacks
 
   abbrev core₄ : Core
-  core₄ = core_of s ws₄ (chainFree fourWords s ws₄)
+  core₄ = core_of s ws₄ (chain_free four_words s ws₄)
 
   carried₄ : fits s ≡ true → Core₄ N core₄
   carried₄ f =
-      let F = true-fits s f in
-      record { machine = _; carried = sound-carried fourWords four-pools (numbersOf s) (totalsOf s) s.deques s.frames ws₄ (totals-long s F) F.deques S.four-sound; nodes = refl }
+      let F = true_fits s f in
+      record { machine = _; carried = sound_carried four_words four_pools (numbers_of s) (totals_of s) s.deques s.frames ws₄ (totals_long s F) F.deques S.four_sound; nodes = refl }
 
   -- ---- a step from outside
 
-  outside-done : (work : List ℕ) (d : Decoded) → fits s ≡ true → SameOutside (outsideDone (recordOn two_words (core_of s ws₂ (chainFree two_words s ws₂)) d) work) (outsideDone (recordOn fourWords core₄ d) work)
-  outside-done work d f =
+  outside_done_lem : (work : List ℕ) (d : Decoded) → fits s ≡ true → SameOutside (outside_done (record_on two_words (core_of s ws₂ (chain_free two_words s ws₂)) d) work) (outside_done (record_on four_words core₄ d) work)
+  outside_done_lem work d f =
       let K = carried₄ f in
-      let A = record-alike d K unpacks in
-      rw (as-many-free, A.same) (record { result = refl; state = refl; work = refl; after = left-match (record-core d K) A.unpacks })
+      let A = record_alike d K unpacks in
+      rw (as_many_free, A.same) (record { result = refl; state = refl; work = refl; after = left_match (record_core d K) A.unpacks })
 
-  outside-both : (work : List ℕ) (d : Decoded) → SameOutside (outsideOn two_words s ws₂ work d) (outsideOn fourWords s ws₄ work d)
-  unfolding outsideOn outsideWith checked
-  outside-both work d = elim (decided (fits s)) [
+  outside_both : (work : List ℕ) (d : Decoded) → SameOutside (outside_on two_words s ws₂ work d) (outside_on four_words s ws₄ work d)
+  unfolding outside_on outside_with checked
+  outside_both work d = elim (decided (fits s)) [
     | inr f ↦ rw f (record { result = refl; state = refl; work = refl; after = S })
     | inl f ↦ elim (decided (leb N (length work))) [
       | inr l ↦ rw (f, l) (record { result = refl; state = refl; work = refl; after = S })
-      | inl l ↦ rw (f, l, S.two-sound, S.four-sound) (outside-done (cleared N work) d f)
+      | inl l ↦ rw (f, l, S.two_sound, S.four_sound) (outside_done_lem (cleared N work) d f)
     ]
   ]
 
   -- ---- a tape
 
-  tape-done : (work answers : List ℕ) (ds : List Decoded) → fits s ≡ true
-      → SameTape (tapeDone (runOn two_words (recordsResult (core_of s ws₂ (chainFree two_words s ws₂)) answers) 0 ds) work) (tapeDone (runOn fourWords (recordsResult core₄ answers) 0 ds) work)
-  tape-done work answers ds f =
-      let A = run-alike ds core₄ ws₂ answers 0 (carried₄ f) unpacks in
-      rw (as-many-free, A.same) (record { result = refl; state = refl; work = refl; answers = refl; after = left-match A.core A.unpacks })
+  tape_done_lem : (work answers : List ℕ) (ds : List Decoded) → fits s ≡ true
+      → SameTape (tape_done (run_on two_words (records_result (core_of s ws₂ (chain_free two_words s ws₂)) answers) 0 ds) work) (tape_done (run_on four_words (records_result core₄ answers) 0 ds) work)
+  tape_done_lem work answers ds f =
+      let A = run_alike ds core₄ ws₂ answers 0 (carried₄ f) unpacks in
+      rw (as_many_free, A.same) (record { result = refl; state = refl; work = refl; answers = refl; after = left_match A.core A.unpacks })
 
-  pub tape-with : (work tape answers : List ℕ) → fits s ≡ true → SameTape (tapeWith two_words s ws₂ work tape answers) (tapeWith fourWords s ws₄ work tape answers)
-  unfolding tapeWith checked
-  tape-with work tape answers f = elim (decided (unfitTape tape answers)) [
+  pub tape_with_lem : (work tape answers : List ℕ) → fits s ≡ true → SameTape (tape_with two_words s ws₂ work tape answers) (tape_with four_words s ws₄ work tape answers)
+  unfolding tape_with checked
+  tape_with_lem work tape answers f = elim (decided (unfit_tape tape answers)) [
     | inl t ↦ rw t (record { result = refl; state = refl; work = refl; answers = refl; after = S })
     | inr t ↦ elim (decided (leb N (length work))) [
       | inr l ↦ rw (t, l) (record { result = refl; state = refl; work = refl; answers = refl; after = S })
-      | inl l ↦ rw (t, l, S.two-sound, S.four-sound) (tape-done (cleared N work) answers (recordsOf tape) f)
+      | inl l ↦ rw (t, l, S.two_sound, S.four_sound) (tape_done_lem (cleared N work) answers (records_of tape) f)
     ]
   ]
 
-  tape-both : (work tape answers : List ℕ) → SameTape (tapeOn two_words s ws₂ work tape answers) (tapeOn fourWords s ws₄ work tape answers)
-  unfolding tapeOn
+  tape-both : (work tape answers : List ℕ) → SameTape (tape_on two_words s ws₂ work tape answers) (tape_on four_words s ws₄ work tape answers)
+  unfolding tape_on
   tape-both work tape answers = elim (decided (fits s)) [
     | inr f ↦ rw f (record { result = refl; state = refl; work = refl; answers = refl; after = S })
-    | inl f ↦ rw f (tape-with work tape answers f)
+    | inl f ↦ rw f (tape_with_lem work tape answers f)
   ]
 
   -- R-7: with the same clocks
-  pub same-timing : (tape clocks : List ℕ) → fits s ≡ true → timingOf two_words s ws₂ tape clocks ≡ timingOf fourWords s ws₄ tape clocks
+  pub same-timing : (tape clocks : List ℕ) → fits s ≡ true → timing_of two_words s ws₂ tape clocks ≡ timing_of four_words s ws₄ tape clocks
   same-timing tape clocks f =
-      ap (λ (k : ℕ). timedOver two_words (core_of s ws₂ k) (recordsOf tape) (timingAtStart clocks)) as-many-free ∙ timed-alike (recordsOf tape) core₄ ws₂ (timingAtStart clocks) (carried₄ f) unpacks
+      ap (λ (k : ℕ). timed_over two_words (core_of s ws₂ k) (records_of tape) (timing_at_start clocks)) as_many_free ∙ timed_alike (records_of tape) core₄ ws₂ (timing_at_start clocks) (carried₄ f) unpacks
 
 -- ---- a start
 
 module _ (workers : ℕ) (vs : List ℕ) (parts : State) (ws₂ ws₄ : List ℕ) (m : AsManyNodes ws₂ ws₄) where
   -- that is accepted
-  module _ (F : Fit fourWords workers vs parts.frames ws₄) where
+  module _ (F : Fit four_words workers vs parts.frames ws₄) where
     abbrev M₄ : ℕ
-    M₄ = wholeNodes fourWords ws₄
+    M₄ = whole_nodes four_words ws₄
 
-    started : Unpacks M₄ (drop (2 * M₄) ws₂) (Two.initPool ws₂ (length vs) M₄ vs).0 (Four.initPool ws₄ (length vs) M₄ vs).0 × ((Two.initPool ws₂ (length vs) M₄ vs).1 ≡ (Four.initPool ws₄ (length vs) M₄ vs).1)
-    started = start-unpacks ws₂ ws₄ (length vs) M₄ vs F.enough F.nodes-le (omega (arith, m)) (omega arith)
+    started : Unpacks M₄ (drop (2 * M₄) ws₂) (Two.init_pool ws₂ (length vs) M₄ vs).0 (Four.init_pool ws₄ (length vs) M₄ vs).0 × ((Two.init_pool ws₂ (length vs) M₄ vs).1 ≡ (Four.init_pool ws₄ (length vs) M₄ vs).1)
+    started = start_unpacks ws₂ ws₄ (length vs) M₄ vs F.enough F.nodes_le (omega (arith, m)) (omega arith)
 
-    first-match : SoundMatch (startAccepted fourWords workers vs parts.frames ws₄).state (Two.initPool ws₂ (length vs) M₄ vs).0 (startAccepted fourWords workers vs parts.frames ws₄).pool
-    first-match =
+    first_match : SoundMatch (start_accepted four_words workers vs parts.frames ws₄).state (Two.init_pool ws₂ (length vs) M₄ vs).0 (start_accepted four_words workers vs parts.frames ws₄).pool
+    first_match =
         let b : Start = record { parts = parts; workers = workers; values = vs; pool = ws₄ } in
-        left-match (record { machine = plainStart fourWords b; carried = carried fourWords four-pools (plainBegun fourWords b) (firstCore fourWords workers vs parts.frames ws₄) (start-follows fourWords four-pools b F); nodes = refl }) started.0
+        left_match (record { machine = plain_start four_words b; carried = carried four_words four_pools (plain_begun four_words b) (first_core four_words workers vs parts.frames ws₄) (start_follows four_words four_pools b F); nodes = refl }) started.0
 
-    accepted-match : SameStart (startAccepted two_words workers vs parts.frames ws₂) (startAccepted fourWords workers vs parts.frames ws₄)
-    accepted-match = rw (m, started.1) (record { result = refl; state = refl; after = λ z. first-match })
+    accepted_match : SameStart (start_accepted two_words workers vs parts.frames ws₂) (start_accepted four_words workers vs parts.frames ws₄)
+    accepted_match = rw (m, started.1) (record { result = refl; state = refl; after = λ z. first_match })
 
-  refused-match : (r : Refusal) → 0 < refusalNumber r → SameStart (startRefused r parts.frames ws₂) (startRefused r parts.frames ws₄)
-  refused-match r h = record { result = refl; state = refl; after = λ z. absurd (omega (arith, z, h)) }
+  refused_match : (r : Refusal) → 0 < refusal_number r → SameStart (start_refused r parts.frames ws₂) (start_refused r parts.frames ws₄)
+  refused_match r h = record { result = refl; state = refl; after = λ z. absurd (omega (arith, z, h)) }
 
   -- one test after the other
-  tested : (b₂ b₄ : Bool) (r : Refusal) {y₂ y₄ : StartResult} → 0 < refusalNumber r → b₂ ≡ b₄ → (b₄ ≡ false → SameStart y₂ y₄) → SameStart (cond b₂ (startRefused r parts.frames ws₂) y₂) (cond b₄ (startRefused r parts.frames ws₄) y₄)
-  tested b₂ b₄ r h e k = elim (decided b₄) [ inl t ↦ rw (e ∙ t, t) (refused-match r h) | inr t ↦ rw (e ∙ t, t) (k t) ]
+  tested : (b₂ b₄ : Bool) (r : Refusal) {y₂ y₄ : StartResult} → 0 < refusal_number r → b₂ ≡ b₄ → (b₄ ≡ false → SameStart y₂ y₄) → SameStart (cond b₂ (start_refused r parts.frames ws₂) y₂) (cond b₄ (start_refused r parts.frames ws₄) y₄)
+  tested b₂ b₄ r h e k = elim (decided b₄) [ inl t ↦ rw (e ∙ t, t) (refused_match r h) | inr t ↦ rw (e ∙ t, t) (k t) ]
 
-  nodes-test : ℕ → Bool
-  nodes-test k = ltb k (treeNodes (length vs)) || ltb 16384 k
+  nodes_test : ℕ → Bool
+  nodes_test k = ltb k (tree_nodes (length vs)) || ltb 16384 k
 
-  pub with-match : SameStart (startWith two_words workers vs parts.frames ws₂) (startWith fourWords workers vs parts.frames ws₄)
-  unfolding startWith nodes-test
-  with-match =
+  pub with_match : SameStart (start_with two_words workers vs parts.frames ws₂) (start_with four_words workers vs parts.frames ws₄)
+  unfolding start_with nodes_test
+  with_match =
       tested (eqb (length vs) 0 || ltb 256 (length vs)) (eqb (length vs) 0 || ltb 256 (length vs)) Values (omega arith) refl (λ a.
       tested (eqb workers 0 || ltb 8 workers) (eqb workers 0 || ltb 8 workers) Workers (omega arith) refl (λ b.
-      tested (eqb (length parts.frames) 0 || ltb maxPlaces (length parts.frames)) (eqb (length parts.frames) 0 || ltb maxPlaces (length parts.frames)) Places (omega arith) refl (λ t.
-      tested (nodes-test (wholeNodes two_words ws₂)) (nodes-test (wholeNodes fourWords ws₄)) Nodes (omega arith) (ap nodes-test m) (λ d.
-      let x = in-range (length vs) 256 a in
-      let y = in-range workers 8 b in
-      let p = in-range (length parts.frames) maxPlaces t in
-      let z = neither (ltb (wholeNodes fourWords ws₄) (treeNodes (length vs))) (ltb 16384 (wholeNodes fourWords ws₄)) d in
-      accepted-match (record { values-positive = x.0; values-le = x.1; workers-positive = y.0; workers-le = y.1; places-positive = p.0; places-le = p.1; enough = ge-of z.0; nodes-le = ge-of z.1 })))))
+      tested (eqb (length parts.frames) 0 || ltb max_places (length parts.frames)) (eqb (length parts.frames) 0 || ltb max_places (length parts.frames)) Places (omega arith) refl (λ t.
+      tested (nodes_test (whole_nodes two_words ws₂)) (nodes_test (whole_nodes four_words ws₄)) Nodes (omega arith) (ap nodes_test m) (λ d.
+      let x = in_range (length vs) 256 a in
+      let y = in_range workers 8 b in
+      let p = in_range (length parts.frames) max_places t in
+      let z = neither (ltb (whole_nodes four_words ws₄) (tree_nodes (length vs))) (ltb 16384 (whole_nodes four_words ws₄)) d in
+      accepted_match (record { values_positive = x.0; values_le = x.1; workers_positive = y.0; workers_le = y.1; places_positive = p.0; places_le = p.1; enough = ge_of z.0; nodes_le = ge_of z.1 })))))
 
-  start-both : SameStart (startOn two_words parts workers vs ws₂) (startOn fourWords parts workers vs ws₄)
-  unfolding startOn
-  start-both = elim (decided (fits parts)) [ inl f ↦ rw f with-match | inr f ↦ rw f (record { result = refl; state = refl; after = λ z. absurd (omega (arith, z)) }) ]
+  start-both : SameStart (start_on two_words parts workers vs ws₂) (start_on four_words parts workers vs ws₄)
+  unfolding start_on
+  start-both = elim (decided (fits parts)) [ inl f ↦ rw f with_match | inr f ↦ rw f (record { result = refl; state = refl; after = λ z. absurd (omega (arith, z)) }) ]
 
 -- ---- the statements
 
-pub starts-match : (parts : State) (workers : ℕ) (values ws₂ ws₄ : List ℕ) → StartsMatch parts workers values ws₂ ws₄
-starts-match parts workers values ws₂ ws₄ m = start-both workers values parts ws₂ ws₄ m
+pub starts_match : (parts : State) (workers : ℕ) (values ws₂ ws₄ : List ℕ) → StartsMatch parts workers values ws₂ ws₄
+starts_match parts workers values ws₂ ws₄ m = start-both workers values parts ws₂ ws₄ m
 
-pub steps-match : (s : State) (ws₂ ws₄ work : List ℕ) (d : Decoded) → StepsMatch s ws₂ ws₄ work d
-steps-match s ws₂ ws₄ work d S = outside-both s ws₂ ws₄ S work d
+pub steps_match : (s : State) (ws₂ ws₄ work : List ℕ) (d : Decoded) → StepsMatch s ws₂ ws₄ work d
+steps_match s ws₂ ws₄ work d S = outside_both s ws₂ ws₄ S work d
 
-pub tapes-match : (s : State) (ws₂ ws₄ work tape answers : List ℕ) → TapesMatch s ws₂ ws₄ work tape answers
-tapes-match s ws₂ ws₄ work tape answers S = tape-both s ws₂ ws₄ S work tape answers
+pub tapes_match : (s : State) (ws₂ ws₄ work tape answers : List ℕ) → TapesMatch s ws₂ ws₄ work tape answers
+tapes_match s ws₂ ws₄ work tape answers S = tape-both s ws₂ ws₄ S work tape answers

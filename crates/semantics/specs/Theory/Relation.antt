@@ -4,16 +4,16 @@
 use Rattle.std.specs.Prelude.{◌≡◌, ◌≢◌, Bool, cond, List, [], ◌∷◌, map, ℕ, ◌+◌, ◌≤◌, ◌<◌, length, get_or}
 use mathlib.Core.List.{Memᴰ as In, Permᴰ}
 use Rattle.words.specs.Basics.{none, count, joined}
-use Rattle.sizes.specs.Sizes.{height, treeNodes}
+use Rattle.sizes.specs.Sizes.{height, tree_nodes}
 use Rattle.frames.specs.declared.Frame.{Frame as FrameRecord}
-use Rattle.frames.specs.Widths.{maxPlaces}
-use Rattle.frames.specs.Deques.{dequeList}
-use Rattle.frames.specs.Frames.{frameAt, freePlace}
+use Rattle.frames.specs.Widths.{max_places}
+use Rattle.frames.specs.Deques.{deque_list}
+use Rattle.frames.specs.Frames.{frame_at, free_record}
 use Rattle.frames.specs.Siblings.{younger, Children}
-use Rattle.soundness.specs.Numbers.{totalCount}
+use Rattle.soundness.specs.Numbers.{total_count}
 use Rattle.frames.specs.Theory.Tables.{Formed}
 use Rattle.model.specs.History.{Mark, Event, History}
-use Rattle.model.specs.Machine.{Name, Frame, Machine, live, deque, isChild}
+use Rattle.model.specs.Machine.{Name, Frame, Machine, live, deque, is_child}
 use Rattle.model.specs.Machine.{live as lives}
 use Rattle.semantics.specs.Core.{Core, table_of}
 use Rattle.soundness.specs.Layout.{Layout}
@@ -40,12 +40,12 @@ module _ (layout : Layout) where
   -- what spawn, return and write do to it, for N nodes and n splitters
   pub record TreeLaws (N n : ℕ) (P : Trees) : Type 0 where
     pub perm : (ws : List ℕ) (free k : ℕ) (Fs Fs' : List (ℕ × History)) → Permᴰ Fs Fs' → P ws free k Fs → P ws free k Fs'
-    pub spawn : (ws : List ℕ) (free k : ℕ) (F : ℕ × History) (Fs : List (ℕ × History)) → length Fs < maxPlaces → P ws free k (F ∷ Fs)
+    pub spawn : (ws : List ℕ) (free k : ℕ) (F : ℕ × History) (Fs : List (ℕ × History)) → length Fs < max_places → P ws free k (F ∷ Fs)
         → P (layout.retain ws F.0) free k (F ∷ F ∷ Fs) × Kept layout (height n) n ws (layout.retain ws F.0) (F ∷ Fs)
     pub return : (ws : List ℕ) (free k : ℕ) (F : ℕ × History) (Fs : List (ℕ × History)) → P ws free k (F ∷ Fs)
         → P (layout.release N (height n) ws free k F.0).0 (layout.release N (height n) ws free k F.0).1 (layout.release N (height n) ws free k F.0).2 Fs
         × Kept layout (height n) n ws (layout.release N (height n) ws free k F.0).0 Fs
-    pub write : (ws : List ℕ) (free k root : ℕ) (h : History) (Fs : List (ℕ × History)) (x v : ℕ) (m : Mark) → length Fs < maxPlaces → x < n → layout.rest (height n) ws root x ≤ k → m ≢ []
+    pub write : (ws : List ℕ) (free k root : ℕ) (h : History) (Fs : List (ℕ × History)) (x v : ℕ) (m : Mark) → length Fs < max_places → x < n → layout.rest (height n) ws root x ≤ k → m ≢ []
         → Fresh m ((root, h) ∷ Fs) → P ws free k ((root, h) ∷ Fs)
         → P (layout.write (height n) ws free k root x v).0 (layout.write (height n) ws free k root x v).1 (layout.write (height n) ws free k root x v).2 (((layout.write (height n) ws free k root x v).3, event x m ∷ h) ∷ Fs)
         × Kept layout (height n) n ws (layout.write (height n) ws free k root x v).0 Fs
@@ -55,24 +55,24 @@ module _ (layout : Layout) where
 -- ---- frames and their places
 
 -- Main has no parent; another frame's parent stands where its name says
-abbrev pub parentPlace : (Name → ℕ) → Name → ℕ
-parentPlace at [] = none
-parentPlace at (k ∷ p) = at p
+abbrev pub parent_place : (Name → ℕ) → Name → ℕ
+parent_place at [] = none
+parent_place at (k ∷ p) = at p
 
 -- how many of the frames are children of p
-abbrev pub childCount : Name → List Frame → ℕ
-childCount p [] = 0
-childCount p (f ∷ fs) = cond (isChild p f.name) 1 0 + childCount p fs
+abbrev pub child_count : Name → List Frame → ℕ
+child_count p [] = 0
+child_count p (f ∷ fs) = cond (is_child p f.name) 1 0 + child_count p fs
 
 abbrev pub places_of : (Name → ℕ) → List Frame → List ℕ
 places_of at fs = map (λ f. at f.name) fs
 
-abbrev pub rootOf : List FrameRecord → (Name → ℕ) → Frame → ℕ
-rootOf fs at f = (frameAt fs (at f.name)).root
+abbrev pub root_of : List FrameRecord → (Name → ℕ) → Frame → ℕ
+root_of fs at f = (frame_at fs (at f.name)).root
 
 -- the frames' roots with their histories
-abbrev pub rootsOf : List FrameRecord → (Name → ℕ) → List Frame → List (ℕ × History)
-rootsOf fs at L = map (λ f. (rootOf fs at f, f.history)) L
+abbrev pub roots_of : List FrameRecord → (Name → ℕ) → List Frame → List (ℕ × History)
+roots_of fs at L = map (λ f. (root_of fs at f, f.history)) L
 
 -- 1 if so, else 0
 abbrev pub bit : Bool → ℕ
@@ -81,32 +81,32 @@ bit b = cond b 1 0
 -- the record of the frame f, one of the live frames L: suspended (s is 1) or not (0)
 pub record Recorded (fs : List FrameRecord) (at : Name → ℕ) (L : List Frame) (s : ℕ) (f : Frame) : Type 0 where
   pub inside : at f.name < length fs
-  pub live : (frameAt fs (at f.name)).live ≡ 1
-  pub parent : (frameAt fs (at f.name)).parent ≡ parentPlace at f.name
-  pub depth : (frameAt fs (at f.name)).depth ≡ length f.name
-  pub outstanding : (frameAt fs (at f.name)).outstanding ≡ childCount f.name L
-  pub suspended : (frameAt fs (at f.name)).suspended ≡ s
-  pub returning : (frameAt fs (at f.name)).returning ≡ bit f.returning
+  pub live : (frame_at fs (at f.name)).live ≡ 1
+  pub parent : (frame_at fs (at f.name)).parent ≡ parent_place at f.name
+  pub depth : (frame_at fs (at f.name)).depth ≡ length f.name
+  pub outstanding : (frame_at fs (at f.name)).outstanding ≡ child_count f.name L
+  pub suspended : (frame_at fs (at f.name)).suspended ≡ s
+  pub returning : (frame_at fs (at f.name)).returning ≡ bit f.returning
 
 -- the totals: four words, "zero while Main lives"
 pub record TotalsKept (ts : List ℕ) (L : List Frame) : Type 0 where
-  pub long : length ts ≡ totalCount
-  pub zero : (f : Frame) → In f L → f.name ≡ [] → (i : ℕ) → i < totalCount → get_or ts i 0 ≡ 0
+  pub long : length ts ≡ total_count
+  pub zero : (f : Frame) → In f L → f.name ≡ [] → (i : ℕ) → i < total_count → get_or ts i 0 ≡ 0
 
 -- the numbers that no step changes
 pub record SameNumbers (M : Machine) (c : Core) : Type 0 where
   pub workers : c.head.numbers.workers ≡ length M.deques
-  pub workers-positive : 1 ≤ length M.deques
-  pub workers-le : length M.deques ≤ 8
+  pub workers_positive : 1 ≤ length M.deques
+  pub workers_le : length M.deques ≤ 8
   pub splitters : c.head.numbers.splitters ≡ M.splitters
-  pub splitters-positive : 1 ≤ M.splitters
-  pub splitters-le : M.splitters ≤ 256
-  pub height-is : c.head.height ≡ height M.splitters
-  pub enough : treeNodes M.splitters ≤ c.head.numbers.nodes
-  pub nodes-le : c.head.numbers.nodes ≤ 16384
+  pub splitters_positive : 1 ≤ M.splitters
+  pub splitters_le : M.splitters ≤ 256
+  pub height_is : c.head.height ≡ height M.splitters
+  pub enough : tree_nodes M.splitters ≤ c.head.numbers.nodes
+  pub nodes_le : c.head.numbers.nodes ≤ 16384
   -- R-6: the table's length, which is recorded
   pub places : c.head.numbers.places ≡ M.places
-  pub places-positive : 1 ≤ M.places
+  pub places_positive : 1 ≤ M.places
   pub table : M.places ≡ length c.frames
 
 module _ (layout : Layout) where
@@ -116,15 +116,15 @@ module _ (layout : Layout) where
     pub gs : List ℕ
     pub numbers : SameNumbers M c
     pub formed : Formed (table_of c) gs
-    pub deques : (w : ℕ) → w < 8 → dequeList c.deques w ≡ places_of at (deque M w)
+    pub deques : (w : ℕ) → w < 8 → deque_list c.deques w ≡ places_of at (deque M w)
     pub running : (f : Frame) → In f (joined M.deques) → Recorded c.frames at (live M) 0 f
     pub waiting : (f : Frame) → In f M.suspended → Recorded c.frames at (live M) 1 f
     -- each place is free or some live frame's, and only one's
     pub once : (p : ℕ) → p < length c.frames → count p gs + count p (places_of at (live M)) ≡ 1
-    pub vacant : (p : ℕ) → p < length c.frames → 0 < count p gs → (q : ℕ) × (frameAt c.frames p ≡ freePlace q)
+    pub vacant : (p : ℕ) → p < length c.frames → 0 < count p gs → (q : ℕ) × (frame_at c.frames p ≡ free_record q)
     pub totals : TotalsKept c.totals (live M)
-    pub trees : P c.pool c.head.numbers.free_node c.head.free_count (rootsOf c.frames at (live M))
-    pub values : (f : Frame) → In f (live M) → (x : ℕ) → x < M.splitters → layout.read (height M.splitters) c.pool (rootOf c.frames at f) x ≡ get_or f.values x 0
+    pub trees : P c.pool c.head.numbers.free_node c.head.free_count (roots_of c.frames at (live M))
+    pub values : (f : Frame) → In f (live M) → (x : ℕ) → x < M.splitters → layout.read (height M.splitters) c.pool (root_of c.frames at f) x ≡ get_or f.values x 0
 
 -- ---- beside it: the links between siblings
 
@@ -138,9 +138,9 @@ module _ (layout : Layout) where
   pub record Keeps {P : Trees} {M M' : Machine} {c c' : Core} (r : Relates layout P M c) (r' : Relates layout P M' c') : Type 0 where
     pub same_length : length c'.frames ≡ length c.frames
     pub places : (n : Name) → r'.at n ≡ r.at n
-    pub live : (p : ℕ) → (frameAt c'.frames p).live ≡ (frameAt c.frames p).live
-    pub parent : (p : ℕ) → (frameAt c'.frames p).parent ≡ (frameAt c.frames p).parent
-    pub view : (p : ℕ) → (frameAt c'.frames p).view ≡ (frameAt c.frames p).view
+    pub live : (p : ℕ) → (frame_at c'.frames p).live ≡ (frame_at c.frames p).live
+    pub parent : (p : ℕ) → (frame_at c'.frames p).parent ≡ (frame_at c.frames p).parent
+    pub view : (p : ℕ) → (frame_at c'.frames p).view ≡ (frame_at c.frames p).view
     pub link : (p : ℕ) → younger c'.frames p ≡ younger c.frames p
     -- the same names
     pub from : (f : Frame) → In f (lives M') → (g : Frame) × In g (lives M) × (g.name ≡ f.name)

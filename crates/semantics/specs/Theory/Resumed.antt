@@ -12,26 +12,26 @@ use mathlib.Core.List.Permᴰ
 use mathlib.Core.List.{List, [], ◌∷◌, ◌++◌, Permᴰ}
 use Rattle.words.specs.Basics.{joined}
 use Rattle.words.specs.Lists.{In-perm, joined-set}
-use Rattle.frames.specs.Frames.{frameAt, withSuspended}
+use Rattle.frames.specs.Frames.{frame_at, with_suspended}
 use Rattle.frames.specs.Steps.{Table}
 use Rattle.frames.specs.Steps.{resume as resumeTable}
 use Rattle.frames.specs.Theory.Tables.{After}
-use Rattle.frames.specs.Theory.Summary.{resume-does}
+use Rattle.frames.specs.Theory.Summary.{resume_does}
 use Rattle.model.specs.Machine.{Name, Frame, Machine, live, deque, those, others}
-use Rattle.model.specs.Steps.{waitsAtSync, resume}
-use Rattle.model.specs.Theory.Effects.{perm-those, resume-live}
-use Rattle.model.specs.Theory.DequeShape.{in-others}
-use Rattle.semantics.specs.Core.{Core, table_of, withTable}
-use Rattle.semantics.specs.Theory.Relation.{Trees, TreeLaws, places_of, rootOf, Recorded, Relates, Keeps}
-use Rattle.semantics.specs.Theory.Places.{placed-taken, same_numbers}
-use Rattle.semantics.specs.Theory.RelationFacts.{trees-perm, in_rest, lists-with, workers-le}
-use Rattle.semantics.specs.Theory.Stored.{Carried, carried, keeps-stored}
+use Rattle.model.specs.Steps.{waits_at_sync, resume}
+use Rattle.model.specs.Theory.Effects.{perm_those, resume-live}
+use Rattle.model.specs.Theory.DequeShape.{in_others}
+use Rattle.semantics.specs.Core.{Core, table_of, with_table}
+use Rattle.semantics.specs.Theory.Relation.{Trees, TreeLaws, places_of, root_of, Recorded, Relates, Keeps}
+use Rattle.semantics.specs.Theory.Places.{placed_taken, same_numbers}
+use Rattle.semantics.specs.Theory.RelationFacts.{trees_perm, in_rest, lists_with, workers_le}
+use Rattle.semantics.specs.Theory.Stored.{Carried, carried, keeps_stored}
 use Rattle.soundness.specs.Layout.{Layout}
 
 module _ (layout : Layout) where
   -- g is the one suspended frame of the name p that waits at its sync
   module _ {P : Trees} {M : Machine} {c : Core} (r : Relates layout P M c) (w : ℕ) (lt : w < length M.deques) (idle : deque M w ≡ []) (g : Frame) (m : In g M.suspended)
-      (one : those (waitsAtSync g.name) M.suspended ≡ g ∷ []) where
+      (one : those (waits_at_sync g.name) M.suspended ≡ g ∷ []) where
     abbrev p : Name
     p = g.name
 
@@ -44,49 +44,49 @@ module _ (layout : Layout) where
     lives : In g (live M)
     lives = In-left (joined M.deques) m
 
-    does : After (table_of c) table w (r.at p ∷ []) r.gs (r.at p ∷ []) × (frameAt table.frames (r.at p) ≡ withSuspended (frameAt c.frames (r.at p)) 0)
+    does : After (table_of c) table w (r.at p ∷ []) r.gs (r.at p ∷ []) × (frame_at table.frames (r.at p) ≡ with_suspended (frame_at c.frames (r.at p)) 0)
     does =
-        resume-does (table_of c) w (r.at p) r.gs r.formed (workers-le layout r lt) (r.deques w (workers-le layout r lt) ∙ ap (places_of r.at) idle) (r.waiting g m).inside
-        (placed-taken layout r g lives)
+        resume_does (table_of c) w (r.at p) r.gs r.formed (workers_le layout r lt) (r.deques w (workers_le layout r lt) ∙ ap (places_of r.at) idle) (r.waiting g m).inside
+        (placed_taken layout r g lives)
 
     abbrev R : List Frame
-    R = others (waitsAtSync p) M.suspended ++ joined M.deques
+    R = others (waits_at_sync p) M.suspended ++ joined M.deques
 
     before : Permᴰ (live M) (g ∷ R)
-    before = subst (λ (z : List Frame). Permᴰ (live M) (z ++ R)) one (perm-those (waitsAtSync p) M.suspended (joined M.deques))
+    before = subst (λ (z : List Frame). Permᴰ (live M) (z ++ R)) one (perm_those (waits_at_sync p) M.suspended (joined M.deques))
 
     afterwards : Permᴰ (g ∷ R) (live next)
     afterwards = Permᴰ.trans (Permᴰ.symm before) (resume-live M w p lt idle)
 
-    carries : Carried layout r next table.frames g g R 0 (rootOf c.frames r.at g)
+    carries : Carried layout r next table.frames g g R 0 (root_of c.frames r.at g)
     carries =
-        carried layout r next table.frames g g R 0 (rootOf c.frames r.at g) (frameAt c.frames (r.at p)).returning refl (r.waiting g m).returning does.0.same_length before afterwards does.1 (λ z n. does.0.records z (n, tt))
+        carried layout r next table.frames g g R 0 (root_of c.frames r.at g) (frame_at c.frames (r.at p)).returning refl (r.waiting g m).returning does.0.same_length before afterwards does.1 (λ z n. does.0.records z (n, tt))
 
-    same-root : (f : Frame) → In f (g ∷ R) → rootOf table.frames r.at f ≡ rootOf c.frames r.at f
-    same-root f i = elim (In-cons i) [
-      | inl z ↦ subst (λ (h : Frame). rootOf table.frames r.at h ≡ rootOf c.frames r.at h) (sym z) carries.own_root
-      | inr j ↦ carries.other-root f j
+    same_root : (f : Frame) → In f (g ∷ R) → root_of table.frames r.at f ≡ root_of c.frames r.at f
+    same_root f i = elim (In-cons i) [
+      | inl z ↦ subst (λ (h : Frame). root_of table.frames r.at h ≡ root_of c.frames r.at h) (sym z) carries.own_root
+      | inr j ↦ carries.other_root f j
     ]
 
-    pub resumes-frame : TreeLaws layout c.head.numbers.nodes M.splitters P → Relates layout P next (withTable c table)
+    pub resumes-frame : TreeLaws layout c.head.numbers.nodes M.splitters P → Relates layout P next (with_table c table)
     resumes-frame laws = record {
       at = r.at;
       gs = r.gs;
-      numbers = same_numbers M c (withTable c table) next.deques next.suspended (length-set M.deques w (those (waitsAtSync p) M.suspended)) r.numbers refl refl refl refl refl does.0.same_length;
+      numbers = same_numbers M c (with_table c table) next.deques next.suspended (length-set M.deques w (those (waits_at_sync p) M.suspended)) r.numbers refl refl refl refl refl does.0.same_length;
       formed = does.0.formed;
-      deques = lists-with r.at table.deques M.deques w (those (waitsAtSync p) M.suspended) lt (does.0.deque ∙ ap (places_of r.at) (sym one)) (λ u h n. does.0.deques u h n ∙ r.deques u h);
-      running = λ f i. elim (In-cases (those (waitsAtSync p) M.suspended) (In-perm (joined-set M.deques w (those (waitsAtSync p) M.suspended) lt) i)) [
-        | inl j ↦ subst (λ (h : Frame). Recorded table.frames r.at (live next) 0 h) (sym (In-one (subst (λ (z : List Frame). In f z) one j))) (carries.own-record 1 (r.waiting g m))
-        | inr j ↦ (let k = in_rest M.deques w j in carries.other-record 0 f (In-right (others (waitsAtSync p) M.suspended) k) (r.running f k))
+      deques = lists_with r.at table.deques M.deques w (those (waits_at_sync p) M.suspended) lt (does.0.deque ∙ ap (places_of r.at) (sym one)) (λ u h n. does.0.deques u h n ∙ r.deques u h);
+      running = λ f i. elim (In-cases (those (waits_at_sync p) M.suspended) (In-perm (joined-set M.deques w (those (waits_at_sync p) M.suspended) lt) i)) [
+        | inl j ↦ subst (λ (h : Frame). Recorded table.frames r.at (live next) 0 h) (sym (In-one (subst (λ (z : List Frame). In f z) one j))) (carries.own_record 1 (r.waiting g m))
+        | inr j ↦ (let k = in_rest M.deques w j in carries.other_record 0 f (In-right (others (waits_at_sync p) M.suspended) k) (r.running f k))
       ];
-      waiting = λ f i. carries.other-record 1 f (In-left (joined M.deques) i) (r.waiting f (in-others (waitsAtSync p) M.suspended f i).0);
+      waiting = λ f i. carries.other_record 1 f (In-left (joined M.deques) i) (r.waiting f (in_others (waits_at_sync p) M.suspended f i).0);
       once = carries.once;
       vacant = carries.vacant;
       totals = carries.totals;
-      trees = trees-perm layout table.frames r.at laws afterwards (rw (carries.other-roots, carries.own_root) (trees-perm layout c.frames r.at laws before r.trees));
-      values = λ f i x h. (let k = In-perm (Permᴰ.symm afterwards) i in rw (same-root f k) (r.values f (In-perm (Permᴰ.symm before) k) x h));
+      trees = trees_perm layout table.frames r.at laws afterwards (rw (carries.other_roots, carries.own_root) (trees_perm layout c.frames r.at laws before r.trees));
+      values = λ f i x h. (let k = In-perm (Permᴰ.symm afterwards) i in rw (same_root f k) (r.values f (In-perm (Permᴰ.symm before) k) x h));
     }
 
-    pub resumes-keeps : (laws : TreeLaws layout c.head.numbers.nodes M.splitters P) → Keeps layout r (resumes-frame laws)
+    pub resumes_keeps : (laws : TreeLaws layout c.head.numbers.nodes M.splitters P) → Keeps layout r (resumes-frame laws)
     unfolding resumes-frame
-    resumes-keeps laws = keeps-stored layout r (resumes-frame laws) (λ n. refl) refl carries
+    resumes_keeps laws = keeps_stored layout r (resumes-frame laws) (λ n. refl) refl carries

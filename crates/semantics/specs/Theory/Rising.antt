@@ -13,45 +13,45 @@ use Rattle.words.specs.Basics.{joined}
 use Rattle.words.specs.Tests.{decided}
 use Rattle.words.specs.Lists.{In-perm}
 use Rattle.words.specs.Counting.{hit, miss}
-use Rattle.model.specs.Machine.{Name, Frame, Machine, live, isChild, hasFrame}
-use Rattle.model.specs.Clocks.{Clock, Final, finalClock, settle}
+use Rattle.model.specs.Machine.{Name, Frame, Machine, live, is_child, has_frame}
+use Rattle.model.specs.Clocks.{Clock, Final, final_clock, settle}
 use Rattle.model.specs.Theory.FrameTree.{FrameTree}
 use Rattle.model.specs.Theory.Outcomes.{Above}
-use Rattle.model.specs.Theory.PostOrder.{InPostOrder, post-left}
-use Rattle.model.specs.Theory.Siblings.{of-child}
-use Rattle.model.specs.Theory.SettleClocks.{clockNames, clock-names-settled, heard-child, heard-other}
+use Rattle.model.specs.Theory.PostOrder.{InPostOrder, post_left}
+use Rattle.model.specs.Theory.Siblings.{of_child}
+use Rattle.model.specs.Theory.SettleClocks.{clock_names, clock_names_settled, heard-child, heard_other}
 use Rattle.model.specs.Theory.AtSync.{AtSync}
-use Rattle.semantics.specs.Timing.{ownClock, childClock}
-use Rattle.semantics.specs.Theory.Relation.{childCount}
-use Rattle.semantics.specs.Theory.Places.{childCount-perm}
+use Rattle.semantics.specs.Timing.{own_clock, child_clock}
+use Rattle.semantics.specs.Theory.Relation.{child_count}
+use Rattle.semantics.specs.Theory.Places.{child_count_perm}
 use Rattle.semantics.specs.Theory.ClocksLeft.{OneEnds}
 
 -- before the end of g: M and the clocks cs are left of M₀, perhaps after ends below g; the words ks are those of M₀. Only g may have heard an end
 pub record Standing (M₀ : Machine) (at : Name → ℕ) (ks : List ℕ) (g : Frame) (M : Machine) (cs : List Clock) : Type 0 where
   pub tree : FrameTree M
-  pub ordered : InPostOrder (live M) (clockNames cs)
-  pub at-sync : AtSync M cs
+  pub ordered : InPostOrder (live M) (clock_names cs)
+  pub at_sync : AtSync M cs
   pub running : (f : Frame) → In f (joined M.deques) → In f (joined M₀.deques)
   pub waiting : (f : Frame) → In f M.suspended → In f M₀.suspended
   -- the children of the frames above g are as before
-  pub counts : (p : Name) → length p < length g.name → childCount p (live M₀) ≡ childCount p (live M)
-  pub own : (k : Clock) → In k cs → ownClock ks (at k.name) ≡ k.clock
-  pub children : (k : Clock) → In k cs → k.name ≢ g.name → childClock ks (at k.name) ≡ k.latest
+  pub counts : (p : Name) → length p < length g.name → child_count p (live M₀) ≡ child_count p (live M)
+  pub own : (k : Clock) → In k cs → own_clock ks (at k.name) ≡ k.clock
+  pub children : (k : Clock) → In k cs → k.name ≢ g.name → child_clock ks (at k.name) ≡ k.latest
 
 -- after the end, at the time e, of a frame of this name, which lived in M₀: only its parent has heard an end that the words do not have
 pub record Rising (M₀ : Machine) (at : Name → ℕ) (ks : List ℕ) (n : Name) (e : ℕ) (M : Machine) (cs : List Clock) : Type 0 where
   pub lived : (f : Frame) × In f (live M₀) × (f.name ≡ n)
   pub above : Above (live M) n
   pub tree : FrameTree M
-  pub ordered : InPostOrder (live M) (clockNames cs)
-  pub at-sync : AtSync M cs
+  pub ordered : InPostOrder (live M) (clock_names cs)
+  pub at_sync : AtSync M cs
   pub running : (f : Frame) → In f (joined M.deques) → In f (joined M₀.deques)
   pub waiting : (f : Frame) → In f M.suspended → In f M₀.suspended
-  pub counts : (p : Name) → suc (length p) < length n → childCount p (live M₀) ≡ childCount p (live M)
-  pub one_less : (p : Name) → isChild p n ≡ true → childCount p (live M₀) ≡ suc (childCount p (live M))
-  pub own : (k : Clock) → In k cs → ownClock ks (at k.name) ≡ k.clock
-  pub children : (k : Clock) → In k cs → isChild k.name n ≡ false → childClock ks (at k.name) ≡ k.latest
-  pub parent : (k : Clock) → In k cs → isChild k.name n ≡ true → max (childClock ks (at k.name)) e ≡ k.latest
+  pub counts : (p : Name) → suc (length p) < length n → child_count p (live M₀) ≡ child_count p (live M)
+  pub one_less : (p : Name) → is_child p n ≡ true → child_count p (live M₀) ≡ suc (child_count p (live M))
+  pub own : (k : Clock) → In k cs → own_clock ks (at k.name) ≡ k.clock
+  pub children : (k : Clock) → In k cs → is_child k.name n ≡ false → child_clock ks (at k.name) ≡ k.latest
+  pub parent : (k : Clock) → In k cs → is_child k.name n ≡ true → max (child_clock ks (at k.name)) e ≡ k.latest
 
 -- g leaves M, and M' is left
 pub record Departs (g : Frame) (M M' : Machine) : Type 0 where
@@ -61,11 +61,11 @@ pub record Departs (g : Frame) (M M' : Machine) : Type 0 where
   pub running : (f : Frame) → In f (joined M'.deques) → In f (joined M.deques)
   pub waiting : (f : Frame) → In f M'.suspended → In f M.suspended
   -- a frame that waits at its sync stays
-  pub at-sync : (f : Frame) → In f M.suspended → f.returning ≡ false → In f M'.suspended
+  pub at_sync : (f : Frame) → In f M.suspended → f.returning ≡ false → In f M'.suspended
 
 module _ (M₀ : Machine) (at : Name → ℕ) (ks : List ℕ) (g : Frame) (M M' : Machine) (cs : List Clock) (S : Standing M₀ at ks g M cs) (D : Departs g M M') (X : OneEnds (live M') g cs) where
   abbrev e : ℕ
-  e = finalClock X.clock
+  e = final_clock X.clock
 
   abbrev cs' : List Clock
   cs' = (settle (live M') [] cs).0
@@ -79,54 +79,54 @@ module _ (M₀ : Machine) (at : Name → ℕ) (ks : List ℕ) (g : Frame) (M M' 
   old : (f : Frame) → In f (live M) → In f (live M₀)
   old f m = elim (In-cases M.suspended m) [ inl i ↦ In-left (joined M₀.deques) (S.waiting f i) | inr i ↦ In-right M₀.suspended (S.running f i) ]
 
-  counts_with : (p : Name) → childCount p (live M) ≡ cond (isChild p g.name) 1 0 + childCount p (live M')
-  counts_with p = childCount-perm p D.before
+  counts_with : (p : Name) → child_count p (live M) ≡ cond (is_child p g.name) 1 0 + child_count p (live M')
+  counts_with p = child_count_perm p D.before
 
   -- a frame has one child less, its name being shorter
-  one-less-after : (p : Name) → isChild p g.name ≡ true → childCount p (live M₀) ≡ suc (childCount p (live M'))
-  one-less-after p t =
-      let j = of-child p g.name t in
+  one_less_after : (p : Name) → is_child p g.name ≡ true → child_count p (live M₀) ≡ suc (child_count p (live M'))
+  one_less_after p t =
+      let j = of_child p g.name t in
       omega (arith, S.counts p (omega (arith, ap length j.1)), counts_with p, hit t)
 
-  counts-after : (p : Name) → suc (length p) < length g.name → childCount p (live M₀) ≡ childCount p (live M')
-  counts-after p b = elim (decided (isChild p g.name)) [
-    | inl t ↦ absurd (omega (arith, b, ap length (of-child p g.name t).1))
+  counts_after : (p : Name) → suc (length p) < length g.name → child_count p (live M₀) ≡ child_count p (live M')
+  counts_after p b = elim (decided (is_child p g.name)) [
+    | inl t ↦ absurd (omega (arith, b, ap length (of_child p g.name t).1))
     | inr t ↦ omega (arith, S.counts p (omega (arith, b)), counts_with p, miss t)
   ]
 
-  ordered-after : InPostOrder (live M') (clockNames cs')
-  ordered-after = subst (InPostOrder (live M')) (sym (clock-names-settled (λ n. hasFrame n (live M')) [] cs))
-      (post-left (live M') (clockNames cs) D.tree.rooted (λ f m. S.ordered.names.all f (In-perm (Permᴰ.symm D.before) (there m))) S.ordered.post)
+  ordered_after : InPostOrder (live M') (clock_names cs')
+  ordered_after = subst (InPostOrder (live M')) (sym (clock_names_settled (λ n. has_frame n (live M')) [] cs))
+      (post_left (live M') (clock_names cs) D.tree.rooted (λ f m. S.ordered.names.all f (In-perm (Permᴰ.symm D.before) (there m))) S.ordered.post)
 
   -- a clock that is left has its name, its own clock and whether it waits
-  at-sync-after : AtSync M' cs'
-  at-sync-after = record {
+  at_sync-after : AtSync M' cs'
+  at_sync-after = record {
     suspended = λ u m t.
         let x = X.left u m in
-        let f = S.at-sync.suspended x.0 x.1 (ap (λ (k : Clock). k.waits) (sym x.3) ∙ t) in
-        (f.0, D.at-sync f.0 f.1 f.3, f.2 ∙ ap (λ (k : Clock). k.name) (sym x.3), f.3);
+        let f = S.at_sync.suspended x.0 x.1 (ap (λ (k : Clock). k.waits) (sym x.3) ∙ t) in
+        (f.0, D.at_sync f.0 f.1 f.3, f.2 ∙ ap (λ (k : Clock). k.name) (sym x.3), f.3);
     waits = λ u m f i z b.
         let x = X.left u m in
-        ap (λ (k : Clock). k.waits) x.3 ∙ S.at-sync.waits x.0 x.1 f (D.waiting f i) (z ∙ ap (λ (k : Clock). k.name) x.3) b;
+        ap (λ (k : Clock). k.waits) x.3 ∙ S.at_sync.waits x.0 x.1 f (D.waiting f i) (z ∙ ap (λ (k : Clock). k.name) x.3) b;
   }
 
-  own-after : (u : Clock) → In u cs' → ownClock ks (at u.name) ≡ u.clock
-  own-after u m = let x = X.left u m in ap (λ (k : Clock). ownClock ks (at k.name)) x.3 ∙ S.own x.0 x.1 ∙ ap (λ (k : Clock). k.clock) (sym x.3)
+  own_after : (u : Clock) → In u cs' → own_clock ks (at u.name) ≡ u.clock
+  own_after u m = let x = X.left u m in ap (λ (k : Clock). own_clock ks (at k.name)) x.3 ∙ S.own x.0 x.1 ∙ ap (λ (k : Clock). k.clock) (sym x.3)
 
   -- the child word of the clock that u was
-  word_after : (u : Clock) (m : In u cs') → childClock ks (at u.name) ≡ (X.left u m).0.latest
-  word_after u m = let x = X.left u m in ap (λ (k : Clock). childClock ks (at k.name)) x.3 ∙ S.children x.0 x.1 x.2
+  word_after : (u : Clock) (m : In u cs') → child_clock ks (at u.name) ≡ (X.left u m).0.latest
+  word_after u m = let x = X.left u m in ap (λ (k : Clock). child_clock ks (at k.name)) x.3 ∙ S.children x.0 x.1 x.2
 
-  children-after : (u : Clock) → In u cs' → isChild u.name g.name ≡ false → childClock ks (at u.name) ≡ u.latest
+  children-after : (u : Clock) → In u cs' → is_child u.name g.name ≡ false → child_clock ks (at u.name) ≡ u.latest
   children-after u m t =
       let x = X.left u m in
-      let d : isChild x.0.name g.name ≡ false = ap (λ (k : Clock). isChild k.name g.name) (sym x.3) ∙ t in
-      word_after u m ∙ ap (λ (k : Clock). k.latest) (sym (x.3 ∙ heard-other g.name e x.0 d))
+      let d : is_child x.0.name g.name ≡ false = ap (λ (k : Clock). is_child k.name g.name) (sym x.3) ∙ t in
+      word_after u m ∙ ap (λ (k : Clock). k.latest) (sym (x.3 ∙ heard_other g.name e x.0 d))
 
-  parent-after : (u : Clock) → In u cs' → isChild u.name g.name ≡ true → max (childClock ks (at u.name)) e ≡ u.latest
-  parent-after u m t =
+  parent_after : (u : Clock) → In u cs' → is_child u.name g.name ≡ true → max (child_clock ks (at u.name)) e ≡ u.latest
+  parent_after u m t =
       let x = X.left u m in
-      let d : isChild x.0.name g.name ≡ true = ap (λ (k : Clock). isChild k.name g.name) (sym x.3) ∙ t in
+      let d : is_child x.0.name g.name ≡ true = ap (λ (k : Clock). is_child k.name g.name) (sym x.3) ∙ t in
       ap (λ (l : ℕ). max l e) (word_after u m) ∙ ap (λ (k : Clock). k.latest) (sym (x.3 ∙ heard-child g.name e x.0 d))
 
   pub rising : Rising M₀ at ks g.name e M' cs'
@@ -134,13 +134,13 @@ module _ (M₀ : Machine) (at : Name → ℕ) (ks : List ℕ) (g : Frame) (M M' 
     lived = (g, old g lives, refl);
     above = D.above;
     tree = D.tree;
-    ordered = ordered-after;
-    at-sync = at-sync-after;
+    ordered = ordered_after;
+    at_sync = at_sync-after;
     running = λ f m. S.running f (D.running f m);
     waiting = λ f m. S.waiting f (D.waiting f m);
-    counts = counts-after;
-    one_less = one-less-after;
-    own = own-after;
+    counts = counts_after;
+    one_less = one_less_after;
+    own = own_after;
     children = children-after;
-    parent = parent-after;
+    parent = parent_after;
   }

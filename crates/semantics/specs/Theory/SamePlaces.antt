@@ -8,31 +8,31 @@ use Rattle.semantics.specs.Theory.Relation.{Trees, Relates, Keeps, SamePlaces}
 use Rattle.semantics.specs.Theory.LinksKept.{NamedIn}
 use Rattle.semantics.specs.Theory.SimSpawn.{Spawns}
 use Rattle.semantics.specs.Theory.SimFold.{Folds}
-use Rattle.semantics.specs.Theory.EndsInTurn.{EndsInTurn, stops, ends-then}
-use Rattle.semantics.specs.Theory.ViewedTurns.{turns-named}
+use Rattle.semantics.specs.Theory.EndsInTurn.{EndsInTurn, stops, ends_then}
+use Rattle.semantics.specs.Theory.ViewedTurns.{turns_named}
 use Rattle.soundness.specs.Layout.{Layout}
 
 module _ (layout : Layout) where
   module _ {P : Trees} {M M' : Machine} {c c' : Core} {r : Relates layout P M c} {r' : Relates layout P M' c'} where
     -- no frame is new
-    none-new : NamedIn (live M) (live M') → ((n : Name) → r'.at n ≡ r.at n) → SamePlaces layout r r'
-    none-new from same = record { kept = λ f m. same f.name; fresh = λ f m new. let g = from f m in absurd (new g.0 g.1 g.2) }
+    none_new : NamedIn (live M) (live M') → ((n : Name) → r'.at n ≡ r.at n) → SamePlaces layout r r'
+    none_new from same = record { kept = λ f m. same f.name; fresh = λ f m new. let g = from f m in absurd (new g.0 g.1 g.2) }
 
-    pub keeps-places : Keeps layout r r' → SamePlaces layout r r'
-    keeps-places K = none-new K.from K.places
+    pub keeps_places : Keeps layout r r' → SamePlaces layout r r'
+    keeps_places K = none_new K.from K.places
 
-    pub folds-places : {q : Frame} {i x : ℕ} → Folds layout r r' q i x → SamePlaces layout r r'
-    folds-places F = none-new (λ f m. (f, subst (λ (N : Machine). In f (live N)) F.same-machine m, refl)) F.places-kept
+    pub folds_places : {q : Frame} {i x : ℕ} → Folds layout r r' q i x → SamePlaces layout r r'
+    folds_places F = none_new (λ f m. (f, subst (λ (N : Machine). In f (live N)) F.same_machine m, refl)) F.places_kept
 
-    pub spawns-places : {q : Frame} → Spawns layout r r' q → SamePlaces layout r r'
-    spawns-places S = record {
-      kept = S.places-kept;
+    pub spawns_places : {q : Frame} → Spawns layout r r' q → SamePlaces layout r r'
+    spawns_places S = record {
+      kept = S.places_kept;
       fresh = λ f m new. elim (S.from f m) [ inl e ↦ ap r'.at e ∙ S.child-place | inr g ↦ absurd (new g.0 g.1 g.2) ];
     }
 
-  in-turn-places : {P : Trees} {M M' : Machine} {c c' : Core} {r : Relates layout P M c} {r' : Relates layout P M' c'} → EndsInTurn layout r r' → (n : Name) → r'.at n ≡ r.at n
-  in-turn-places (stops K) n = K.places n
-  in-turn-places (ends-then g R tree h E T) n = in-turn-places T n ∙ E.places n
+  in_turn_places : {P : Trees} {M M' : Machine} {c c' : Core} {r : Relates layout P M c} {r' : Relates layout P M' c'} → EndsInTurn layout r r' → (n : Name) → r'.at n ≡ r.at n
+  in_turn_places (stops K) n = K.places n
+  in_turn_places (ends_then g R tree h E T) n = in_turn_places T n ∙ E.places n
 
-  pub turns-places : {P : Trees} {M M' : Machine} {c c' : Core} {r : Relates layout P M c} {r' : Relates layout P M' c'} → EndsInTurn layout r r' → SamePlaces layout r r'
-  turns-places T = none-new (turns-named layout T) (in-turn-places T)
+  pub turns_places : {P : Trees} {M M' : Machine} {c c' : Core} {r : Relates layout P M c} {r' : Relates layout P M' c'} → EndsInTurn layout r r' → SamePlaces layout r r'
+  turns_places T = none_new (turns_named layout T) (in_turn_places T)

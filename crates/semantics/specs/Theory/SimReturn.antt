@@ -19,36 +19,36 @@ use borrow.Author.Tests.{eq-eqb, ne_eqb}
 use Rattle.words.specs.Basics.{joined, same}
 use Rattle.words.specs.Tests.{decided, both, true→T, true≢false}
 use Rattle.words.specs.Lists.{In-perm, joined-set}
-use Rattle.words.specs.Distinct.{same-eq, same_refl}
+use Rattle.words.specs.Distinct.{same_eq, same_refl}
 use Rattle.frames.specs.declared.Frame.{Frame as FrameRecord}
 use Rattle.frames.specs.declared.Returned.TheVariants.{Continued, Idle, Resumed}
-use Rattle.frames.specs.Frames.{frameAt}
+use Rattle.frames.specs.Frames.{frame_at}
 use Rattle.frames.specs.Deques.{size, pop}
-use Rattle.frames.specs.Steps.{waitsNoMore, endsToo, goOn, wentOn}
+use Rattle.frames.specs.Steps.{waits_no_more, ends_too, go_on, went_on}
 use Rattle.frames.specs.Steps.{resume as resumeTable}
-use Rattle.frames.specs.Theory.Lists.{list_length, list-elsewhere, pop-elsewhere, pop-shaped, pop-list}
-use Rattle.model.specs.Machine.{Name, Frame, Machine, live, deque, withDeque, is_empty, hasChild, hasFrame, those, others}
-use Rattle.model.specs.Steps.{return, acting, waitsInReturn, waitsAtSync, leave, resume, upward, after_end, afterAction, after_turn, endOutcome, actionAnswer, turnAnswer}
-use Rattle.model.specs.Theory.LiveRun.{Disjoint, disjoint-perm}
-use Rattle.model.specs.Theory.Children.{hasChild-perm}
-use Rattle.model.specs.Theory.Effects.{Passes, acts, rest, live_at, live-with, perm-those}
-use Rattle.model.specs.Theory.FrameTree.{FrameTree, names_apart, rooted-perm, rooted-without}
-use Rattle.model.specs.Theory.DequeShape.{disjoint_left, disjoint_right, disjoint-apart, one-named, in-others}
-use Rattle.model.specs.Theory.MainEnds.{In-hasFrame, hasFrame-In}
-use Rattle.model.specs.Theory.Outcomes.{outcomeUpward, Above, main-there, rooted-leave, above-leave, outcome-upward}
-use Rattle.semantics.specs.Answers.{answerWords}
-use Rattle.semantics.specs.Core.{Core, StepResult, table_of, withTable, actingIn, returned, end_at, popped, endBottom, returnOn}
+use Rattle.frames.specs.Theory.Lists.{list_length, list_elsewhere, pop_elsewhere, pop-shaped, pop_list}
+use Rattle.model.specs.Machine.{Name, Frame, Machine, live, deque, with_deque, is_empty, has_child, has_frame, those, others}
+use Rattle.model.specs.Steps.{return, acting, waits_in_return, waits_at_sync, leave, resume, upward, after_end, after_action, after_turn, end_outcome, action_answer, turn_answer}
+use Rattle.model.specs.Theory.LiveRun.{Disjoint, disjoint_perm}
+use Rattle.model.specs.Theory.Children.{has_child_perm}
+use Rattle.model.specs.Theory.Effects.{Passes, acts, rest, live_at_lem, live_with, perm_those}
+use Rattle.model.specs.Theory.FrameTree.{FrameTree, names_apart, rooted_perm, rooted_without}
+use Rattle.model.specs.Theory.DequeShape.{disjoint_left, disjoint_right, disjoint_apart, one_named, in_others}
+use Rattle.model.specs.Theory.MainEnds.{In-hasFrame, has_frame_In}
+use Rattle.model.specs.Theory.Outcomes.{outcome_upward, Above, main_there, rooted_leave, above-leave, outcome-upward}
+use Rattle.semantics.specs.Answers.{answer_words}
+use Rattle.semantics.specs.Core.{Core, StepResult, table_of, with_table, acting_in, returned, end_at, popped, end_bottom, return_on}
 use Rattle.semantics.specs.Core.{upward as upwardOn}
-use Rattle.semantics.specs.Theory.Relation.{Trees, TreeLaws, bit, parentPlace, childCount, places_of, Recorded, Relates, Links}
-use Rattle.semantics.specs.Theory.Places.{childCount-test, childless-count, those-none, those-one, others-all, recorded, worker-few, acting-deque, acting-place, acting-frame, acting-record}
-use Rattle.semantics.specs.Theory.RelationFacts.{in_rest, lists-with, parent-count, above-runs}
+use Rattle.semantics.specs.Theory.Relation.{Trees, TreeLaws, bit, parent_place, child_count, places_of, Recorded, Relates, Links}
+use Rattle.semantics.specs.Theory.Places.{child_count_test, childless_count, those-none, those_one, others-all, recorded, worker_few, acting-deque, acting-place, acting-frame, acting_record}
+use Rattle.semantics.specs.Theory.RelationFacts.{in_rest, lists_with, parent_count, above_runs}
 use Rattle.semantics.specs.Theory.LinksKept.{keeps_same}
-use Rattle.semantics.specs.Theory.Suspended.{suspends, suspends-keeps}
-use Rattle.semantics.specs.Theory.Resumed.{resumes-frame, resumes-keeps}
-use Rattle.semantics.specs.Theory.EndedFrame.{Left, end-relates}
+use Rattle.semantics.specs.Theory.Suspended.{suspends, suspends_keeps}
+use Rattle.semantics.specs.Theory.Resumed.{resumes-frame, resumes_keeps}
+use Rattle.semantics.specs.Theory.EndedFrame.{Left, end_relates}
 use Rattle.semantics.specs.Theory.Viewed.{Ended}
-use Rattle.semantics.specs.Theory.LinksEnd.{next-in, links_end}
-use Rattle.semantics.specs.Theory.EndsInTurn.{EndsInTurn, stops, ends-then}
+use Rattle.semantics.specs.Theory.LinksEnd.{next_in, links_end}
+use Rattle.semantics.specs.Theory.EndsInTurn.{EndsInTurn, stops, ends_then}
 use Rattle.soundness.specs.Layout.{Layout}
 
 module _ (layout : Layout) where
@@ -56,24 +56,24 @@ module _ (layout : Layout) where
 
   module _ (d : ℕ) (c : Core) (w q : ℕ) where
     abbrev parent : FrameRecord
-    parent = frameAt c.frames q
+    parent = frame_at c.frames q
 
-    up_ends : endsToo parent ≡ true → upwardOn layout (suc d) c w q ≡ upwardOn layout d (end_at layout c q) w parent.parent
+    up_ends : ends_too parent ≡ true → upwardOn layout (suc d) c w q ≡ upwardOn layout d (end_at layout c q) w parent.parent
     unfolding upwardOn
     up_ends e = rw e
 
-    up-stays : waitsNoMore parent ≡ false → upwardOn layout (suc d) c w q ≡ returned c Idle
-    unfolding upwardOn goOn wentOn
-    up-stays e = rw e
+    up_stays : waits_no_more parent ≡ false → upwardOn layout (suc d) c w q ≡ returned c Idle
+    unfolding upwardOn go_on went_on
+    up_stays e = rw e
 
-    up-resumes : waitsNoMore parent ≡ true → eqb parent.returning 1 ≡ false → upwardOn layout (suc d) c w q ≡ returned (withTable c (resumeTable (table_of c) w q)) Resumed
-    unfolding upwardOn goOn wentOn
-    up-resumes e n = rw (e, n)
+    up_resumes : waits_no_more parent ≡ true → eqb parent.returning 1 ≡ false → upwardOn layout (suc d) c w q ≡ returned (with_table c (resumeTable (table_of c) w q)) Resumed
+    unfolding upwardOn go_on went_on
+    up_resumes e n = rw (e, n)
 
   -- an end changes no number of nodes
-  end-laws : {P : Trees} {n : ℕ} (c : Core) (q : ℕ) → TreeLaws layout c.head.numbers.nodes n P → TreeLaws layout (end_at layout c q).head.numbers.nodes n P
+  end_laws : {P : Trees} {n : ℕ} (c : Core) (q : ℕ) → TreeLaws layout c.head.numbers.nodes n P → TreeLaws layout (end_at layout c q).head.numbers.nodes n P
   unfolding end_at
-  end-laws c q laws = laws
+  end_laws c q laws = laws
 
   -- ---- the ends upward
 
@@ -81,17 +81,17 @@ module _ (layout : Layout) where
   pub record Went {P : Trees} {M : Machine} {c : Core} (r : Relates layout P M c) (M' : Machine) (o : ℕ) (s : StepResult) : Type 0 where
     pub related : Relates layout P M' s.core
     pub ends : EndsInTurn layout r related
-    pub answered : answerWords s.answer ≡ (102, o)
+    pub answered : answer_words s.answer ≡ (102, o)
 
-  went-as : {P : Trees} {M : Machine} {c : Core} (r : Relates layout P M c) {M₁ M₂ : Machine} {o₁ o₂ : ℕ} {s₁ s₂ : StepResult} → M₂ ≡ M₁ → o₂ ≡ o₁ → s₂ ≡ s₁ → Went r M₁ o₁ s₁ → Went r M₂ o₂ s₂
-  went-as r {M₁} {M₂} {o₁} {o₂} {s₁} {s₂} m o s W =
+  went_as : {P : Trees} {M : Machine} {c : Core} (r : Relates layout P M c) {M₁ M₂ : Machine} {o₁ o₂ : ℕ} {s₁ s₂ : StepResult} → M₂ ≡ M₁ → o₂ ≡ o₁ → s₂ ≡ s₁ → Went r M₁ o₁ s₁ → Went r M₂ o₂ s₂
+  went_as r {M₁} {M₂} {o₁} {o₂} {s₁} {s₂} m o s W =
       subst (λ (N : Machine). Went r N o₂ s₂) (sym m) (subst (λ (n : ℕ). Went r M₁ n s₂) (sym o) (subst (λ (t : StepResult). Went r M₁ o₁ t) (sym s) W))
 
   -- g has ended, a frame that waited in its return
   record Leaves {P : Trees} {M : Machine} {c : Core} (r : Relates layout P M c) (g : Frame) : Type 0 where
-    some : is_empty (those (waitsInReturn g.name) M.suspended) ≡ false
+    some : is_empty (those (waits_in_return g.name) M.suspended) ≡ false
     related : Relates layout P (leave M g.name) (end_at layout c (r.at g.name))
-    same-places : related.at ≡ r.at
+    same_places : related.at ≡ r.at
     ended : Ended layout r related g (live (leave M g.name))
     tree : FrameTree (leave M g.name)
     above : Above (live (leave M g.name)) g.name
@@ -101,64 +101,64 @@ module _ (layout : Layout) where
     p = g.name
 
     abbrev F : FrameRecord
-    F = frameAt c.frames (r.at p)
+    F = frame_at c.frames (r.at p)
 
     -- "has no live child left"
-    childless : eqb F.outstanding 0 ≡ not (hasChild p (live M))
-    childless = ap (λ (x : ℕ). eqb x 0) (recorded layout r g lives).1.outstanding ∙ childCount-test p (live M)
+    childless : eqb F.outstanding 0 ≡ not (has_child p (live M))
+    childless = ap (λ (x : ℕ). eqb x 0) (recorded layout r g lives).1.outstanding ∙ child_count_test p (live M)
 
-    disjoint-waiting : Disjoint M.suspended
-    disjoint-waiting = disjoint_left M.suspended (joined M.deques) tree.disjoint
+    disjoint_waiting : Disjoint M.suspended
+    disjoint_waiting = disjoint_left M.suspended (joined M.deques) tree.disjoint
 
     -- ---- it waits, and has no live child left
 
-    module _ (h : hasChild p (live M) ≡ false) (i : In g M.suspended) where
-      waits-no-more : waitsNoMore F ≡ true
-      waits-no-more = rw (eq-eqb F.suspended 1 (r.waiting g i).suspended, childless, h)
+    module _ (h : has_child p (live M) ≡ false) (i : In g M.suspended) where
+      waits_no_more_lem : waits_no_more F ≡ true
+      waits_no_more_lem = rw (eq-eqb F.suspended 1 (r.waiting g i).suspended, childless, h)
 
       module _ (n : g.returning ≡ true) where
-        one-leaves : those (waitsInReturn p) M.suspended ≡ g ∷ []
-        one-leaves = those-one (waitsInReturn p) M.suspended g disjoint-waiting i (rw (same_refl p, n)) (λ f s. same-eq f.name p (both _ _ s).0)
+        one_leaves : those (waits_in_return p) M.suspended ≡ g ∷ []
+        one_leaves = those_one (waits_in_return p) M.suspended g disjoint_waiting i (rw (same_refl p, n)) (λ f s. same_eq f.name p (both _ _ s).0)
 
-        split : Permᴰ (live M) (those (waitsInReturn p) M.suspended ++ live (leave M p))
-        split = perm-those (waitsInReturn p) M.suspended (joined M.deques)
+        split : Permᴰ (live M) (those (waits_in_return p) M.suspended ++ live (leave M p))
+        split = perm_those (waits_in_return p) M.suspended (joined M.deques)
 
         with_it : Permᴰ (live M) (g ∷ live (leave M p))
-        with_it = subst (λ (z : List Frame). Permᴰ (live M) (z ++ live (leave M p))) one-leaves split
+        with_it = subst (λ (z : List Frame). Permᴰ (live M) (z ++ live (leave M p))) one_leaves split
 
-        left-of : Left layout r (live (leave M p)) M.deques (others (waitsInReturn p) M.suspended) c.deques
-        left-of = record {
+        left_of : Left layout r (live (leave M p)) M.deques (others (waits_in_return p) M.suspended) c.deques
+        left_of = record {
           workers = refl;
           frames = Permᴰ.refl (live (leave M p));
           shaped = r.formed.shaped;
           deques = r.deques;
-          running = λ f m. (In-right (others (waitsInReturn p) M.suspended) m, m);
-          waiting = λ f m. (In-left (joined M.deques) m, (in-others (waitsInReturn p) M.suspended f m).0);
+          running = λ f m. (In-right (others (waits_in_return p) M.suspended) m, m);
+          waiting = λ f m. (In-left (joined M.deques) m, (in_others (waits_in_return p) M.suspended f m).0);
         }
 
         gone : (r' : Relates layout P (leave M p) (end_at layout c (r.at p))) × (r'.at ≡ r.at)
-        gone = end-relates layout r tree g (live (leave M p)) with_it M.deques (others (waitsInReturn p) M.suspended) c.deques left-of laws (next-in layout r tree K g (live (leave M p)) with_it)
+        gone = end_relates layout r tree g (live (leave M p)) with_it M.deques (others (waits_in_return p) M.suspended) c.deques left_of laws (next_in layout r tree K g (live (leave M p)) with_it)
 
         leaves : Leaves r g
         unfolding end_at
         leaves =
-            let some : is_empty (those (waitsInReturn p) M.suspended) ≡ false = ap is_empty one-leaves in
+            let some : is_empty (those (waits_in_return p) M.suspended) ≡ false = ap is_empty one_leaves in
             record {
               some = some;
               related = gone.0;
-              same-places = gone.1;
+              same_places = gone.1;
               ended = record { before = with_it; after = Permᴰ.refl (live (leave M p)); places = λ n. ap (λ (at : Name → ℕ). at n) gone.1; frames = refl; totals = refl };
-              tree = record { disjoint = disjoint_right (those (waitsInReturn p) M.suspended) (live (leave M p)) (disjoint-perm split tree.disjoint); rooted = rooted-leave M p tree.rooted tree.disjoint h };
+              tree = record { disjoint = disjoint_right (those (waits_in_return p) M.suspended) (live (leave M p)) (disjoint_perm split tree.disjoint); rooted = rooted_leave M p tree.rooted tree.disjoint h };
               above = above-leave M p tree.rooted tree.disjoint h some (In-hasFrame p (live M) g lives refl);
             }
 
-        ends-test : endsToo F ≡ true
-        ends-test = rw (waits-no-more, eq-eqb F.returning 1 ((r.waiting g i).returning ∙ ap bit n))
+        ends_test : ends_too F ≡ true
+        ends_test = rw (waits_no_more_lem, eq-eqb F.returning 1 ((r.waiting g i).returning ∙ ap bit n))
 
-      not-returning : g.returning ≡ false → (f : Frame) → In f M.suspended → waitsInReturn p f ≡ false
-      not-returning n f m = elim (decided (waitsInReturn p f)) [
+      not_returning : g.returning ≡ false → (f : Frame) → In f M.suspended → waits_in_return p f ≡ false
+      not_returning n f m = elim (decided (waits_in_return p f)) [
         | inl s ↦ (let x = both (same f.name p) f.returning s in
-            let one = one-named M.suspended disjoint-waiting f g m i (same-eq f.name p x.0) in
+            let one = one_named M.suspended disjoint_waiting f g m i (same_eq f.name p x.0) in
             absurd (true≢false (sym x.1 ∙ ap (λ (z : Frame). z.returning) one ∙ n)))
         | inr s ↦ s
       ]
@@ -170,90 +170,90 @@ module _ (layout : Layout) where
       result = upwardOn layout (suc (length p)) c w (r.at p)
 
       abbrev Done : Type 0
-      Done = Went r (upward M w (k ∷ p)) (outcomeUpward M (k ∷ p)) result
+      Done = Went r (upward M w (k ∷ p)) (outcome_upward M (k ∷ p)) result
 
-      stays : waitsNoMore F ≡ false → upward M w (k ∷ p) ≡ M → outcomeUpward M (k ∷ p) ≡ 1 → Done
-      stays e m o = went-as r m o (up-stays (length p) c w (r.at p) e) (record { related = r; ends = stops (keeps_same layout r); answered = refl })
+      stays : waits_no_more F ≡ false → upward M w (k ∷ p) ≡ M → outcome_upward M (k ∷ p) ≡ 1 → Done
+      stays e m o = went_as r m o (up_stays (length p) c w (r.at p) e) (record { related = r; ends = stops (keeps_same layout r); answered = refl })
 
-      with-child : hasChild p (live M) ≡ true → Done
-      with-child h = stays (rw (childless, h) (and-false (eqb F.suspended 1))) (rw h) (rw h)
+      with_child_lem : has_child p (live M) ≡ true → Done
+      with_child_lem h = stays (rw (childless, h) (and-false (eqb F.suspended 1))) (rw h) (rw h)
         where
           and-false : (b : Bool) → (b && false) ≡ false
           and-false true = refl
           and-false false = refl
 
       -- it runs
-      runs : hasChild p (live M) ≡ false → In g (joined M.deques) → Done
+      runs : has_child p (live M) ≡ false → In g (joined M.deques) → Done
       runs h i =
-          let a = those-none (waitsInReturn p) M.suspended (none (waitsInReturn p) (λ f s. same-eq f.name p (both _ _ s).0)) in
-          let b = those-none (waitsAtSync p) M.suspended (none (waitsAtSync p) (λ f s. same-eq f.name p (both _ _ s).0)) in
-          let o = others-all (waitsAtSync p) M.suspended (none (waitsAtSync p) (λ f s. same-eq f.name p (both _ _ s).0)) in
+          let a = those-none (waits_in_return p) M.suspended (none (waits_in_return p) (λ f s. same_eq f.name p (both _ _ s).0)) in
+          let b = those-none (waits_at_sync p) M.suspended (none (waits_at_sync p) (λ f s. same_eq f.name p (both _ _ s).0)) in
+          let o = others-all (waits_at_sync p) M.suspended (none (waits_at_sync p) (λ f s. same_eq f.name p (both _ _ s).0)) in
           let still : set M.deques w [] ≡ M.deques = ap (set M.deques w) (sym idle) ∙ set-get_or M.deques w [] in
           stays (rw (ne_eqb F.suspended 1 (λ z. omega (arith, z, (r.running g i).suspended)))) (rw (h, a, b, o, still)) (rw (h, a, b))
         where
           none : (t : Frame → Bool) → ((f : Frame) → t f ≡ true → f.name ≡ p) → (f : Frame) → In f M.suspended → t f ≡ false
-          none t n f m = elim (decided (t f)) [ inl s ↦ absurd (disjoint-apart M.suspended (joined M.deques) tree.disjoint f g m i (n f s)) | inr s ↦ s ]
+          none t n f m = elim (decided (t f)) [ inl s ↦ absurd (disjoint_apart M.suspended (joined M.deques) tree.disjoint f g m i (n f s)) | inr s ↦ s ]
 
       -- it waits at its sync
-      at-sync : (h : hasChild p (live M) ≡ false) (i : In g M.suspended) → g.returning ≡ false → Done
-      at-sync h i n =
-          let one = those-one (waitsAtSync p) M.suspended g disjoint-waiting i (rw (same_refl p, n)) (λ f s. same-eq f.name p (both _ _ s).0) in
-          let a = those-none (waitsInReturn p) M.suspended (not-returning h i n) in
-          let e = up-resumes (length p) c w (r.at p) (waits-no-more h i) (ne_eqb F.returning 1 (λ z. omega (arith, z, (r.waiting g i).returning, ap bit n))) in
+      at_sync : (h : has_child p (live M) ≡ false) (i : In g M.suspended) → g.returning ≡ false → Done
+      at_sync h i n =
+          let one = those_one (waits_at_sync p) M.suspended g disjoint_waiting i (rw (same_refl p, n)) (λ f s. same_eq f.name p (both _ _ s).0) in
+          let a = those-none (waits_in_return p) M.suspended (not_returning h i n) in
+          let e = up_resumes (length p) c w (r.at p) (waits_no_more_lem h i) (ne_eqb F.returning 1 (λ z. omega (arith, z, (r.waiting g i).returning, ap bit n))) in
           let away : upward M w (k ∷ p) ≡ resume M w p = rw (h, a) in
-          let two : outcomeUpward M (k ∷ p) ≡ 2 = rw (h, a, one) in
-          went-as r away two e (record { related = resumes-frame layout r w lt idle g i one laws; ends = stops (resumes-keeps layout r w lt idle g i one laws); answered = refl })
+          let two : outcome_upward M (k ∷ p) ≡ 2 = rw (h, a, one) in
+          went_as r away two e (record { related = resumes-frame layout r w lt idle g i one laws; ends = stops (resumes_keeps layout r w lt idle g i one laws); answered = refl })
 
       -- it waits in its return, and ends
-      in-return : (h : hasChild p (live M) ≡ false) (i : In g M.suspended) → g.returning ≡ true
+      in_return : (h : has_child p (live M) ≡ false) (i : In g M.suspended) → g.returning ≡ true
           → ((M' : Machine) (c' : Core) (r' : Relates layout P M' c') → TreeLaws layout c'.head.numbers.nodes M'.splitters P → FrameTree M' → Links c'.frames r'.at (live M') → w < length M'.deques → deque M' w ≡ [] → Above (live M') p
-          → Went r' (upward M' w p) (outcomeUpward M' p) (upwardOn layout (length p) c' w (parentPlace r'.at p)))
+          → Went r' (upward M' w p) (outcome_upward M' p) (upwardOn layout (length p) c' w (parent_place r'.at p)))
           → Done
-      in-return h i n next =
+      in_return h i n next =
           let L = leaves h i n in
           let some = L.some in
-          let W : Went L.related (upward (leave M p) w p) (outcomeUpward (leave M p) p) (upwardOn layout (length p) (end_at layout c (r.at p)) w (parentPlace L.related.at p)) =
-          next (leave M p) (end_at layout c (r.at p)) L.related (end-laws c (r.at p) laws) L.tree (links_end layout r tree K g (live (leave M p)) L.ended.before L.related L.ended h) lt idle L.above in
-          let up : F.parent ≡ parentPlace L.related.at p = (r.waiting g i).parent ∙ ap (λ (at : Name → ℕ). parentPlace at p) (sym L.same-places) in
-          let is : result ≡ upwardOn layout (length p) (end_at layout c (r.at p)) w (parentPlace L.related.at p) = up_ends (length p) c w (r.at p) (ends-test h i n) ∙ ap (upwardOn layout (length p) (end_at layout c (r.at p)) w) up in
+          let W : Went L.related (upward (leave M p) w p) (outcome_upward (leave M p) p) (upwardOn layout (length p) (end_at layout c (r.at p)) w (parent_place L.related.at p)) =
+          next (leave M p) (end_at layout c (r.at p)) L.related (end_laws c (r.at p) laws) L.tree (links_end layout r tree K g (live (leave M p)) L.ended.before L.related L.ended h) lt idle L.above in
+          let up : F.parent ≡ parent_place L.related.at p = (r.waiting g i).parent ∙ ap (λ (at : Name → ℕ). parent_place at p) (sym L.same_places) in
+          let is : result ≡ upwardOn layout (length p) (end_at layout c (r.at p)) w (parent_place L.related.at p) = up_ends (length p) c w (r.at p) (ends_test h i n) ∙ ap (upwardOn layout (length p) (end_at layout c (r.at p)) w) up in
           let away : upward M w (k ∷ p) ≡ upward (leave M p) w p = rw (h, some) in
-          let told : outcomeUpward M (k ∷ p) ≡ outcomeUpward (leave M p) p = rw (h, some) in
-          went-as r away told is (record { related = W.related; ends = ends-then g (live (leave M p)) tree h L.ended W.ends; answered = W.answered })
+          let told : outcome_upward M (k ∷ p) ≡ outcome_upward (leave M p) p = rw (h, some) in
+          went_as r away told is (record { related = W.related; ends = ends_then g (live (leave M p)) tree h L.ended W.ends; answered = W.answered })
 
-  pub upward-relates : (P : Trees) (n : Name) (M : Machine) (c : Core) (r : Relates layout P M c) → TreeLaws layout c.head.numbers.nodes M.splitters P → FrameTree M → Links c.frames r.at (live M)
-      → (w : ℕ) → w < length M.deques → deque M w ≡ [] → Above (live M) n → Went r (upward M w n) (outcomeUpward M n) (upwardOn layout (length n) c w (parentPlace r.at n))
+  pub upward_relates : (P : Trees) (n : Name) (M : Machine) (c : Core) (r : Relates layout P M c) → TreeLaws layout c.head.numbers.nodes M.splitters P → FrameTree M → Links c.frames r.at (live M)
+      → (w : ℕ) → w < length M.deques → deque M w ≡ [] → Above (live M) n → Went r (upward M w n) (outcome_upward M n) (upwardOn layout (length n) c w (parent_place r.at n))
   unfolding upwardOn
-  upward-relates P [] M c r laws tree K w lt idle a = record { related = r; ends = stops (keeps_same layout r); answered = refl }
-  upward-relates P (k ∷ p) M c r laws tree K w lt idle a =
-      let x = hasFrame-In p (live M) a in
+  upward_relates P [] M c r laws tree K w lt idle a = record { related = r; ends = stops (keeps_same layout r); answered = refl }
+  upward_relates P (k ∷ p) M c r laws tree K w lt idle a =
+      let x = has_frame_In p (live M) a in
       let g = x.0 in
-      subst (λ (z : Name). Went r (upward M w (k ∷ z)) (outcomeUpward M (k ∷ z)) (upwardOn layout (suc (length z)) c w (r.at z))) x.2
-      (elim (decided (hasChild g.name (live M))) [
-        | inl h ↦ with-child r laws tree K g x.1 w lt idle k h
+      subst (λ (z : Name). Went r (upward M w (k ∷ z)) (outcome_upward M (k ∷ z)) (upwardOn layout (suc (length z)) c w (r.at z))) x.2
+      (elim (decided (has_child g.name (live M))) [
+        | inl h ↦ with_child_lem r laws tree K g x.1 w lt idle k h
         | inr h ↦ elim (In-cases M.suspended x.1) [
           | inl i ↦ elim (decided g.returning) [
-            | inl n ↦ in-return r laws tree K g x.1 w lt idle k h i n
+            | inl n ↦ in_return r laws tree K g x.1 w lt idle k h i n
                 (subst (λ (z : Name). (M' : Machine) (c' : Core) (r' : Relates layout P M' c') → TreeLaws layout c'.head.numbers.nodes M'.splitters P → FrameTree M' → Links c'.frames r'.at (live M') → w < length M'.deques → deque M' w ≡ []
-                → Above (live M') z → Went r' (upward M' w z) (outcomeUpward M' z) (upwardOn layout (length z) c' w (parentPlace r'.at z))) (sym x.2)
-                (λ M' c' r' laws' tree' K' lt' idle' a'. upward-relates P p M' c' r' laws' tree' K' w lt' idle' a'))
-            | inr n ↦ at-sync r laws tree K g x.1 w lt idle k h i n
+                → Above (live M') z → Went r' (upward M' w z) (outcome_upward M' z) (upwardOn layout (length z) c' w (parent_place r'.at z))) (sym x.2)
+                (λ M' c' r' laws' tree' K' lt' idle' a'. upward_relates P p M' c' r' laws' tree' K' w lt' idle' a'))
+            | inr n ↦ at_sync r laws tree K g x.1 w lt idle k h i n
           ]
           | inr i ↦ runs r laws tree K g x.1 w lt idle k h i
         ]
       ])
 
   -- a frame that ends too has no live child, is suspended and returning
-  ends-facts : {P : Trees} {M : Machine} {c : Core} (r : Relates layout P M c) (g : Frame) → In g (live M) → endsToo (frameAt c.frames (r.at g.name)) ≡ true
-      → (hasChild g.name (live M) ≡ false) × In g M.suspended × (g.returning ≡ true)
-  ends-facts {P} {M} {c} r g m e =
-      let F = frameAt c.frames (r.at g.name) in
-      let x = both (waitsNoMore F) (eqb F.returning 1) e in
+  ends_facts : {P : Trees} {M : Machine} {c : Core} (r : Relates layout P M c) (g : Frame) → In g (live M) → ends_too (frame_at c.frames (r.at g.name)) ≡ true
+      → (has_child g.name (live M) ≡ false) × In g M.suspended × (g.returning ≡ true)
+  ends_facts {P} {M} {c} r g m e =
+      let F = frame_at c.frames (r.at g.name) in
+      let x = both (waits_no_more F) (eqb F.returning 1) e in
       let y = both (eqb F.suspended 1) (eqb F.outstanding 0) x.0 in
       let word : (v k : ℕ) → eqb v k ≡ true → v ≡ k = λ v k t. eqb→eq v k (true→T t) in
       let R = (recorded layout r g m).1 in
-      let childless : hasChild g.name (live M) ≡ false =
-      elim (decided (hasChild g.name (live M))) [
-        | inl t ↦ absurd (parent-count g.name (live M) t (sym R.outstanding ∙ word F.outstanding 0 y.1))
+      let childless : has_child g.name (live M) ≡ false =
+      elim (decided (has_child g.name (live M))) [
+        | inl t ↦ absurd (parent_count g.name (live M) t (sym R.outstanding ∙ word F.outstanding 0 y.1))
         | inr t ↦ t
       ] in
       let mark : g.returning ≡ true =
@@ -271,21 +271,21 @@ module _ (layout : Layout) where
   -- what holds at the end of Main, and of a frame if it holds at its parent, should this end too, holds of all ends upward
   module _ (P : Trees) (T : ℕ → Core → ℕ → Type 0) (stop : (c : Core) (q : ℕ) → T 0 c q)
       (turn : (M : Machine) (c : Core) (r : Relates layout P M c) → TreeLaws layout c.head.numbers.nodes M.splitters P → FrameTree M → (g : Frame) → In g (live M)
-      → (endsToo (frameAt c.frames (r.at g.name)) ≡ true → T (length g.name) (end_at layout c (r.at g.name)) (parentPlace r.at g.name))
+      → (ends_too (frame_at c.frames (r.at g.name)) ≡ true → T (length g.name) (end_at layout c (r.at g.name)) (parent_place r.at g.name))
       → T (suc (length g.name)) c (r.at g.name)) where
-    pub upward-by : (n : Name) (M : Machine) (c : Core) (r : Relates layout P M c) → TreeLaws layout c.head.numbers.nodes M.splitters P → FrameTree M → Links c.frames r.at (live M) → Above (live M) n → T (length n) c (parentPlace r.at n)
-    upward-by [] M c r laws tree K a = stop c (parentPlace r.at [])
-    upward-by (k ∷ p) M c r laws tree K a =
-        let x = hasFrame-In p (live M) a in
+    pub upward_by : (n : Name) (M : Machine) (c : Core) (r : Relates layout P M c) → TreeLaws layout c.head.numbers.nodes M.splitters P → FrameTree M → Links c.frames r.at (live M) → Above (live M) n → T (length n) c (parent_place r.at n)
+    upward_by [] M c r laws tree K a = stop c (parent_place r.at [])
+    upward_by (k ∷ p) M c r laws tree K a =
+        let x = has_frame_In p (live M) a in
         let g = x.0 in
         subst (λ (z : Name). T (suc (length z)) c (r.at z)) x.2
         (turn M c r laws tree g x.1 (λ e.
-        let y = ends-facts r g x.1 e in
+        let y = ends_facts r g x.1 e in
         let L = leaves r laws tree K g x.1 y.0 y.1 y.2 in
-        subst (λ (at : Name → ℕ). T (length g.name) (end_at layout c (r.at g.name)) (parentPlace at g.name)) L.same-places
-        (subst (λ (z : Name). (M' : Machine) (c' : Core) (r' : Relates layout P M' c') → TreeLaws layout c'.head.numbers.nodes M'.splitters P → FrameTree M' → Links c'.frames r'.at (live M') → Above (live M') z → T (length z) c' (parentPlace r'.at z)) (sym x.2)
-        (λ M' c' r' l' t' K' a'. upward-by p M' c' r' l' t' K' a')
-        (leave M g.name) (end_at layout c (r.at g.name)) L.related (end-laws c (r.at g.name) laws) L.tree
+        subst (λ (at : Name → ℕ). T (length g.name) (end_at layout c (r.at g.name)) (parent_place at g.name)) L.same_places
+        (subst (λ (z : Name). (M' : Machine) (c' : Core) (r' : Relates layout P M' c') → TreeLaws layout c'.head.numbers.nodes M'.splitters P → FrameTree M' → Links c'.frames r'.at (live M') → Above (live M') z → T (length z) c' (parent_place r'.at z)) (sym x.2)
+        (λ M' c' r' l' t' K' a'. upward_by p M' c' r' l' t' K' a')
+        (leave M g.name) (end_at layout c (r.at g.name)) L.related (end_laws c (r.at g.name) laws) L.tree
         (links_end layout r tree K g (live (leave M g.name)) L.ended.before L.related L.ended y.0) L.above)))
 
   -- ---- the bottom frame q of worker w returns; above it is d
@@ -293,78 +293,78 @@ module _ (layout : Layout) where
   module _ {P : Trees} {M : Machine} {c : Core} (r : Relates layout P M c) (laws : TreeLaws layout c.head.numbers.nodes M.splitters P) (tree : FrameTree M) (K : Links c.frames r.at (live M))
       (w : ℕ) (q : Frame) (d : List Frame) (lt : w < length M.deques) (e : deque M w ≡ q ∷ d) where
     own : Recorded c.frames r.at (live M) 0 q
-    own = acting-record layout r w q d lt e
+    own = acting_record layout r w q d lt e
 
     abbrev R : List Frame
     R = d ++ rest M w
 
     before : Permᴰ (live M) (q ∷ R)
-    before = live_at M w (q ∷ d) lt e
+    before = live_at_lem M w (q ∷ d) lt e
 
     abbrev Returns : StepResult → Type 0
-    Returns s = (r' : Relates layout P (afterAction M w (q ∷ d) return) s.core) × EndsInTurn layout r r' × (answerWords s.answer ≡ actionAnswer M w (q ∷ d) return)
+    Returns s = (r' : Relates layout P (after_action M w (q ∷ d) return) s.core) × EndsInTurn layout r r' × (answer_words s.answer ≡ action_answer M w (q ∷ d) return)
 
-    outstanding-is : (actingIn c w).outstanding ≡ childCount q.name (live M)
-    outstanding-is = ap (λ (f : FrameRecord). f.outstanding) (acting-frame layout r w q d lt e) ∙ own.outstanding
+    outstanding_is : (acting_in c w).outstanding ≡ child_count q.name (live M)
+    outstanding_is = ap (λ (f : FrameRecord). f.outstanding) (acting-frame layout r w q d lt e) ∙ own.outstanding
 
     -- "A return with a live child now suspends the frame as returning"
-    waits : hasChild q.name (live M) ≡ true → Returns (returnOn layout c w)
-    unfolding returnOn
+    waits : has_child q.name (live M) ≡ true → Returns (return_on layout c w)
+    unfolding return_on
     waits h =
-        let t = ne_eqb (actingIn c w).outstanding 0 (λ z. parent-count q.name (live M) h (sym outstanding-is ∙ z)) in
-        rw (h, t, acting-frame layout r w q d lt e) (suspends layout r w q d lt e true laws, stops (suspends-keeps layout r w q d lt e true laws), refl)
+        let t = ne_eqb (acting_in c w).outstanding 0 (λ z. parent_count q.name (live M) h (sym outstanding_is ∙ z)) in
+        rw (h, t, acting-frame layout r w q d lt e) (suspends layout r w q d lt e true laws, stops (suspends_keeps layout r w q d lt e true laws), refl)
 
     -- ---- it ends
 
-    module _ (h : hasChild q.name (live M) ≡ false) where
+    module _ (h : has_child q.name (live M) ≡ false) where
       abbrev M₁ : Machine
-      M₁ = withDeque M w d
+      M₁ = with_deque M w d
 
       abbrev c₁ : Core
       c₁ = end_at layout (popped c w) (r.at q.name)
 
       left : Left layout r R (set M.deques w d) M.suspended (pop c.deques w)
       left =
-          let few = worker-few layout r w q d lt e in
+          let few = worker_few layout r w q d lt e in
           let S = r.formed.shaped in
           record {
             workers = length-set M.deques w d;
-            frames = live-with M w d lt;
+            frames = live_with M w d lt;
             shaped = pop-shaped c.deques w S few;
-            deques = lists-with r.at (pop c.deques w) M.deques w d lt (pop-list c.deques w S few ∙ ap tail (acting-deque layout r w q d lt e))
-                (λ v b n. list-elsewhere S (pop-elsewhere c.deques w S few) v b n ∙ r.deques v b);
+            deques = lists_with r.at (pop c.deques w) M.deques w d lt (pop_list c.deques w S few ∙ ap tail (acting-deque layout r w q d lt e))
+                (λ v b n. list_elsewhere S (pop_elsewhere c.deques w S few) v b n ∙ r.deques v b);
             running = λ f m. elim (In-cases d (In-perm (joined-set M.deques w d lt) m)) [
-              | inl i ↦ (In-left (rest M w) i, above-runs layout r w q d e f i)
+              | inl i ↦ (In-left (rest M w) i, above_runs layout r w q d e f i)
               | inr i ↦ (In-right d (In-right M.suspended i), in_rest M.deques w i)
             ];
             waiting = λ f m. (In-right d (In-left (joined (set M.deques w [])) m), m);
           }
 
       E : (r' : Relates layout P M₁ c₁) × (r'.at ≡ r.at)
-      E = end-relates layout r tree q R before (set M.deques w d) M.suspended (pop c.deques w) left laws (next-in layout r tree K q R before)
+      E = end_relates layout r tree q R before (set M.deques w d) M.suspended (pop c.deques w) left laws (next_in layout r tree K q R before)
 
       ended : Ended layout r E.0 q R
       unfolding end_at
-      ended = record { before = before; after = live-with M w d lt; places = λ n. ap (λ (at : Name → ℕ). at n) E.1; frames = refl; totals = refl }
+      ended = record { before = before; after = live_with M w d lt; places = λ n. ap (λ (at : Name → ℕ). at n) E.1; frames = refl; totals = refl }
 
       links-left : Links c₁.frames E.0.at (live M₁)
       links-left = links_end layout r tree K q R before E.0 ended h
 
       live-left : Permᴰ (live M₁) R
-      live-left = live-with M w d lt
+      live-left = live_with M w d lt
 
       tree-left : FrameTree M₁
       tree-left = record {
-        disjoint = disjoint-perm (Permᴰ.symm live-left) (disjoint-perm before tree.disjoint).1;
-        rooted = rooted-perm (Permᴰ.symm live-left) (rooted-without q R (hasChild-perm q.name before h) (rooted-perm before tree.rooted));
+        disjoint = disjoint_perm (Permᴰ.symm live-left) (disjoint_perm before tree.disjoint).1;
+        rooted = rooted_perm (Permᴰ.symm live-left) (rooted_without q R (has_child_perm q.name before h) (rooted_perm before tree.rooted));
       }
 
       above-left : Above (live M₁) q.name
       above-left = by_name q.name refl
         where
           by_name : (n : Name) → q.name ≡ n → Above (live M₁) n
-          by_name [] z = elim (decided (hasFrame [] (live M₁))) [
-            | inl t ↦ (let g = hasFrame-In [] (live M₁) t in absurd (names_apart q g.0 R (disjoint-perm before tree.disjoint) (In-perm live-left g.1) (z ∙ sym g.2)))
+          by_name [] z = elim (decided (has_frame [] (live M₁))) [
+            | inl t ↦ (let g = has_frame_In [] (live M₁) t in absurd (names_apart q g.0 R (disjoint_perm before tree.disjoint) (In-perm live-left g.1) (z ∙ sym g.2)))
             | inr t ↦ t
           ]
           by_name (k ∷ p) z =
@@ -377,87 +377,87 @@ module _ (layout : Layout) where
       size-left : size (pop c.deques w) w ≡ length d
       size-left =
           sym (list_length (pop c.deques w) w)
-          ∙ ap length (left.deques w (worker-few layout r w q d lt e) ∙ ap (places_of r.at) (get_or-set_same M.deques w d [] lt))
+          ∙ ap length (left.deques w (worker_few layout r w q d lt e) ∙ ap (places_of r.at) (get_or-set_same M.deques w d [] lt))
           ∙ length-map d (λ (f : Frame). r.at f.name)
 
-      no-child : eqb (actingIn c w).outstanding 0 ≡ true
-      no-child = eq-eqb (actingIn c w).outstanding 0 (outstanding-is ∙ childless-count q.name (live M) h)
+      no_child : eqb (acting_in c w).outstanding 0 ≡ true
+      no_child = eq-eqb (acting_in c w).outstanding 0 (outstanding_is ∙ childless_count q.name (live M) h)
 
       -- on an empty deque the ends go on upward
-      bottom-is : length d ≡ 0 → endBottom layout c w ≡ upwardOn layout (length q.name) c₁ w (parentPlace r.at q.name)
-      unfolding endBottom end_at
-      bottom-is z =
+      bottom_is : length d ≡ 0 → end_bottom layout c w ≡ upwardOn layout (length q.name) c₁ w (parent_place r.at q.name)
+      unfolding end_bottom end_at
+      bottom_is z =
           rw (eq-eqb (size (pop c.deques w) w) 0 (size-left ∙ z), acting-place layout r w q d lt e, own.depth, own.parent)
 
-      above-is : length d ≢ 0 → endBottom layout c w ≡ returned c₁ Continued
-      unfolding endBottom end_at
-      above-is z = rw (ne_eqb (size (pop c.deques w) w) 0 (λ y. z (sym size-left ∙ y)), acting-place layout r w q d lt e)
+      above_is : length d ≢ 0 → end_bottom layout c w ≡ returned c₁ Continued
+      unfolding end_bottom end_at
+      above_is z = rw (ne_eqb (size (pop c.deques w) w) 0 (λ y. z (sym size-left ∙ y)), acting-place layout r w q d lt e)
 
-      ends_is : returnOn layout c w ≡ endBottom layout c w
-      unfolding returnOn
-      ends_is = rw no-child
+      ends_is : return_on layout c w ≡ end_bottom layout c w
+      unfolding return_on
+      ends_is = rw no_child
 
-      ended-empty : d ≡ [] → after_end M w q d ≡ upward M₁ w q.name
-      ended-empty z = subst (λ (l : List Frame). after_end M w q l ≡ upward (withDeque M w l) w q.name) (sym z) refl
+      ended_empty : d ≡ [] → after_end M w q d ≡ upward M₁ w q.name
+      ended_empty z = subst (λ (l : List Frame). after_end M w q l ≡ upward (with_deque M w l) w q.name) (sym z) refl
 
       ended-rest : (x : Frame) (l : List Frame) → d ≡ x ∷ l → after_end M w q d ≡ M₁
-      ended-rest x l z = subst (λ (y : List Frame). after_end M w q y ≡ withDeque M w y) (sym z) refl
+      ended-rest x l z = subst (λ (y : List Frame). after_end M w q y ≡ with_deque M w y) (sym z) refl
 
-      laws-left : TreeLaws layout c₁.head.numbers.nodes M₁.splitters P
+      laws_left : TreeLaws layout c₁.head.numbers.nodes M₁.splitters P
       unfolding end_at
-      laws-left = laws
+      laws_left = laws
 
       -- the result of the end is the return's
-      as-return : {N : Machine} {s : StepResult} → after_end M w q d ≡ N → returnOn layout c w ≡ s → (r' : Relates layout P N s.core) → EndsInTurn layout E.0 r' → answerWords s.answer ≡ (102, endOutcome (after_end M w q d) w d) → Returns (returnOn layout c w)
-      as-return {N} {s} is e r' T a =
-          let back : (r'' : Relates layout P (after_end M w q d) s.core) × EndsInTurn layout r r'' = subst (λ (O : Machine). (r'' : Relates layout P O s.core) × EndsInTurn layout r r'') (sym is) (r', ends-then q R tree h ended T) in
+      as_return : {N : Machine} {s : StepResult} → after_end M w q d ≡ N → return_on layout c w ≡ s → (r' : Relates layout P N s.core) → EndsInTurn layout E.0 r' → answer_words s.answer ≡ (102, end_outcome (after_end M w q d) w d) → Returns (return_on layout c w)
+      as_return {N} {s} is e r' T a =
+          let back : (r'' : Relates layout P (after_end M w q d) s.core) × EndsInTurn layout r r'' = subst (λ (O : Machine). (r'' : Relates layout P O s.core) × EndsInTurn layout r r'') (sym is) (r', ends_then q R tree h ended T) in
           rw (h, e) (back.0, back.1, a)
 
-      on-empty : d ≡ [] → Returns (returnOn layout c w)
-      on-empty z =
+      on_empty : d ≡ [] → Returns (return_on layout c w)
+      on_empty z =
           let idle : deque M₁ w ≡ [] = get_or-set_same M.deques w d [] lt ∙ z in
           let lt₁ : w < length M₁.deques = omega (arith, lt, length-set M.deques w d) in
-          let W = subst (λ (at : Name → ℕ). Went E.0 (upward M₁ w q.name) (outcomeUpward M₁ q.name) (upwardOn layout (length q.name) c₁ w (parentPlace at q.name))) E.1
-          (upward-relates P q.name M₁ c₁ E.0 laws-left tree-left links-left w lt₁ idle above-left) in
+          let W = subst (λ (at : Name → ℕ). Went E.0 (upward M₁ w q.name) (outcome_upward M₁ q.name) (upwardOn layout (length q.name) c₁ w (parent_place at q.name))) E.1
+          (upward_relates P q.name M₁ c₁ E.0 laws_left tree-left links-left w lt₁ idle above-left) in
           let o = outcome-upward M₁ w q.name lt₁ idle tree-left.rooted tree-left.disjoint above-left in
-          let is : after_end M w q d ≡ upward M₁ w q.name = ended-empty z in
-          as-return is (ends_is ∙ bottom-is (ap length z)) W.related W.ends (W.answered ∙ ap (λ (x : ℕ). (102, x)) (sym o ∙ sym (ap₂ (λ (N : Machine) (l : List Frame). endOutcome N w l) is z)))
+          let is : after_end M w q d ≡ upward M₁ w q.name = ended_empty z in
+          as_return is (ends_is ∙ bottom_is (ap length z)) W.related W.ends (W.answered ∙ ap (λ (x : ℕ). (102, x)) (sym o ∙ sym (ap₂ (λ (N : Machine) (l : List Frame). end_outcome N w l) is z)))
 
-      on-rest : (x : Frame) (l : List Frame) → d ≡ x ∷ l → Returns (returnOn layout c w)
-      on-rest x l z =
+      on_rest : (x : Frame) (l : List Frame) → d ≡ x ∷ l → Returns (return_on layout c w)
+      on_rest x l z =
           let is : after_end M w q d ≡ M₁ = ended-rest x l z in
           let m : In x (live M₁) = In-perm (Permᴰ.symm live-left) (In-left (rest M w) (subst (λ (y : List Frame). In x y) (sym z) (here refl))) in
-          let main = main-there (live M₁) tree-left.rooted x.name (In-hasFrame x.name (live M₁) x m refl) in
-          as-return is (ends_is ∙ above-is (λ y. omega (arith, y, ap length z))) E.0 (stops (keeps_same layout E.0))
-          (ap (λ (y : ℕ). (102, y)) (sym (ap₂ (λ (N : Machine) (y : List Frame). endOutcome N w y) is z ∙ rw main)))
+          let main = main_there (live M₁) tree-left.rooted x.name (In-hasFrame x.name (live M₁) x m refl) in
+          as_return is (ends_is ∙ above_is (λ y. omega (arith, y, ap length z))) E.0 (stops (keeps_same layout E.0))
+          (ap (λ (y : ℕ). (102, y)) (sym (ap₂ (λ (N : Machine) (y : List Frame). end_outcome N w y) is z ∙ rw main)))
 
-      returns-left : Returns (returnOn layout c w)
-      returns-left = by-deque d refl
+      returns-left : Returns (return_on layout c w)
+      returns-left = by_deque d refl
         where
-          by-deque : (l : List Frame) → d ≡ l → Returns (returnOn layout c w)
-          by-deque [] z = on-empty z
-          by-deque (x ∷ l) z = on-rest x l z
+          by_deque : (l : List Frame) → d ≡ l → Returns (return_on layout c w)
+          by_deque [] z = on_empty z
+          by_deque (x ∷ l) z = on_rest x l z
 
   -- what holds of all ends upward holds after the first
   pub ends_by : (P : Trees) (T : ℕ → Core → ℕ → Type 0) → ((c : Core) (q : ℕ) → T 0 c q)
       → ((M : Machine) (c : Core) (r : Relates layout P M c) → TreeLaws layout c.head.numbers.nodes M.splitters P → FrameTree M → (g : Frame) → In g (live M)
-      → (endsToo (frameAt c.frames (r.at g.name)) ≡ true → T (length g.name) (end_at layout c (r.at g.name)) (parentPlace r.at g.name))
+      → (ends_too (frame_at c.frames (r.at g.name)) ≡ true → T (length g.name) (end_at layout c (r.at g.name)) (parent_place r.at g.name))
       → T (suc (length g.name)) c (r.at g.name))
       → (M : Machine) (c : Core) (r : Relates layout P M c) → TreeLaws layout c.head.numbers.nodes M.splitters P → FrameTree M → Links c.frames r.at (live M)
-      → (w : ℕ) (q : Frame) (d : List Frame) (lt : w < length M.deques) (e : deque M w ≡ q ∷ d) → hasChild q.name (live M) ≡ false
-      → T (length q.name) (end_at layout (popped c w) (r.at q.name)) (parentPlace r.at q.name)
+      → (w : ℕ) (q : Frame) (d : List Frame) (lt : w < length M.deques) (e : deque M w ≡ q ∷ d) → has_child q.name (live M) ≡ false
+      → T (length q.name) (end_at layout (popped c w) (r.at q.name)) (parent_place r.at q.name)
   ends_by P T stop turn M c r laws tree K w q d lt e h =
       let x = E r laws tree K w q d lt e h in
       let c₁ = end_at layout (popped c w) (r.at q.name) in
-      subst (λ (at : Name → ℕ). T (length q.name) c₁ (parentPlace at q.name)) x.1
-      (upward-by P T stop turn q.name (withDeque M w d) c₁ x.0 (laws-left r laws tree K w q d lt e h) (tree-left r laws tree K w q d lt e h) (links-left r laws tree K w q d lt e h) (above-left r laws tree K w q d lt e h))
+      subst (λ (at : Name → ℕ). T (length q.name) c₁ (parent_place at q.name)) x.1
+      (upward_by P T stop turn q.name (with_deque M w d) c₁ x.0 (laws_left r laws tree K w q d lt e h) (tree-left r laws tree K w q d lt e h) (links-left r laws tree K w q d lt e h) (above-left r laws tree K w q d lt e h))
 
-  pub sim-return : (P : Trees) (M : Machine) (c : Core) (w : ℕ) → TreeLaws layout c.head.numbers.nodes M.splitters P → FrameTree M → Passes M (acting w return) → (r : Relates layout P M c) → Links c.frames r.at (live M)
-      → (r' : Relates layout P (after_turn M (acting w return)) (returnOn layout c w).core) × EndsInTurn layout r r' × (answerWords (returnOn layout c w).answer ≡ turnAnswer M (acting w return))
-  sim-return P M c w laws tree h r K =
+  pub sim_return : (P : Trees) (M : Machine) (c : Core) (w : ℕ) → TreeLaws layout c.head.numbers.nodes M.splitters P → FrameTree M → Passes M (acting w return) → (r : Relates layout P M c) → Links c.frames r.at (live M)
+      → (r' : Relates layout P (after_turn M (acting w return)) (return_on layout c w).core) × EndsInTurn layout r r' × (answer_words (return_on layout c w).answer ≡ turn_answer M (acting w return))
+  sim_return P M c w laws tree h r K =
       let x = acts M w return h in
-      subst (λ (z : List Frame). (r' : Relates layout P (afterAction M w z return) (returnOn layout c w).core) × EndsInTurn layout r r' × (answerWords (returnOn layout c w).answer ≡ actionAnswer M w z return)) (sym x.at)
-      (elim (decided (hasChild x.actor.name (live M))) [
+      subst (λ (z : List Frame). (r' : Relates layout P (after_action M w z return) (return_on layout c w).core) × EndsInTurn layout r r' × (answer_words (return_on layout c w).answer ≡ action_answer M w z return)) (sym x.at)
+      (elim (decided (has_child x.actor.name (live M))) [
         | inl t ↦ waits r laws tree K w x.actor x.above x.worker x.at t
         | inr t ↦ returns-left r laws tree K w x.actor x.above x.worker x.at t
       ])

@@ -13,19 +13,19 @@ use Rattle.words.specs.Basics.{joined}
 use Rattle.words.specs.Lists.{In-perm, joined-set}
 use Rattle.sizes.specs.Sizes.{height}
 use Rattle.frames.specs.declared.Frame.{Frame as FrameRecord}
-use Rattle.frames.specs.Frames.{frameAt}
+use Rattle.frames.specs.Frames.{frame_at}
 use Rattle.frames.specs.Steps.{Table}
 use Rattle.frames.specs.Steps.{suspend as suspendTable}
 use Rattle.frames.specs.Theory.Tables.{After}
-use Rattle.frames.specs.Theory.Summary.{suspend-does}
+use Rattle.frames.specs.Theory.Summary.{suspend_does}
 use Rattle.model.specs.Machine.{Frame, Machine, live, deque}
 use Rattle.model.specs.Steps.{suspend}
-use Rattle.model.specs.Theory.Effects.{rest, live_at, live-with}
-use Rattle.semantics.specs.Core.{Core, table_of, withTable}
-use Rattle.semantics.specs.Theory.Relation.{Trees, TreeLaws, bit, places_of, rootOf, Recorded, Relates, Keeps}
-use Rattle.semantics.specs.Theory.Places.{placed-taken, same_numbers, acting-deque, acting-record}
-use Rattle.semantics.specs.Theory.RelationFacts.{trees-perm, in_rest, lists-with, stored, workers-le, bottom-lives, above-runs}
-use Rattle.semantics.specs.Theory.Stored.{Carried, carried, keeps-stored}
+use Rattle.model.specs.Theory.Effects.{rest, live_at_lem, live_with}
+use Rattle.semantics.specs.Core.{Core, table_of, with_table}
+use Rattle.semantics.specs.Theory.Relation.{Trees, TreeLaws, bit, places_of, root_of, Recorded, Relates, Keeps}
+use Rattle.semantics.specs.Theory.Places.{placed_taken, same_numbers, acting-deque, acting_record}
+use Rattle.semantics.specs.Theory.RelationFacts.{trees_perm, in_rest, lists_with, stored, workers_le, bottom-lives, above_runs}
+use Rattle.semantics.specs.Theory.Stored.{Carried, carried, keeps_stored}
 use Rattle.soundness.specs.Layout.{Layout}
 
 -- the same frame, returning or not
@@ -35,65 +35,65 @@ marked q b = record { name = q.name; values = q.values; history = q.history; spa
 module _ (layout : Layout) where
   module _ {P : Trees} {M : Machine} {c : Core} (r : Relates layout P M c) (w : ℕ) (q : Frame) (d : List Frame) (lt : w < length M.deques) (e : deque M w ≡ q ∷ d) (b : Bool) where
     own : Recorded c.frames r.at (live M) 0 q
-    own = acting-record layout r w q d lt e
+    own = acting_record layout r w q d lt e
 
     abbrev next : Machine
     next = suspend M w (marked q b) d
 
     -- its record then
-    abbrev pub record-waiting : FrameRecord
-    record-waiting = stored (frameAt c.frames (r.at q.name)) 1 (rootOf c.frames r.at q) (bit b)
+    abbrev pub record_waiting : FrameRecord
+    record_waiting = stored (frame_at c.frames (r.at q.name)) 1 (root_of c.frames r.at q) (bit b)
 
     abbrev table : Table
-    table = suspendTable (table_of c) w record-waiting
+    table = suspendTable (table_of c) w record_waiting
 
-    does : After (table_of c) table w (places_of r.at d) r.gs (r.at q.name ∷ []) × (frameAt table.frames (r.at q.name) ≡ record-waiting)
+    does : After (table_of c) table w (places_of r.at d) r.gs (r.at q.name ∷ []) × (frame_at table.frames (r.at q.name) ≡ record_waiting)
     does =
-        suspend-does (table_of c) w (r.at q.name) (places_of r.at d) r.gs record-waiting r.formed (workers-le layout r lt) (acting-deque layout r w q d lt e) own.inside
-        (placed-taken layout r q (bottom-lives layout r w q d e))
+        suspend_does (table_of c) w (r.at q.name) (places_of r.at d) r.gs record_waiting r.formed (workers_le layout r lt) (acting-deque layout r w q d lt e) own.inside
+        (placed_taken layout r q (bottom-lives layout r w q d e))
 
     abbrev others : List Frame
     others = d ++ rest M w
 
     before : Permᴰ (live M) (q ∷ others)
-    before = live_at M w (q ∷ d) lt e
+    before = live_at_lem M w (q ∷ d) lt e
 
     afterwards : Permᴰ (marked q b ∷ others) (live next)
-    afterwards = Permᴰ.cons refl (Permᴰ.symm (live-with M w d lt))
+    afterwards = Permᴰ.cons refl (Permᴰ.symm (live_with M w d lt))
 
-    carries : Carried layout r next table.frames q (marked q b) others 1 (rootOf c.frames r.at q)
+    carries : Carried layout r next table.frames q (marked q b) others 1 (root_of c.frames r.at q)
     carries =
-        carried layout r next table.frames q (marked q b) others 1 (rootOf c.frames r.at q) (bit b) refl refl does.0.same_length before afterwards does.1 (λ p n. does.0.records p (n, tt))
+        carried layout r next table.frames q (marked q b) others 1 (root_of c.frames r.at q) (bit b) refl refl does.0.same_length before afterwards does.1 (λ p n. does.0.records p (n, tt))
 
-    value-kept : (f : Frame) → In f (marked q b ∷ others) → (x : ℕ) → x < M.splitters → layout.read (height M.splitters) c.pool (rootOf table.frames r.at f) x ≡ get_or f.values x 0
-    value-kept f m x h = elim (In-cons m) [
-      | inl z ↦ subst (λ (g : Frame). layout.read (height M.splitters) c.pool (rootOf table.frames r.at g) x ≡ get_or g.values x 0) (sym z)
+    value_kept : (f : Frame) → In f (marked q b ∷ others) → (x : ℕ) → x < M.splitters → layout.read (height M.splitters) c.pool (root_of table.frames r.at f) x ≡ get_or f.values x 0
+    value_kept f m x h = elim (In-cons m) [
+      | inl z ↦ subst (λ (g : Frame). layout.read (height M.splitters) c.pool (root_of table.frames r.at g) x ≡ get_or g.values x 0) (sym z)
           (rw carries.own_root (r.values q (bottom-lives layout r w q d e) x h))
-      | inr i ↦ rw (carries.other-root f i) (r.values f (In-perm (Permᴰ.symm before) (In-right (q ∷ []) i)) x h)
+      | inr i ↦ rw (carries.other_root f i) (r.values f (In-perm (Permᴰ.symm before) (In-right (q ∷ []) i)) x h)
     ]
 
-    pub suspends : TreeLaws layout c.head.numbers.nodes M.splitters P → Relates layout P next (withTable c table)
+    pub suspends : TreeLaws layout c.head.numbers.nodes M.splitters P → Relates layout P next (with_table c table)
     suspends laws = record {
       at = r.at;
       gs = r.gs;
-      numbers = same_numbers M c (withTable c table) next.deques next.suspended (length-set M.deques w d) r.numbers refl refl refl refl refl does.0.same_length;
+      numbers = same_numbers M c (with_table c table) next.deques next.suspended (length-set M.deques w d) r.numbers refl refl refl refl refl does.0.same_length;
       formed = does.0.formed;
-      deques = lists-with r.at table.deques M.deques w d lt does.0.deque (λ u h n. does.0.deques u h n ∙ r.deques u h);
+      deques = lists_with r.at table.deques M.deques w d lt does.0.deque (λ u h n. does.0.deques u h n ∙ r.deques u h);
       running = λ f m. elim (In-cases d (In-perm (joined-set M.deques w d lt) m)) [
-        | inl i ↦ carries.other-record 0 f (In-left (rest M w) i) (r.running f (above-runs layout r w q d e f i))
-        | inr i ↦ carries.other-record 0 f (In-right d (In-right M.suspended i)) (r.running f (in_rest M.deques w i))
+        | inl i ↦ carries.other_record 0 f (In-left (rest M w) i) (r.running f (above_runs layout r w q d e f i))
+        | inr i ↦ carries.other_record 0 f (In-right d (In-right M.suspended i)) (r.running f (in_rest M.deques w i))
       ];
       waiting = λ f m. elim (In-cons m) [
-        | inl z ↦ subst (λ (g : Frame). Recorded table.frames r.at (live next) 1 g) (sym z) (carries.own-record 0 own)
-        | inr i ↦ carries.other-record 1 f (In-right d (In-left (joined (set M.deques w [])) i)) (r.waiting f i)
+        | inl z ↦ subst (λ (g : Frame). Recorded table.frames r.at (live next) 1 g) (sym z) (carries.own_record 0 own)
+        | inr i ↦ carries.other_record 1 f (In-right d (In-left (joined (set M.deques w [])) i)) (r.waiting f i)
       ];
       once = carries.once;
       vacant = carries.vacant;
       totals = carries.totals;
-      trees = trees-perm layout table.frames r.at laws afterwards (rw (carries.other-roots, carries.own_root) (trees-perm layout c.frames r.at laws before r.trees));
-      values = λ f m x h. value-kept f (In-perm (Permᴰ.symm afterwards) m) x h;
+      trees = trees_perm layout table.frames r.at laws afterwards (rw (carries.other_roots, carries.own_root) (trees_perm layout c.frames r.at laws before r.trees));
+      values = λ f m x h. value_kept f (In-perm (Permᴰ.symm afterwards) m) x h;
     }
 
-    pub suspends-keeps : (laws : TreeLaws layout c.head.numbers.nodes M.splitters P) → Keeps layout r (suspends laws)
+    pub suspends_keeps : (laws : TreeLaws layout c.head.numbers.nodes M.splitters P) → Keeps layout r (suspends laws)
     unfolding suspends
-    suspends-keeps laws = keeps-stored layout r (suspends laws) (λ n. refl) refl carries
+    suspends_keeps laws = keeps_stored layout r (suspends laws) (λ n. refl) refl carries

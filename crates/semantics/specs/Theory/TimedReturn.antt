@@ -12,36 +12,36 @@ use mathlib.Core.List.{List, [], ◌∷◌, ◌++◌, map, Permᴰ}
 use Rattle.words.specs.Basics.{joined}
 use Rattle.words.specs.Tests.{decided}
 use Rattle.words.specs.Lists.{In-perm}
-use Rattle.frames.specs.Frames.{frameAt}
+use Rattle.frames.specs.Frames.{frame_at}
 use Rattle.model.specs.declared.Step.TheVariants.{Return}
-use Rattle.model.specs.Machine.{Name, Frame, Machine, live, deque, withDeque, is_empty, hasChild, hasFrame}
-use Rattle.model.specs.Steps.{return, acting, asReturning, suspend, upward, after_end, afterAction, endOutcome, actionAnswer, turnAnswer}
-use Rattle.model.specs.Clocks.{Clock, Clocks, best, finalClock, woken, settle, clocksAfter}
-use Rattle.model.specs.Theory.LiveRun.{disjoint-perm}
-use Rattle.model.specs.Theory.Children.{hasChild-perm}
-use Rattle.model.specs.Theory.Effects.{Passes, acts, rest, live-with, upward-live}
-use Rattle.model.specs.Theory.FrameTree.{FrameTree, names_apart, rooted-perm, rooted-without}
+use Rattle.model.specs.Machine.{Name, Frame, Machine, live, deque, with_deque, is_empty, has_child, has_frame}
+use Rattle.model.specs.Steps.{return, acting, as_returning, suspend, upward, after_end, after_action, end_outcome, action_answer, turn_answer}
+use Rattle.model.specs.Clocks.{Clock, Clocks, best, final_clock, woken, settle, clocks_after}
+use Rattle.model.specs.Theory.LiveRun.{disjoint_perm}
+use Rattle.model.specs.Theory.Children.{has_child_perm}
+use Rattle.model.specs.Theory.Effects.{Passes, acts, rest, live_with, upward-live}
+use Rattle.model.specs.Theory.FrameTree.{FrameTree, names_apart, rooted_perm, rooted_without}
 use Rattle.model.specs.Theory.DequeShape.{DequeInvariant, Linked}
-use Rattle.model.specs.Theory.MainEnds.{In-hasFrame, hasFrame-In}
+use Rattle.model.specs.Theory.MainEnds.{In-hasFrame, has_frame_In}
 use Rattle.model.specs.Theory.Outcomes.{Above}
-use Rattle.model.specs.Theory.ViewNames.{settles-in}
+use Rattle.model.specs.Theory.ViewNames.{settles_in}
 use Rattle.model.specs.Theory.SettleClocks.{settle-none, woken-none}
-use Rattle.model.specs.Theory.ClocksAfter.{clocks-return}
+use Rattle.model.specs.Theory.ClocksAfter.{clocks_return}
 use Rattle.semantics.specs.Core.{Core}
-use Rattle.semantics.specs.Timing.{ownClock, childClock, latest, rise, Timing, ended, riseFrom, timedBy, timedWith}
+use Rattle.semantics.specs.Timing.{own_clock, child_clock, latest, rise, Timing, ended, rise_from, timed_by, timed_with}
 use Rattle.semantics.specs.Theory.Relation.{Trees, Relates}
-use Rattle.semantics.specs.Theory.Places.{in-deque, acting-place, acting-record}
-use Rattle.semantics.specs.Theory.RelationFacts.{in-set}
-use Rattle.semantics.specs.Theory.Timed.{Held, Timed, clock-frame}
-use Rattle.semantics.specs.Theory.ClocksLeft.{clock-of, OneEnds, one-ends}
+use Rattle.semantics.specs.Theory.Places.{in_deque_lem, acting-place, acting_record}
+use Rattle.semantics.specs.Theory.RelationFacts.{in_set}
+use Rattle.semantics.specs.Theory.Timed.{Held, Timed, clock_frame}
+use Rattle.semantics.specs.Theory.ClocksLeft.{clock_of, OneEnds, one_ends}
 use Rattle.semantics.specs.Theory.Rising.{Standing, Rising, Departs, rising}
-use Rattle.semantics.specs.Theory.TimedRise.{after, spanAt, Risen, stays}
-use Rattle.semantics.specs.Theory.TimedUpward.{after_then, span-then, rises}
+use Rattle.semantics.specs.Theory.TimedRise.{after, span_at, Risen, stays}
+use Rattle.semantics.specs.Theory.TimedUpward.{after_then, span_then, rises}
 use Rattle.soundness.specs.Layout.{Layout}
 
 -- an end is not answered with outcome 4
-outcome-few : (M : Machine) (w : ℕ) (d : List Frame) → endOutcome M w d ≤ 3
-outcome-few M w d = elim (decided (not (hasFrame [] (live M)))) [
+outcome_few : (M : Machine) (w : ℕ) (d : List Frame) → end_outcome M w d ≤ 3
+outcome_few M w d = elim (decided (not (has_frame [] (live M)))) [
   | inl a ↦ rw a (omega arith)
   | inr a ↦ rw a (elim (decided (not (is_empty d))) [
     | inl b ↦ rw b (omega arith)
@@ -60,7 +60,7 @@ module _ (layout : Layout) where
     ks = t.clocks
 
     abbrev Left : Machine → ℕ × ℕ → Type 0
-    Left M' a = Held r.at (length c.frames) (after C.work M' cs C.span) (timedBy c w a t)
+    Left M' a = Held r.at (length c.frames) (after C.work M' cs C.span) (timed_by c w a t)
 
     lives : In q (live M)
     lives = In-perm (Permᴰ.symm before) (here refl)
@@ -68,48 +68,48 @@ module _ (layout : Layout) where
     -- ---- it waits: "a return likewise waits but adds nothing"
 
     abbrev M₀ : Machine
-    M₀ = suspend M w (asReturning q) d
+    M₀ = suspend M w (as_returning q) d
 
     -- a frame of the same name lives
-    goes_on : (f : Frame) → In f (live M) → hasFrame f.name (live M₀) ≡ true
-    goes_on f m = elim (In-cons (In-perm before m)) [
-      | inl e ↦ In-hasFrame f.name (live M₀) (asReturning q) (here refl) (ap (λ (g : Frame). g.name) (sym e))
-      | inr i ↦ In-hasFrame f.name (live M₀) f (there (In-perm (Permᴰ.symm (live-with M w d lt)) i)) refl
+    goes_on_lem : (f : Frame) → In f (live M) → has_frame f.name (live M₀) ≡ true
+    goes_on_lem f m = elim (In-cons (In-perm before m)) [
+      | inl e ↦ In-hasFrame f.name (live M₀) (as_returning q) (here refl) (ap (λ (g : Frame). g.name) (sym e))
+      | inr i ↦ In-hasFrame f.name (live M₀) f (there (In-perm (Permᴰ.symm (live_with M w d lt)) i)) refl
     ]
 
-    same-clocks : after C.work M₀ cs C.span ≡ C
-    same-clocks =
+    same_clocks : after C.work M₀ cs C.span ≡ C
+    same_clocks =
         ap (λ x. record { clocks = map (woken M₀.suspended) x.0; work = C.work; span = max C.span (best is_empty x.1) })
-        (settle-none (λ m. hasFrame m (live M₀)) cs (λ u m. let f = clock-frame layout r C t H u m in ap (λ (y : Name). hasFrame y (live M₀)) (sym f.2) ∙ goes_on f.0 f.1))
+        (settle-none (λ m. has_frame m (live M₀)) cs (λ u m. let f = clock_frame layout r C t H u m in ap (λ (y : Name). has_frame y (live M₀)) (sym f.2) ∙ goes_on_lem f.0 f.1))
         ∙ ap₂ (λ (l : List Clock) (k : ℕ). record { clocks = l; work = C.work; span = k })
-        (woken-none M₀.suspended cs (λ u m y. let f = H.at-sync.suspended u m y in In-hasFrame u.name M₀.suspended f.0 (there f.1) f.2))
+        (woken-none M₀.suspended cs (λ u m y. let f = H.at_sync.suspended u m y in In-hasFrame u.name M₀.suspended f.0 (there f.1) f.2))
         (let z : max C.span 0 ≡ C.span = omega arith in z)
 
     waits : Left M₀ (102, 4)
-    unfolding timedWith
-    waits = subst (λ (Z : Clocks). Held r.at (length c.frames) Z t) (sym same-clocks) H.held
+    unfolding timed_with
+    waits = subst (λ (Z : Clocks). Held r.at (length c.frames) Z t) (sym same_clocks) H.held
 
     -- ---- it ends
 
-    module _ (h : hasChild q.name (live M) ≡ false) where
+    module _ (h : has_child q.name (live M) ≡ false) where
       abbrev M₁ : Machine
-      M₁ = withDeque M w d
+      M₁ = with_deque M w d
 
       left : Permᴰ (live M) (q ∷ live M₁)
-      left = Permᴰ.trans before (Permᴰ.cons refl (Permᴰ.symm (live-with M w d lt)))
+      left = Permᴰ.trans before (Permᴰ.cons refl (Permᴰ.symm (live_with M w d lt)))
 
       runs : (f : Frame) → In f d → In f (joined M.deques)
-      runs f m = in-deque M.deques w (subst (λ (l : List Frame). In f l) (sym at) (there m))
+      runs f m = in_deque_lem M.deques w (subst (λ (l : List Frame). In f l) (sym at) (there m))
 
       tree-left : FrameTree M₁
-      tree-left = record { disjoint = (disjoint-perm left tree.disjoint).1; rooted = rooted-without q (live M₁) (hasChild-perm q.name left h) (rooted-perm left tree.rooted) }
+      tree-left = record { disjoint = (disjoint_perm left tree.disjoint).1; rooted = rooted_without q (live M₁) (has_child_perm q.name left h) (rooted_perm left tree.rooted) }
 
       above-left : Above (live M₁) q.name
       above-left = by_name q.name refl
         where
           by_name : (m : Name) → q.name ≡ m → Above (live M₁) m
-          by_name [] z = elim (decided (hasFrame [] (live M₁))) [
-            | inl y ↦ (let g = hasFrame-In [] (live M₁) y in absurd (names_apart q g.0 (live M₁) (disjoint-perm left tree.disjoint) g.1 (z ∙ sym g.2)))
+          by_name [] z = elim (decided (has_frame [] (live M₁))) [
+            | inl y ↦ (let g = has_frame_In [] (live M₁) y in absurd (names_apart q g.0 (live M₁) (disjoint_perm left tree.disjoint) g.1 (z ∙ sym g.2)))
             | inr y ↦ y
           ]
           by_name (k ∷ p) z =
@@ -124,16 +124,16 @@ module _ (layout : Layout) where
         before = left;
         tree = tree-left;
         above = above-left;
-        running = λ f m. elim (in-set M.deques w d m) [ inl i ↦ runs f i | inr i ↦ i ];
+        running = λ f m. elim (in_set M.deques w d m) [ inl i ↦ runs f i | inr i ↦ i ];
         waiting = λ f m. m;
-        at-sync = λ f m z. m;
+        at_sync = λ f m z. m;
       }
 
       standing : Standing M r.at ks q M cs
       standing = record {
         tree = tree;
         ordered = H.ordered;
-        at-sync = H.at-sync;
+        at_sync = H.at_sync;
         running = λ f m. m;
         waiting = λ f m. m;
         counts = λ x b. refl;
@@ -142,10 +142,10 @@ module _ (layout : Layout) where
       }
 
       X : OneEnds (live M₁) q cs
-      X = one-ends (live M) (live M₁) q left tree.disjoint cs H.ordered (clock-of cs q.name H.ordered.post (H.ordered.names.all q lives))
+      X = one_ends (live M) (live M₁) q left tree.disjoint cs H.ordered (clock_of cs q.name H.ordered.post (H.ordered.names.all q lives))
 
       abbrev e₁ : ℕ
-      e₁ = finalClock X.clock
+      e₁ = final_clock X.clock
 
       abbrev cs₁ : List Clock
       cs₁ = (settle (live M₁) [] cs).0
@@ -159,71 +159,71 @@ module _ (layout : Layout) where
       quiet : t.span ≡ 0
       quiet = H.held.span ∙ H.quiet q lives
 
-      span-so-far : s₁ ≡ spanAt q.name e₁
-      span-so-far = ap (λ l. max C.span (best is_empty l)) X.ended ∙ span-then q.name e₁ C.span (H.quiet q lives)
+      span_so_far : s₁ ≡ span_at q.name e₁
+      span_so_far = ap (λ l. max C.span (best is_empty l)) X.ended ∙ span_then q.name e₁ C.span (H.quiet q lives)
 
       -- the time of its end
       time : e₁ ≡ latest ks (r.at q.name)
       time =
           let k = X.clock in
           let place = ap r.at X.named in
-          let o : ownClock ks (r.at q.name) ≡ k.clock = ap (ownClock ks) (sym place) ∙ H.held.own k X.there-was in
-          let l : childClock ks (r.at q.name) ≡ k.latest = ap (childClock ks) (sym place) ∙ H.held.children k X.there-was in
+          let o : own_clock ks (r.at q.name) ≡ k.clock = ap (own_clock ks) (sym place) ∙ H.held.own k X.there_was in
+          let l : child_clock ks (r.at q.name) ≡ k.latest = ap (child_clock ks) (sym place) ∙ H.held.children k X.there_was in
           omega (arith, o, l)
 
-      rise-is : riseFrom c ks w ≡ rise (length q.name) c.frames ks (r.at q.name) e₁
-      rise-is =
-          ap (λ (p : ℕ). rise (frameAt c.frames p).depth c.frames ks p (latest ks p)) (acting-place layout r w q d lt at)
-          ∙ ap₂ (λ (k e : ℕ). rise k c.frames ks (r.at q.name) e) (acting-record layout r w q d lt at).depth (sym time)
+      rise_is : rise_from c ks w ≡ rise (length q.name) c.frames ks (r.at q.name) e₁
+      rise_is =
+          ap (λ (p : ℕ). rise (frame_at c.frames p).depth c.frames ks p (latest ks p)) (acting-place layout r w q d lt at)
+          ∙ ap₂ (λ (k e : ℕ). rise k c.frames ks (r.at q.name) e) (acting_record layout r w q d lt at).depth (sym time)
 
       -- the answer says that it has ended
-      words_are : (o : ℕ) → o ≤ 3 → timedBy c w (102, o) t ≡ ended t (riseFrom c ks w)
-      unfolding timedWith
+      words_are : (o : ℕ) → o ≤ 3 → timed_by c w (102, o) t ≡ ended t (rise_from c ks w)
+      unfolding timed_with
       words_are o b = rw (ne_eqb o 4 (λ z. omega (arith, z, b)))
 
       abbrev Done : Machine → Type 0
       Done M' = Risen layout r t C.work H.held.work quiet H.held.long q.name e₁ M' cs₁ s₁
 
       -- on an empty deque the ends go on upward
-      on-empty : d ≡ [] → Done (upward M₁ w q.name)
-      on-empty z =
-          rises layout r t C.work H.held.work quiet H.held.long w q.name e₁ M₁ cs₁ s₁ E span-so-far
+      on_empty : d ≡ [] → Done (upward M₁ w q.name)
+      on_empty z =
+          rises layout r t C.work H.held.work quiet H.held.long w q.name e₁ M₁ cs₁ s₁ E span_so_far
           (omega (arith, lt, length-set M.deques w d)) (get_or-set_same M.deques w d [] lt ∙ z)
 
       -- else the frame above it is its parent, which runs
-      on-rest : (g : Frame) (l : List Frame) → d ≡ g ∷ l → Done M₁
-      on-rest g l z =
+      on_rest : (g : Frame) (l : List Frame) → d ≡ g ∷ l → Done M₁
+      on_rest g l z =
           let k : (j : ℕ) × (q.name ≡ j ∷ g.name) = (subst Linked (at ∙ ap (λ (y : List Frame). q ∷ y) z) (dq.shape w).0).0 in
           let i : In g d = subst (λ (y : List Frame). In g y) (sym z) (here refl) in
-          let g-lives : In g (live M₁) = In-perm (Permᴰ.symm (live-with M w d lt)) (In-left (rest M w) i) in
+          let g_lives : In g (live M₁) = In-perm (Permᴰ.symm (live_with M w d lt)) (In-left (rest M w) i) in
           let E₁ : Rising M r.at ks (k.0 ∷ g.name) e₁ M₁ cs₁ = subst (λ (m : Name). Rising M r.at ks m e₁ M₁ cs₁) k.1 E in
           subst (λ (m : Name). Risen layout r t C.work H.held.work quiet H.held.long m e₁ M₁ cs₁ s₁) (sym k.1)
-          (stays layout r t C.work H.held.work quiet H.held.long k.0 g.name e₁ M₁ cs₁ E₁ g g-lives refl
-          (rw (ne_eqb (frameAt c.frames (r.at g.name)).suspended 1 (λ y. omega (arith, y, (r.running g (runs g i)).suspended)))) s₁ (span-so-far ∙ ap (λ (m : Name). spanAt m e₁) k.1))
+          (stays layout r t C.work H.held.work quiet H.held.long k.0 g.name e₁ M₁ cs₁ E₁ g g_lives refl
+          (rw (ne_eqb (frame_at c.frames (r.at g.name)).suspended 1 (λ y. omega (arith, y, (r.running g (runs g i)).suspended)))) s₁ (span_so_far ∙ ap (λ (m : Name). span_at m e₁) k.1))
 
       -- of those that are left these live in the end
       whole : (M' : Machine) → ((f : Frame) → In f (live M') → In f (live M₁)) → (o : ℕ) → o ≤ 3 → Done M' → Left M' (102, o)
       whole M' old o b D =
-          subst (λ (Z : Clocks). Held r.at (length c.frames) Z (timedBy c w (102, o) t)) (sym (after_then C.work (live M₁) M' cs C.span tree-left.rooted old))
-          (subst (Held r.at (length c.frames) (after C.work M' cs₁ s₁)) (sym (words_are o b ∙ ap (ended t) rise-is)) D)
+          subst (λ (Z : Clocks). Held r.at (length c.frames) Z (timed_by c w (102, o) t)) (sym (after_then C.work (live M₁) M' cs C.span tree-left.rooted old))
+          (subst (Held r.at (length c.frames) (after C.work M' cs₁ s₁)) (sym (words_are o b ∙ ap (ended t) rise_is)) D)
 
-      ends : (l : List Frame) → d ≡ l → Left (after_end M w q l) (102, endOutcome (after_end M w q l) w l)
+      ends : (l : List Frame) → d ≡ l → Left (after_end M w q l) (102, end_outcome (after_end M w q l) w l)
       ends [] z =
           let lt₁ : w < length M₁.deques = omega (arith, lt, length-set M.deques w d) in
           let idle : deque M₁ w ≡ [] = get_or-set_same M.deques w d [] lt ∙ z in
-          subst (λ (y : List Frame). Left (upward (withDeque M w y) w q.name) (102, endOutcome (upward (withDeque M w y) w q.name) w [])) z
-          (whole (upward M₁ w q.name) (settles-in (upward-live M₁ w q.name lt₁ idle)) (endOutcome (upward M₁ w q.name) w []) (outcome-few (upward M₁ w q.name) w []) (on-empty z))
+          subst (λ (y : List Frame). Left (upward (with_deque M w y) w q.name) (102, end_outcome (upward (with_deque M w y) w q.name) w [])) z
+          (whole (upward M₁ w q.name) (settles_in (upward-live M₁ w q.name lt₁ idle)) (end_outcome (upward M₁ w q.name) w []) (outcome_few (upward M₁ w q.name) w []) (on_empty z))
       ends (g ∷ l) z =
-          subst (λ (y : List Frame). Left (withDeque M w y) (102, endOutcome (withDeque M w y) w (g ∷ l))) z
-          (whole M₁ (λ f m. m) (endOutcome M₁ w (g ∷ l)) (outcome-few M₁ w (g ∷ l)) (on-rest g l z))
+          subst (λ (y : List Frame). Left (with_deque M w y) (102, end_outcome (with_deque M w y) w (g ∷ l))) z
+          (whole M₁ (λ f m. m) (end_outcome M₁ w (g ∷ l)) (outcome_few M₁ w (g ∷ l)) (on_rest g l z))
 
-    returned : Left (afterAction M w (q ∷ d) return) (actionAnswer M w (q ∷ d) return)
-    returned = elim (decided (hasChild q.name (live M))) [ inl h ↦ rw h waits | inr h ↦ rw h (ends h d refl) ]
+    returned : Left (after_action M w (q ∷ d) return) (action_answer M w (q ∷ d) return)
+    returned = elim (decided (has_child q.name (live M))) [ inl h ↦ rw h waits | inr h ↦ rw h (ends h d refl) ]
 
-  pub held-returned : {P : Trees} {M : Machine} {c : Core} (r : Relates layout P M c) (C : Clocks) (t : Timing) → Timed layout r C t → FrameTree M → DequeInvariant M → (w : ℕ) → Passes M (acting w return)
-      → Held r.at (length c.frames) (clocksAfter M C (Return w)) (timedBy c w (turnAnswer M (acting w return)) t)
-  held-returned {M = M} {c = c} r C t H tree dq w h =
+  pub held_returned : {P : Trees} {M : Machine} {c : Core} (r : Relates layout P M c) (C : Clocks) (t : Timing) → Timed layout r C t → FrameTree M → DequeInvariant M → (w : ℕ) → Passes M (acting w return)
+      → Held r.at (length c.frames) (clocks_after M C (Return w)) (timed_by c w (turn_answer M (acting w return)) t)
+  held_returned {M = M} {c = c} r C t H tree dq w h =
       let x = acts M w return h in
-      subst (λ (Z : Clocks). Held r.at (length c.frames) Z (timedBy c w (turnAnswer M (acting w return)) t)) (sym (clocks-return M C w h))
-      (subst (λ (l : List Frame). Held r.at (length c.frames) (after C.work (afterAction M w l return) C.clocks C.span) (timedBy c w (actionAnswer M w l return) t)) (sym x.at)
+      subst (λ (Z : Clocks). Held r.at (length c.frames) Z (timed_by c w (turn_answer M (acting w return)) t)) (sym (clocks_return M C w h))
+      (subst (λ (l : List Frame). Held r.at (length c.frames) (after C.work (after_action M w l return) C.clocks C.span) (timed_by c w (action_answer M w l return) t)) (sym x.at)
       (returned r C t H tree dq w x.actor x.above x.worker x.at x.before))

@@ -3,31 +3,31 @@
 use Rattle.std.specs.Prelude.{◌≡◌}
 use mathlib.Core.List.{Memᴰ as In}
 use mathlib.Core.List.{List, [], ◌∷◌, map, Permᴰ}
-use Rattle.reducers.specs.Reducers.{view_of, viewWords}
-use Rattle.frames.specs.Frames.{frameAt}
+use Rattle.reducers.specs.Reducers.{view_of, view_words}
+use Rattle.frames.specs.Frames.{frame_at}
 use Rattle.frames.specs.Siblings.{Children}
-use Rattle.frames.specs.Steps.{endFrame}
+use Rattle.frames.specs.Steps.{end_frame}
 use Rattle.model.specs.Machine.{Name, Frame, Machine, live}
 use Rattle.model.specs.Views.{View, Views}
-use Rattle.model.specs.Theory.ViewNames.{viewNames}
+use Rattle.model.specs.Theory.ViewNames.{view_names}
 use Rattle.model.specs.Theory.PostOrder.{InPostOrder}
-use Rattle.model.specs.Theory.Siblings.{childrenOf}
-use Rattle.semantics.specs.Core.{Core, totalsAfter}
+use Rattle.model.specs.Theory.Siblings.{children_of}
+use Rattle.semantics.specs.Core.{Core, totals_after}
 use Rattle.semantics.specs.Theory.Relation.{Trees, Relates}
 use Rattle.soundness.specs.Layout.{Layout}
 
 module _ (layout : Layout) where
   pub record Viewed {P : Trees} {M : Machine} {c : Core} (r : Relates layout P M c) (W : Views) : Type 0 where
-    pub ordered : InPostOrder (live M) (viewNames W.views)
-    pub views : (v : View) → In v W.views → (frameAt c.frames (r.at v.name)).view ≡ view_of v.folds
-    pub siblings : (f : Frame) → In f (live M) → Children c.frames (r.at f.name) (map r.at (childrenOf f.name (viewNames W.views)))
+    pub ordered : InPostOrder (live M) (view_names W.views)
+    pub views : (v : View) → In v W.views → (frame_at c.frames (r.at v.name)).view ≡ view_of v.folds
+    pub siblings : (f : Frame) → In f (live M) → Children c.frames (r.at f.name) (map r.at (children_of f.name (view_names W.views)))
     pub none_yet : (f : Frame) → In f (live M) → W.totals ≡ []
-    pub totals : live M ≡ [] → c.totals ≡ viewWords (view_of W.totals)
+    pub totals : live M ≡ [] → c.totals ≡ view_words (view_of W.totals)
 
   -- from c to c' the frame g has ended, and the frames R are left
   pub record Ended {P : Trees} {M M' : Machine} {c c' : Core} (r : Relates layout P M c) (r' : Relates layout P M' c') (g : Frame) (R : List Frame) : Type 0 where
     pub before : Permᴰ (live M) (g ∷ R)
     pub after : Permᴰ (live M') R
     pub places : (n : Name) → r'.at n ≡ r.at n
-    pub frames : c'.frames ≡ endFrame c.frames c.head.numbers.free_place (r.at g.name)
-    pub totals : c'.totals ≡ totalsAfter c (frameAt c.frames (r.at g.name))
+    pub frames : c'.frames ≡ end_frame c.frames c.head.numbers.free_place (r.at g.name)
+    pub totals : c'.totals ≡ totals_after c (frame_at c.frames (r.at g.name))

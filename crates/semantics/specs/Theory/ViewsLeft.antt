@@ -15,23 +15,23 @@ use mathlib.Core.List.Permᴰ
 use mathlib.Core.List.{List, [], ◌∷◌, ◌++◌, nil≢cons, map-append, Permᴰ}
 use Rattle.words.specs.Basics.{same}
 use Rattle.words.specs.Tests.{true≢false, decided}
-use Rattle.words.specs.Distinct.{same-eq, same-ne}
+use Rattle.words.specs.Distinct.{same_eq, same_ne}
 use Rattle.words.specs.Lists.{In-perm}
-use Rattle.model.specs.Machine.{Name, Frame, hasChild, hasFrame}
-use Rattle.model.specs.Views.{Folded, View, joinEnded}
-use Rattle.model.specs.Theory.Under.{under-main, under-child}
+use Rattle.model.specs.Machine.{Name, Frame, has_child, has_frame}
+use Rattle.model.specs.Views.{Folded, View, join_ended}
+use Rattle.model.specs.Theory.Under.{under_main, under_child}
 use Rattle.model.specs.Theory.Children.{In-hasChild}
-use Rattle.model.specs.Theory.LiveRun.{Disjoint, disjoint-perm}
+use Rattle.model.specs.Theory.LiveRun.{Disjoint, disjoint_perm}
 use Rattle.model.specs.Theory.FrameTree.{names_apart}
-use Rattle.model.specs.Theory.MainEnds.{In-hasFrame, hasFrame-In}
-use Rattle.model.specs.Theory.ViewNames.{viewNames}
-use Rattle.model.specs.Theory.PostOrder.{PostOrder, InPostOrder, until-in, post-suffix, post-above, post-before, post-after, post-main, post-without}
-use Rattle.model.specs.Theory.JoinViews.{AllStay, joinedTo, join_one, join_last}
+use Rattle.model.specs.Theory.MainEnds.{In-hasFrame, has_frame_In}
+use Rattle.model.specs.Theory.ViewNames.{view_names}
+use Rattle.model.specs.Theory.PostOrder.{PostOrder, InPostOrder, until_in, post_suffix, post_above, post_before, post_after, post_main, post_without}
+use Rattle.model.specs.Theory.JoinViews.{AllStay, joined_to, join_one, join_last}
 
 -- g, one of the frames L, ends, and the frames R are left
-module _ (L R : List Frame) (g : Frame) (before : Permᴰ L (g ∷ R)) (disjoint : Disjoint L) (childless : hasChild g.name L ≡ false) (vs : List View) (o : InPostOrder L (viewNames vs)) where
+module _ (L R : List Frame) (g : Frame) (before : Permᴰ L (g ∷ R)) (disjoint : Disjoint L) (childless : has_child g.name L ≡ false) (vs : List View) (o : InPostOrder L (view_names vs)) where
   abbrev ns : List Name
-  ns = viewNames vs
+  ns = view_names vs
 
   pub lives : In g L
   lives = In-perm (Permᴰ.symm before) (here refl)
@@ -40,28 +40,28 @@ module _ (L R : List Frame) (g : Frame) (before : Permᴰ L (g ∷ R)) (disjoint
   old f m = In-perm (Permᴰ.symm before) (there m)
 
   apart : (f : Frame) → In f R → f.name ≢ g.name
-  apart f m e = names_apart g f R (disjoint-perm before disjoint) m (sym e)
+  apart f m e = names_apart g f R (disjoint_perm before disjoint) m (sym e)
 
   pub left-frame : (n : Name) → In n ns → n ≢ g.name → (f : Frame) × In f R × (f.name ≡ n)
   left-frame n m d =
       let f = o.names.alive n m in
       elim (In-cons (In-perm before f.1)) [ inl e ↦ absurd (d (sym f.2 ∙ ap (λ (z : Frame). z.name) e)) | inr i ↦ (f.0, i, f.2) ]
 
-  is-left : (n : Name) → In n ns → n ≢ g.name → hasFrame n R ≡ true
-  is-left n m d = let f = left-frame n m d in In-hasFrame n R f.0 f.1 f.2
+  is_left : (n : Name) → In n ns → n ≢ g.name → has_frame n R ≡ true
+  is_left n m d = let f = left-frame n m d in In-hasFrame n R f.0 f.1 f.2
 
-  is-gone : hasFrame g.name R ≡ false
-  is-gone = elim (decided (hasFrame g.name R)) [ inl t ↦ (let f = hasFrame-In g.name R t in absurd (apart f.0 f.1 f.2)) | inr t ↦ t ]
+  is_gone : has_frame g.name R ≡ false
+  is_gone = elim (decided (has_frame g.name R)) [ inl t ↦ (let f = has_frame_In g.name R t in absurd (apart f.0 f.1 f.2)) | inr t ↦ t ]
 
-  no-child : (k : ℕ) → In (k ∷ g.name) ns → ⊥
-  no-child k m = let f = o.names.alive (k ∷ g.name) m in true≢false (sym (In-hasChild k g.name f.1 f.2) ∙ childless)
+  no_child : (k : ℕ) → In (k ∷ g.name) ns → ⊥
+  no_child k m = let f = o.names.alive (k ∷ g.name) m in true≢false (sym (In-hasChild k g.name f.1 f.2) ∙ childless)
 
   -- Main has no live child only if it is alone
   alone : g.name ≡ [] → (n : Name) → In n ns → n ≡ []
   alone z n m = elim (decided (same n [])) [
-    | inl t ↦ same-eq n [] t
-    | inr t ↦ (let j = under-child n [] (same-ne t) (under-main n) in
-        absurd (no-child j.0 (subst (λ (p : Name). In (j.0 ∷ p) ns) (sym z) (post-above ns o.post n (j.0 ∷ []) m j.1))))
+    | inl t ↦ same_eq n [] t
+    | inr t ↦ (let j = under_child n [] (same_ne t) (under_main n) in
+        absurd (no_child j.0 (subst (λ (p : Name). In (j.0 ∷ p) ns) (sym z) (post_above ns o.post n (j.0 ∷ []) m j.1))))
   ]
 
   pub none_left : g.name ≡ [] → (f : Frame) → In f R → ⊥
@@ -71,47 +71,47 @@ module _ (L R : List Frame) (g : Frame) (before : Permᴰ L (g ∷ R)) (disjoint
 
   module _ (us ws : List View) (v : View) (e : vs ≡ us ++ (v ∷ ws)) (named : v.name ≡ g.name) where
     abbrev xs : List Name
-    xs = viewNames us
+    xs = view_names us
 
     abbrev ys : List Name
-    ys = viewNames ws
+    ys = view_names ws
 
     pub parts : ns ≡ xs ++ (g.name ∷ ys)
-    parts = ap viewNames e ∙ map-append (λ (u : View). u.name) us (v ∷ ws) ∙ ap (λ (n : Name). xs ++ (n ∷ ys)) named
+    parts = ap view_names e ∙ map-append (λ (u : View). u.name) us (v ∷ ws) ∙ ap (λ (n : Name). xs ++ (n ∷ ys)) named
 
-    post-parts : PostOrder (xs ++ (g.name ∷ ys))
-    post-parts = subst PostOrder parts o.post
+    post_parts : PostOrder (xs ++ (g.name ∷ ys))
+    post_parts = subst PostOrder parts o.post
 
     in_parts : (n : Name) → In n (xs ++ (g.name ∷ ys)) → In n ns
     in_parts n m = subst (λ (l : List Name). In n l) (sym parts) m
 
-    pub before-there : (u : View) → In u us → In u.name ns × (u.name ≢ g.name)
-    before-there u m =
+    pub before_there : (u : View) → In u us → In u.name ns × (u.name ≢ g.name)
+    before_there u m =
         let i = In-map (λ (z : View). z.name) m in
-        (in_parts u.name (In-left (g.name ∷ ys) i), λ d. post-before xs ys g.name post-parts (Memᴰ.cast (sym d) i))
+        (in_parts u.name (In-left (g.name ∷ ys) i), λ d. post_before xs ys g.name post_parts (Memᴰ.cast (sym d) i))
 
-    pub after-there : (u : View) → In u ws → In u.name ns × (u.name ≢ g.name)
-    after-there u m =
+    pub after_there : (u : View) → In u ws → In u.name ns × (u.name ≢ g.name)
+    after_there u m =
         let i = In-map (λ (z : View). z.name) m in
-        (in_parts u.name (In-right xs (there i)), λ d. post-after xs ys g.name post-parts (Memᴰ.cast (sym d) i))
+        (in_parts u.name (In-right xs (there i)), λ d. post_after xs ys g.name post_parts (Memᴰ.cast (sym d) i))
 
-    before-stay : AllStay (λ n. hasFrame n R) us
-    before-stay u m = let x = before-there u m in is-left u.name x.0 x.1
+    before_stay : AllStay (λ n. has_frame n R) us
+    before_stay u m = let x = before_there u m in is_left u.name x.0 x.1
 
-    after-stay : AllStay (λ n. hasFrame n R) ws
-    after-stay u m = let x = after-there u m in is-left u.name x.0 x.1
+    after_stay : AllStay (λ n. has_frame n R) ws
+    after_stay u m = let x = after_there u m in is_left u.name x.0 x.1
 
-    own-gone : hasFrame v.name R ≡ false
-    own-gone = ap (λ (n : Name). hasFrame n R) named ∙ is-gone
+    own_gone : has_frame v.name R ≡ false
+    own_gone = ap (λ (n : Name). has_frame n R) named ∙ is_gone
 
     -- the others keep their order
-    pub ordered-left : (L' : List Frame) → Permᴰ L' R → InPostOrder L' (xs ++ ys)
-    ordered-left L' after = record {
+    pub ordered_left : (L' : List Frame) → Permᴰ L' R → InPostOrder L' (xs ++ ys)
+    ordered_left L' after = record {
       names = record {
         alive = λ n m.
             let x : In n ns × (n ≢ g.name) = elim (In-cases xs m) [
-              | inl i ↦ (in_parts n (In-left (g.name ∷ ys) i), λ d. post-before xs ys g.name post-parts (Memᴰ.cast (sym d) i))
-              | inr i ↦ (in_parts n (In-right xs (there i)), λ d. post-after xs ys g.name post-parts (Memᴰ.cast (sym d) i))
+              | inl i ↦ (in_parts n (In-left (g.name ∷ ys) i), λ d. post_before xs ys g.name post_parts (Memᴰ.cast (sym d) i))
+              | inr i ↦ (in_parts n (In-right xs (there i)), λ d. post_after xs ys g.name post_parts (Memᴰ.cast (sym d) i))
             ] in
             let f = left-frame n x.0 x.1 in
             (f.0, In-perm (Permᴰ.symm after) f.1, f.2);
@@ -122,25 +122,25 @@ module _ (L R : List Frame) (g : Frame) (before : Permᴰ L (g ∷ R)) (disjoint
               | inr j ↦ elim (In-cons j) [ inl d ↦ absurd (apart f i d) | inr h ↦ In-right xs h ]
             ];
       };
-      post = post-without xs ys g.name (λ k m. no-child k (in_parts (k ∷ g.name) m)) post-parts;
+      post = post_without xs ys g.name (λ k m. no_child k (in_parts (k ∷ g.name) m)) post_parts;
     }
 
     -- ---- it is followed by w
 
-    pub joined-next : (w : View) (ws' : List View) → ws ≡ w ∷ ws' → (totals : List Folded) → joinEnded R [] vs totals ≡ record { views = us ++ (joinedTo v.folds w ∷ ws'); totals = totals }
+    pub joined-next : (w : View) (ws' : List View) → ws ≡ w ∷ ws' → (totals : List Folded) → join_ended R [] vs totals ≡ record { views = us ++ (joined_to v.folds w ∷ ws'); totals = totals }
     joined-next w ws' d totals =
-        ap (λ (l : List View). joinEnded R [] l totals) (e ∙ ap (λ (l : List View). us ++ (v ∷ l)) d)
-        ∙ join_one (λ n. hasFrame n R) us ws' v w totals before-stay own-gone (subst (AllStay (λ n. hasFrame n R)) d after-stay)
+        ap (λ (l : List View). join_ended R [] l totals) (e ∙ ap (λ (l : List View). us ++ (v ∷ l)) d)
+        ∙ join_one (λ n. has_frame n R) us ws' v w totals before_stay own_gone (subst (AllStay (λ n. has_frame n R)) d after_stay)
 
     -- ---- it is Main's
 
-    pub joined-main : g.name ≡ [] → (totals : List Folded) → joinEnded R [] vs totals ≡ record { views = []; totals = v.folds ++ totals }
+    pub joined-main : g.name ≡ [] → (totals : List Folded) → join_ended R [] vs totals ≡ record { views = []; totals = v.folds ++ totals }
     joined-main z totals =
-        ap (λ (l : List View). joinEnded R [] l totals) (e ∙ ap (λ (l : List View). us ++ (v ∷ l)) (nothing ws (post-main xs ys (subst (λ (n : Name). PostOrder (xs ++ (n ∷ ys))) z post-parts))))
-        ∙ join_last (λ n. hasFrame n R) us v totals before-stay own-gone
-        ∙ ap (λ (l : List View). record { views = l; totals = v.folds ++ totals }) (first us (λ u m. let x = before-there u m in x.1 (alone z u.name x.0 ∙ sym z)))
+        ap (λ (l : List View). join_ended R [] l totals) (e ∙ ap (λ (l : List View). us ++ (v ∷ l)) (nothing ws (post_main xs ys (subst (λ (n : Name). PostOrder (xs ++ (n ∷ ys))) z post_parts))))
+        ∙ join_last (λ n. has_frame n R) us v totals before_stay own_gone
+        ∙ ap (λ (l : List View). record { views = l; totals = v.folds ++ totals }) (first us (λ u m. let x = before_there u m in x.1 (alone z u.name x.0 ∙ sym z)))
       where
-        nothing : (l : List View) → viewNames l ≡ [] → l ≡ []
+        nothing : (l : List View) → view_names l ≡ [] → l ≡ []
         nothing [] h = refl
         nothing (u ∷ l) h = absurd (nil≢cons (sym h))
 
@@ -150,4 +150,4 @@ module _ (L R : List Frame) (g : Frame) (before : Permᴰ L (g ∷ R)) (disjoint
 
     -- of another frame there is a next one
     pub some_next : (k : ℕ) (p : Name) → g.name ≡ k ∷ p → In p ys
-    some_next k p z = until-in p ys ((post-suffix xs (g.name ∷ ys) post-parts).0.to-parent k p z)
+    some_next k p z = until_in p ys ((post_suffix xs (g.name ∷ ys) post_parts).0.to_parent k p z)

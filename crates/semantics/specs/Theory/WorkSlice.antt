@@ -7,7 +7,7 @@ use Rattle.frames.specs.declared.Frame.{Frame}
 use Rattle.soundness.specs.declared.Numbers.{Numbers}
 use Rattle.soundness.specs.declared.Checked.{Checked}
 use Rattle.soundness.specs.declared.Checked.TheVariants.{NoRoom, Sound}
-use Rattle.soundness.specs.Soundness.{sound, freeCount, checked, cleared}
+use Rattle.soundness.specs.Soundness.{sound, count_of_free, checked, cleared}
 use Rattle.soundness.specs.Layout.{Layout}
 
 has_room : (p : Bool) (m : ℕ) → cond p (Sound m) Checked.Unsound ≡ NoRoom → ⊥
@@ -16,14 +16,14 @@ has_room false m e = let z : ◌≡◌ {A = ℕ} 0 1 = cc in omega arith
 
 module _ (layout : Layout) where
   module _ (s : Numbers) (ts ds : List ℕ) (fs : List Frame) (ws ks : List ℕ) where
-    pub checked-room : leb s.nodes (length ks) ≡ true → checked layout s ts ds fs ws ks ≡ cond (sound layout s ts ds fs ws) (Sound (freeCount layout s ws)) Checked.Unsound
+    pub checked_room : leb s.nodes (length ks) ≡ true → checked layout s ts ds fs ws ks ≡ cond (sound layout s ts ds fs ws) (Sound (count_of_free layout s ws)) Checked.Unsound
     unfolding checked
-    checked-room e = rw e
+    checked_room e = rw e
 
     -- a work slice that is too short is left alone
-    pub no-room-keeps : checked layout s ts ds fs ws ks ≡ NoRoom → cleared s.nodes ks ≡ ks
+    pub no_room_keeps : checked layout s ts ds fs ws ks ≡ NoRoom → cleared s.nodes ks ≡ ks
     unfolding cleared
-    no-room-keeps e = elim (decided (leb s.nodes (length ks))) [
-      | inl t ↦ absurd (has_room (sound layout s ts ds fs ws) (freeCount layout s ws) (sym (checked-room t) ∙ e))
+    no_room_keeps e = elim (decided (leb s.nodes (length ks))) [
+      | inl t ↦ absurd (has_room (sound layout s ts ds fs ws) (count_of_free layout s ws) (sym (checked_room t) ∙ e))
       | inr f ↦ rw f
     ]

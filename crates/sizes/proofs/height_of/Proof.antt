@@ -6,7 +6,7 @@ use native.Mathlib.Numerals.{add-one}
 use native.Mathlib.Decide.{ℕ_discrete}
 use lib.Pow.{pow_pos}
 use borrow.Author.Rules.{rules}
-use Rattle.sizes.specs.Heights.{height-is, lt-pow}
+use Rattle.sizes.specs.Heights.{height_is, lt_pow}
 use Rattle.sizes.proofs.height_of.Statement.{statement}
 use Rattle.sizes.proofs.height_of.Tie as tie
 
@@ -27,7 +27,7 @@ mul-room c =
 add-h : tie.Need-overflow-add-h invariant-loop decreases-loop
 add-h c =
     let small : c.before.before.args.n < 2 ^ 32 = search rules in
-    record { fits = omega (arith, c.loop-test.true, c.before.loop.invariant.0, lt-pow c.before.loop.h) }
+    record { fits = omega (arith, c.loop-test.true, c.before.loop.invariant.0, lt_pow c.before.loop.h) }
 
 loop-less : tie.Need-loop-smaller invariant-loop decreases-loop
 loop-less c = omega (arith, c.loop-test.true, c.before.loop.invariant.0, pow_pos c.before.loop.h)
@@ -46,7 +46,7 @@ loop-again c =
 
 returns : tie.Need-returns invariant-loop decreases-loop
 returns c =
-    sym (height-is c.before.before.args.n c.before.loop.h (omega (arith, c.loop-test.false, c.before.loop.invariant.0)) c.before.loop.invariant.1)
+    sym (height_is c.before.before.args.n c.before.loop.h (omega (arith, c.loop-test.false, c.before.loop.invariant.0)) c.before.loop.invariant.1)
 
 pub height-of-spec : {M : Type 1} → statement M
 height-of-spec =

@@ -6,10 +6,10 @@ use native.Mathlib.Nat.{mul-le-mul}
 use native.Mathlib.Numerals.{add-one}
 use borrow.Author.Rules.{rules}
 use Rattle.words.specs.Basics.{sum}
-use Rattle.words.specs.Counting.{sum-le}
-use Rattle.sizes.specs.Sizes.{height, width, treeNodes}
-use Rattle.sizes.specs.Heights.{height-le}
-use Rattle.sizes.specs.Widths.{width-le}
+use Rattle.words.specs.Counting.{sum_le}
+use Rattle.sizes.specs.Sizes.{height, width, tree_nodes}
+use Rattle.sizes.specs.Heights.{height_le}
+use Rattle.sizes.specs.Widths.{width_le}
 use Rattle.sizes.proofs.tree_nodes.Statement.{statement}
 use Rattle.sizes.proofs.tree_nodes.Tie as tie
 
@@ -33,21 +33,21 @@ cast-total c = search rules
 
 -- a sum of at most 33 widths, each at most n
 below : (n l t : ℕ) → n < 2 ^ 32 → l ≤ 32 → t ≡ sum l (width n) → t ≤ 32 * 2 ^ 32
-below n l t small h e = omega (arith, sum-le l n (width n) (width-le n), mul-le-mul {n₁ = l} {m₁ = n} {n₂ = 32} {m₂ = 2 ^ 32} h (omega arith))
+below n l t small h e = omega (arith, sum_le l n (width n) (width_le n), mul-le-mul {n₁ = l} {m₁ = n} {n₂ = 32} {m₂ = 2 ^ 32} h (omega arith))
 
 add_total : tie.Need-overflow-add-total invariant-loop decreases-loop
 add_total c =
     let n = c.before.before.before.before.args.n in
     let l = c.before.before.loop.l in
     let small : n < 2 ^ 32 = search rules in
-    let top : l ≤ 32 = omega (arith, c.before.loop-test.true, c.before.before.before.height-of.ensures, height-le n 32 (omega arith)) in
-    record { fits = omega (arith, below n l c.before.before.loop.total small top c.before.before.loop.invariant.0, c.width_of_lem.ensures, width-le n l) }
+    let top : l ≤ 32 = omega (arith, c.before.loop-test.true, c.before.before.before.height-of.ensures, height_le n 32 (omega arith)) in
+    record { fits = omega (arith, below n l c.before.before.loop.total small top c.before.before.loop.invariant.0, c.width_of_lem.ensures, width_le n l) }
 
 add-l : tie.Need-overflow-add-l invariant-loop decreases-loop
 add-l c =
     let n = c.before.before.before.before.args.n in
     let small : n < 2 ^ 32 = search rules in
-    record { fits = omega (arith, c.before.loop-test.true, c.before.before.before.height-of.ensures, height-le n 32 (omega arith)) }
+    record { fits = omega (arith, c.before.loop-test.true, c.before.before.before.height-of.ensures, height_le n 32 (omega arith)) }
 
 loop-less : tie.Need-loop-smaller invariant-loop decreases-loop
 loop-less c = omega (arith, c.before.loop-test.true)
@@ -59,7 +59,7 @@ loop-again c =
     (omega (arith, c.before.before.loop.invariant.0, c.width_of_lem.ensures, ap (λ q. sum q (width n)) (add-one l)), omega (arith, c.before.loop-test.true))
 
 returns : tie.Need-returns invariant-loop decreases-loop
-unfolding treeNodes
+unfolding tree_nodes
 returns c =
     let n = c.before.before.before.args.n in
     let e : c.before.loop.l ≡ suc (height n) = omega (arith, c.loop-test.false, c.before.loop.invariant.1, c.before.before.height-of.ensures) in

@@ -4,12 +4,12 @@ use native.Mathlib.Nat.{le_trans, div-le_self}
 use native.Mathlib.Omega.{arith}
 use lib.Pow.{pow_mono}
 use borrow.Author.Rules.{rules}
-use Rattle.sizes.specs.Widths.{width-zero, width-pos, width_one}
+use Rattle.sizes.specs.Widths.{width_zero, width_pos, width_one}
 use Rattle.sizes.proofs.width_of.Statement.{statement}
 use Rattle.sizes.proofs.width_of.Tie as tie
 
 returns : tie.Need-returns
-returns c = rw c.if1.true (sym (width-zero c.before.args.l))
+returns c = rw c.if1.true (sym (width_zero c.before.args.l))
 
 returns-2 : tie.Need-returns-2
 returns-2 c =
@@ -31,7 +31,7 @@ add-result c =
     record { fits = omega (arith, div-le_self (n - 1) (2 ^ c.before.before.args.l)) }
 
 returns-3 : tie.Need-returns-3
-returns-3 c = sym (width-pos c.before.before.args.n c.before.before.args.l (omega arith))
+returns-3 c = sym (width_pos c.before.before.args.n c.before.before.args.l (omega arith))
 
 pub width-of-spec : {M : Type 1} → statement M
 width-of-spec = tie.close (tie.spec returns returns-2 sub-result shr-result add-result returns-3)

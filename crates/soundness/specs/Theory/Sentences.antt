@@ -2,153 +2,153 @@
 use Rattle.std.specs.Prelude.{◌≡◌, ◌≢◌, ◌⊎◌, Bool, true, ◌||◌, ◌&&◌, List, ◌++◌, ℕ, suc, ◌≤◌, ◌<◌, eqb, ltb, length, get_or}
 use Rattle.std.proofs.Math.Path.{sym, ap}
 use Rattle.std.proofs.Common.{◌∙◌, subst, inl, inr, arith}
-use Rattle.words.specs.Basics.{none, all, howMany, implies, below, count}
-use Rattle.words.specs.Tallies.{howMany-one}
+use Rattle.words.specs.Basics.{none, all, how_many, implies, below, count}
+use Rattle.words.specs.Tallies.{how_many_one}
 use Rattle.frames.specs.declared.Frame.{Frame}
-use Rattle.frames.specs.Widths.{maxWorkers, maxPlaces, dequePlaces}
-use Rattle.frames.specs.Frames.{frameAt, freePlace}
+use Rattle.frames.specs.Widths.{max_workers, max_places, deque_places}
+use Rattle.frames.specs.Frames.{frame_at, free_record}
 use Rattle.frames.specs.Siblings.{younger}
-use Rattle.frames.specs.Theory.Siblings.{linked-is}
+use Rattle.frames.specs.Theory.Siblings.{linked_is}
 use Rattle.frames.specs.Deques.{size, place}
 use Rattle.reducers.specs.declared.View.{View}
-use Rattle.reducers.specs.Reducers.{zeroView}
+use Rattle.reducers.specs.Reducers.{zero_view}
 use Rattle.soundness.specs.declared.Numbers.{Numbers}
-use Rattle.soundness.specs.Numbers.{totalCount}
-use Rattle.soundness.specs.Soundness.{lives, children, inDeques, siblingsLinked, freePlaces, viewZero, placeFree, liveRoots, numberSentences, totalSentences, frameSentences, sentences, soundParts}
+use Rattle.soundness.specs.Numbers.{total_count}
+use Rattle.soundness.specs.Soundness.{lives, children, in_deques, siblings_linked, free_places, view_zero, place_free, live_roots, number_sentences, total_sentences, frame_sentences, sentences, sound_parts}
 use Rattle.soundness.specs.Sentence.{all_of}
-use Rattle.soundness.specs.Soundness.{oneMain, parentsLive, countsRight, placedOnce, returningRight, linksRight, totalsRight, holdLive, absentEmpty, restZero, linked, onlyBelow, placesFree, framesSound, numbersSound, sound}
-use Rattle.soundness.specs.Layout.{Layout, poolSound}
-use Rattle.soundness.specs.Theory.Is.{Is, is-as, true-is, eq_is, lt-is, le_is, and_is, and3-is, or_is, not_is, implies-is, both-imply, from_is, all-is, all_but_last, some_is}
-use Rattle.soundness.specs.Theory.Each.{row_of, of-each, allOf-append}
-use Rattle.soundness.specs.Theory.FreeLists.{chain-below, follow-sound, sound-follow, the_one}
-pub use Rattle.soundness.specs.Theory.Facts.{Lives, stands, stands-is, child-is, child-at, at-child, NoFrame, OnlyMain, HasParent, Placed, Returning, Siblings, TotalsZero, PlacesFree, FramesFacts, NumbersFacts, few-places, SoundFacts}
+use Rattle.soundness.specs.Soundness.{one_main, parents_live, counts_right, placed_once, returning_right, links_right, totals_right, hold_live, absent_empty, rest_zero, linked, only_below, places_free, frames_sound, numbers_sound, sound}
+use Rattle.soundness.specs.Layout.{Layout, pool_sound}
+use Rattle.soundness.specs.Theory.Is.{Is, is_as, true_is, eq_is, lt_is, le_is, and_is, and3_is, or_is, not_is, implies_is, both_imply, from_is, all_is, all_but_last, some_is}
+use Rattle.soundness.specs.Theory.Each.{row_of, of_each, all_of-append}
+use Rattle.soundness.specs.Theory.FreeLists.{chain_below, follow-sound, sound-follow, the_one}
+pub use Rattle.soundness.specs.Theory.Facts.{Lives, stands, stands_is, child_is, child_at_lem, at_child, NoFrame, OnlyMain, HasParent, Placed, Returning, Siblings, TotalsZero, PlacesFree, FramesFacts, NumbersFacts, few_places, SoundFacts}
 
 -- ---- frames and deques
 
 module _ (ds : List ℕ) (fs : List Frame) where
-  pub lives-is : (p : ℕ) → Is (lives fs p) (Lives fs p)
-  lives-is p = eq_is (frameAt fs p).live 1
+  pub lives_is : (p : ℕ) → Is (lives fs p) (Lives fs p)
+  lives_is p = eq_is (frame_at fs p).live 1
 
   -- "just one live frame has depth 0, with parent none"
-  abbrev pub mainTest : ℕ → Bool
-  mainTest p = lives fs p && eqb (frameAt fs p).depth 0
+  abbrev pub main_test : ℕ → Bool
+  main_test p = lives fs p && eqb (frame_at fs p).depth 0
 
-  pub main-is : (p : ℕ) → Is (mainTest p) (Lives fs p × ((frameAt fs p).depth ≡ 0))
-  main-is p = and_is (lives-is p) (eq_is (frameAt fs p).depth 0)
+  pub main_is : (p : ℕ) → Is (main_test p) (Lives fs p × ((frame_at fs p).depth ≡ 0))
+  main_is p = and_is (lives_is p) (eq_is (frame_at fs p).depth 0)
 
-  orphan-is : (p : ℕ) → Is (implies (mainTest p) (eqb (frameAt fs p).parent none)) (Lives fs p → (frameAt fs p).depth ≡ 0 → (frameAt fs p).parent ≡ none)
-  orphan-is p = both-imply (lives-is p) (eq_is (frameAt fs p).depth 0) (eq_is (frameAt fs p).parent none)
+  orphan_is : (p : ℕ) → Is (implies (main_test p) (eqb (frame_at fs p).parent none)) (Lives fs p → (frame_at fs p).depth ≡ 0 → (frame_at fs p).parent ≡ none)
+  orphan_is p = both_imply (lives_is p) (eq_is (frame_at fs p).depth 0) (eq_is (frame_at fs p).parent none)
 
-  pub only-main : (howMany (length fs) mainTest ≡ 1) × ((p : ℕ) → p < length fs → Lives fs p → (frameAt fs p).depth ≡ 0 → (frameAt fs p).parent ≡ none) → OnlyMain fs
-  only-main h =
-      let m = the_one (length fs) mainTest h.0 in
-      let f = (main-is m.0).fact m.2 in
+  pub only_main : (how_many (length fs) main_test ≡ 1) × ((p : ℕ) → p < length fs → Lives fs p → (frame_at fs p).depth ≡ 0 → (frame_at fs p).parent ≡ none) → OnlyMain fs
+  only_main h =
+      let m = the_one (length fs) main_test h.0 in
+      let f = (main_is m.0).fact m.2 in
       record {
         main = m.0;
         inside = m.1;
         alive = f.0;
         flat = f.1;
         orphan = h.1 m.0 m.1 f.0 f.1;
-        only = λ p b l d. m.3 p b ((main-is p).test (l, d));
+        only = λ p b l d. m.3 p b ((main_is p).test (l, d));
       }
 
-  pub main-only : OnlyMain fs → (howMany (length fs) mainTest ≡ 1) × ((p : ℕ) → p < length fs → Lives fs p → (frameAt fs p).depth ≡ 0 → (frameAt fs p).parent ≡ none)
-  main-only m = (
-    howMany-one (length fs) m.main mainTest m.inside ((main-is m.main).test (m.alive, m.flat)) (λ p b t. (let r = (main-is p).fact t in m.only p b r.0 r.1)),
-    λ p b l d. ap (λ q. (frameAt fs q).parent) (m.only p b l d) ∙ m.orphan,
+  pub main_only : OnlyMain fs → (how_many (length fs) main_test ≡ 1) × ((p : ℕ) → p < length fs → Lives fs p → (frame_at fs p).depth ≡ 0 → (frame_at fs p).parent ≡ none)
+  main_only m = (
+    how_many_one (length fs) m.main main_test m.inside ((main_is m.main).test (m.alive, m.flat)) (λ p b t. (let r = (main_is p).fact t in m.only p b r.0 r.1)),
+    λ p b l d. ap (λ q. (frame_at fs q).parent) (m.only p b l d) ∙ m.orphan,
   )
 
-  oneMain-is : Is (oneMain ds fs) (NoFrame ds fs ⊎ OnlyMain fs)
-  unfolding oneMain
-  oneMain-is =
-      or_is (and_is (all-is (length fs) (λ p. not_is (lives-is p))) (all-is maxWorkers (λ w. eq_is (size ds w) 0)))
-      (is-as only-main main-only (and_is (eq_is (howMany (length fs) mainTest) 1) (all-is (length fs) orphan-is)))
+  one_main_is : Is (one_main ds fs) (NoFrame ds fs ⊎ OnlyMain fs)
+  unfolding one_main
+  one_main_is =
+      or_is (and_is (all_is (length fs) (λ p. not_is (lives_is p))) (all_is max_workers (λ w. eq_is (size ds w) 0)))
+      (is_as only_main main_only (and_is (eq_is (how_many (length fs) main_test) 1) (all_is (length fs) orphan_is)))
 
   -- the parent of the frame at p is live and one shallower
-  pub parent_is : (p : ℕ) → Is (ltb (frameAt fs p).parent (length fs) && (lives fs (frameAt fs p).parent && eqb (frameAt fs p).depth (suc (frameAt fs (frameAt fs p).parent).depth))) (HasParent fs p)
-  parent_is p = and3-is (lt-is (frameAt fs p).parent (length fs)) (lives-is (frameAt fs p).parent) (eq_is (frameAt fs p).depth (suc (frameAt fs (frameAt fs p).parent).depth))
+  pub parent_is : (p : ℕ) → Is (ltb (frame_at fs p).parent (length fs) && (lives fs (frame_at fs p).parent && eqb (frame_at fs p).depth (suc (frame_at fs (frame_at fs p).parent).depth))) (HasParent fs p)
+  parent_is p = and3_is (lt_is (frame_at fs p).parent (length fs)) (lives_is (frame_at fs p).parent) (eq_is (frame_at fs p).depth (suc (frame_at fs (frame_at fs p).parent).depth))
 
-  parents-is : Is (parentsLive fs) ((p : ℕ) → p < length fs → Lives fs p → (frameAt fs p).depth ≢ 0 → HasParent fs p)
-  unfolding parentsLive
-  parents-is = all-is (length fs) (λ p. both-imply (lives-is p) (not_is (eq_is (frameAt fs p).depth 0)) (parent_is p))
+  parents_is : Is (parents_live fs) ((p : ℕ) → p < length fs → Lives fs p → (frame_at fs p).depth ≢ 0 → HasParent fs p)
+  unfolding parents_live
+  parents_is = all_is (length fs) (λ p. both_imply (lives_is p) (not_is (eq_is (frame_at fs p).depth 0)) (parent_is p))
 
-  counts-is : Is (countsRight fs) ((p : ℕ) → p < length fs → Lives fs p → (frameAt fs p).outstanding ≡ children fs p)
-  unfolding countsRight
-  counts-is = all-is (length fs) (λ p. implies-is (lives-is p) (eq_is (frameAt fs p).outstanding (children fs p)))
+  counts_is : Is (counts_right fs) ((p : ℕ) → p < length fs → Lives fs p → (frame_at fs p).outstanding ≡ children fs p)
+  unfolding counts_right
+  counts_is = all_is (length fs) (λ p. implies_is (lives_is p) (eq_is (frame_at fs p).outstanding (children fs p)))
 
-  in_is : (p n : ℕ) → Is (eqb (inDeques ds p) n) (stands ds p ≡ n)
-  in_is p n = is-as (λ e. sym (stands-is ds p) ∙ e) (λ e. stands-is ds p ∙ e) (eq_is (inDeques ds p) n)
+  in_is : (p n : ℕ) → Is (eqb (in_deques ds p) n) (stands ds p ≡ n)
+  in_is p n = is_as (λ e. sym (stands_is ds p) ∙ e) (λ e. stands_is ds p ∙ e) (eq_is (in_deques ds p) n)
 
   -- where the frame at p stands
-  pub placed-is : (p : ℕ) → Is ((eqb (inDeques ds p) 1 && eqb (frameAt fs p).suspended 0) || (eqb (inDeques ds p) 0 && (eqb (frameAt fs p).suspended 1 && ltb 0 (children fs p)))) (Placed ds fs p)
-  placed-is p = or_is (and_is (in_is p 1) (eq_is (frameAt fs p).suspended 0)) (and3-is (in_is p 0) (eq_is (frameAt fs p).suspended 1) (lt-is 0 (children fs p)))
+  pub placed_is : (p : ℕ) → Is ((eqb (in_deques ds p) 1 && eqb (frame_at fs p).suspended 0) || (eqb (in_deques ds p) 0 && (eqb (frame_at fs p).suspended 1 && ltb 0 (children fs p)))) (Placed ds fs p)
+  placed_is p = or_is (and_is (in_is p 1) (eq_is (frame_at fs p).suspended 0)) (and3_is (in_is p 0) (eq_is (frame_at fs p).suspended 1) (lt_is 0 (children fs p)))
 
-  placedOnce-is : Is (placedOnce ds fs) ((p : ℕ) → p < length fs → Lives fs p → Placed ds fs p)
-  unfolding placedOnce
-  placedOnce-is = all-is (length fs) (λ p. implies-is (lives-is p) (placed-is p))
+  placed_once_is : Is (placed_once ds fs) ((p : ℕ) → p < length fs → Lives fs p → Placed ds fs p)
+  unfolding placed_once
+  placed_once_is = all_is (length fs) (λ p. implies_is (lives_is p) (placed_is p))
 
   -- the frame at p waits in its return only if it is suspended
-  pub returning_is : (p : ℕ) → Is (eqb (frameAt fs p).returning 0 || (eqb (frameAt fs p).returning 1 && eqb (frameAt fs p).suspended 1)) (Returning fs p)
-  returning_is p = or_is (eq_is (frameAt fs p).returning 0) (and_is (eq_is (frameAt fs p).returning 1) (eq_is (frameAt fs p).suspended 1))
+  pub returning_is : (p : ℕ) → Is (eqb (frame_at fs p).returning 0 || (eqb (frame_at fs p).returning 1 && eqb (frame_at fs p).suspended 1)) (Returning fs p)
+  returning_is p = or_is (eq_is (frame_at fs p).returning 0) (and_is (eq_is (frame_at fs p).returning 1) (eq_is (frame_at fs p).suspended 1))
 
-  returningRight-is : Is (returningRight fs) ((p : ℕ) → p < length fs → Lives fs p → Returning fs p)
-  unfolding returningRight
-  returningRight-is = all-is (length fs) (λ p. implies-is (lives-is p) (returning_is p))
+  returning_right_is : Is (returning_right fs) ((p : ℕ) → p < length fs → Lives fs p → Returning fs p)
+  unfolding returning_right
+  returning_right_is = all_is (length fs) (λ p. implies_is (lives_is p) (returning_is p))
 
   -- R-5: the links go through the live children of the frame at q, each once
-  pub siblings-is : length fs ≤ maxPlaces → (q : ℕ) → Is (siblingsLinked fs q) (Siblings fs q)
-  siblings-is few q = record { fact = (linked-is fs q few).0; test = (linked-is fs q few).1 }
+  pub siblings_is : length fs ≤ max_places → (q : ℕ) → Is (siblings_linked fs q) (Siblings fs q)
+  siblings_is few q = record { fact = (linked_is fs q few).0; test = (linked_is fs q few).1 }
 
-  linksRight-is : length fs ≤ maxPlaces → Is (linksRight fs) (((q : ℕ) → q < length fs → Lives fs q → Siblings fs q) × ((p : ℕ) → p < length fs → Lives fs p → (frameAt fs p).depth ≡ 0 → younger fs p ≡ none))
-  unfolding linksRight
-  linksRight-is few =
-      and_is (all-is (length fs) (λ q. implies-is (lives-is q) (siblings-is few q))) (all-is (length fs) (λ p. both-imply (lives-is p) (eq_is (frameAt fs p).depth 0) (eq_is (younger fs p) none)))
+  links_right_is : length fs ≤ max_places → Is (links_right fs) (((q : ℕ) → q < length fs → Lives fs q → Siblings fs q) × ((p : ℕ) → p < length fs → Lives fs p → (frame_at fs p).depth ≡ 0 → younger fs p ≡ none))
+  unfolding links_right
+  links_right_is few =
+      and_is (all_is (length fs) (λ q. implies_is (lives_is q) (siblings_is few q))) (all_is (length fs) (λ p. both_imply (lives_is p) (eq_is (frame_at fs p).depth 0) (eq_is (younger fs p) none)))
 
   -- the frame at place k of worker w's deque lives
-  pub hold-is : (w k : ℕ) → Is (ltb (place ds w k) (length fs) && lives fs (place ds w k)) ((place ds w k < length fs) × Lives fs (place ds w k))
-  hold-is w k = and_is (lt-is (place ds w k) (length fs)) (lives-is (place ds w k))
+  pub hold_is : (w k : ℕ) → Is (ltb (place ds w k) (length fs) && lives fs (place ds w k)) ((place ds w k < length fs) × Lives fs (place ds w k))
+  hold_is w k = and_is (lt_is (place ds w k) (length fs)) (lives_is (place ds w k))
 
-  holdLive-is : Is (holdLive ds fs) ((w : ℕ) → w < maxWorkers → (k : ℕ) → k < size ds w → (place ds w k < length fs) × Lives fs (place ds w k))
-  unfolding holdLive
-  holdLive-is = all-is maxWorkers (λ w. all-is (size ds w) (hold-is w))
+  hold_live_is : Is (hold_live ds fs) ((w : ℕ) → w < max_workers → (k : ℕ) → k < size ds w → (place ds w k < length fs) × Lives fs (place ds w k))
+  unfolding hold_live
+  hold_live_is = all_is max_workers (λ w. all_is (size ds w) (hold_is w))
 
-  pub absent-is : (workers w : ℕ) → Is (ltb w workers || eqb (size ds w) 0) (workers ≤ w → size ds w ≡ 0)
-  absent-is workers w = from_is w workers (eq_is (size ds w) 0)
+  pub absent_is : (workers w : ℕ) → Is (ltb w workers || eqb (size ds w) 0) (workers ≤ w → size ds w ≡ 0)
+  absent_is workers w = from_is w workers (eq_is (size ds w) 0)
 
-  absentEmpty-is : (workers : ℕ) → Is (absentEmpty workers ds) ((w : ℕ) → w < maxWorkers → workers ≤ w → size ds w ≡ 0)
-  unfolding absentEmpty
-  absentEmpty-is workers = all-is maxWorkers (absent-is workers)
+  absent_empty_is : (workers : ℕ) → Is (absent_empty workers ds) ((w : ℕ) → w < max_workers → workers ≤ w → size ds w ≡ 0)
+  unfolding absent_empty
+  absent_empty_is workers = all_is max_workers (absent_is workers)
 
-  pub zeros-is : (w : ℕ) → Is (all dequePlaces (λ k. ltb k (size ds w) || eqb (place ds w k) 0)) ((k : ℕ) → k < dequePlaces → size ds w ≤ k → place ds w k ≡ 0)
-  zeros-is w = all-is dequePlaces (λ k. from_is k (size ds w) (eq_is (place ds w k) 0))
+  pub zeros_is : (w : ℕ) → Is (all deque_places (λ k. ltb k (size ds w) || eqb (place ds w k) 0)) ((k : ℕ) → k < deque_places → size ds w ≤ k → place ds w k ≡ 0)
+  zeros_is w = all_is deque_places (λ k. from_is k (size ds w) (eq_is (place ds w k) 0))
 
-  restZero-is : Is (restZero ds fs) ((w : ℕ) → w < maxWorkers → (size ds w ≤ length fs) × ((k : ℕ) → k < dequePlaces → size ds w ≤ k → place ds w k ≡ 0))
-  unfolding restZero
-  restZero-is = all-is maxWorkers (λ w. and_is (le_is (size ds w) (length fs)) (zeros-is w))
+  rest_zero_is : Is (rest_zero ds fs) ((w : ℕ) → w < max_workers → (size ds w ≤ length fs) × ((k : ℕ) → k < deque_places → size ds w ≤ k → place ds w k ≡ 0))
+  unfolding rest_zero
+  rest_zero_is = all_is max_workers (λ w. and_is (le_is (size ds w) (length fs)) (zeros_is w))
 
-  above-is : Is (linked ds fs) ((w : ℕ) → w < maxWorkers → (k : ℕ) → suc k < size ds w → (frameAt fs (place ds w (suc k))).parent ≡ place ds w k)
+  above_is : Is (linked ds fs) ((w : ℕ) → w < max_workers → (k : ℕ) → suc k < size ds w → (frame_at fs (place ds w (suc k))).parent ≡ place ds w k)
   unfolding linked
-  above-is = all-is maxWorkers (λ w. all_but_last (size ds w) (λ k. eq_is (frameAt fs (place ds w (suc k))).parent (place ds w k)))
+  above_is = all_is max_workers (λ w. all_but_last (size ds w) (λ k. eq_is (frame_at fs (place ds w (suc k))).parent (place ds w k)))
 
-  onlyBelow-is : Is (onlyBelow ds fs) ((w : ℕ) → w < maxWorkers → (k : ℕ) → suc k < size ds w → (c : ℕ) → c < length fs → Lives fs c → (frameAt fs c).parent ≡ place ds w (suc k)
+  only_below_is : Is (only_below ds fs) ((w : ℕ) → w < max_workers → (k : ℕ) → suc k < size ds w → (c : ℕ) → c < length fs → Lives fs c → (frame_at fs c).parent ≡ place ds w (suc k)
       → (suc (suc k) < size ds w) × (c ≡ place ds w (suc (suc k))))
-  unfolding onlyBelow
-  onlyBelow-is =
-      all-is maxWorkers (λ w. all_but_last (size ds w) (λ k. all-is (length fs) (λ c. both-imply (lives-is c) (eq_is (frameAt fs c).parent (place ds w (suc k)))
-      (and_is (lt-is (suc (suc k)) (size ds w)) (eq_is c (place ds w (suc (suc k))))))))
+  unfolding only_below
+  only_below_is =
+      all_is max_workers (λ w. all_but_last (size ds w) (λ k. all_is (length fs) (λ c. both_imply (lives_is c) (eq_is (frame_at fs c).parent (place ds w (suc k)))
+      (and_is (lt_is (suc (suc k)) (size ds w)) (eq_is c (place ds w (suc (suc k))))))))
 
 -- ---- free places
 
-madeView : ℕ → ℕ → ℕ → ℕ → View
-madeView a b c d = record { sum = record { value = a }; min = record { value = b }; affine = record { multiplier = c; addend = d } }
+made_view : ℕ → ℕ → ℕ → ℕ → View
+made_view a b c d = record { sum = record { value = a }; min = record { value = b }; affine = record { multiplier = c; addend = d } }
 
 made : ℕ → ℕ → ℕ → ℕ → ℕ → ℕ → ℕ → View → ℕ → Frame
 made l p d o s r b v y = record { live = l; parent = p; depth = d; outstanding = o; suspended = s; root = r; returning = b; view = v; younger = y }
 
-view-is : (v : View) → Is (viewZero v) (v ≡ zeroView)
-unfolding madeView
-view-is v =
-    is-as (λ h. (let g : madeView v.sum.value v.min.value v.affine.multiplier v.affine.addend ≡ madeView 0 0 0 0 = rw (h.0, h.1.0, h.1.1.0, h.1.1.1) in g))
+view_is : (v : View) → Is (view_zero v) (v ≡ zero_view)
+unfolding made_view
+view_is v =
+    is_as (λ h. (let g : made_view v.sum.value v.min.value v.affine.multiplier v.affine.addend ≡ made_view 0 0 0 0 = rw (h.0, h.1.0, h.1.1.0, h.1.1.1) in g))
     (λ e. (ap (λ (w : View). w.sum.value) e, (ap (λ (w : View). w.min.value) e, (ap (λ (w : View). w.affine.multiplier) e, ap (λ (w : View). w.affine.addend) e))))
     (and_is (eq_is v.sum.value 0) (and_is (eq_is v.min.value 0) (and_is (eq_is v.affine.multiplier 0) (eq_is v.affine.addend 0))))
 
@@ -160,18 +160,18 @@ pub record Zero (f : Frame) : Type 0 where
   pub suspended : f.suspended ≡ 0
   pub root : f.root ≡ 0
   pub returning : f.returning ≡ 0
-  pub view : f.view ≡ zeroView
+  pub view : f.view ≡ zero_view
   pub younger : f.younger ≡ 0
 
-free-frame : (f : Frame) → Zero f → f ≡ freePlace f.parent
+free_frame : (f : Frame) → Zero f → f ≡ free_record f.parent
 unfolding made
-free-frame f h =
-    let g : made f.live f.parent f.depth f.outstanding f.suspended f.root f.returning f.view f.younger ≡ made 0 f.parent 0 0 0 0 0 zeroView 0 =
+free_frame f h =
+    let g : made f.live f.parent f.depth f.outstanding f.suspended f.root f.returning f.view f.younger ≡ made 0 f.parent 0 0 0 0 0 zero_view 0 =
     rw (h.live, h.depth, h.outstanding, h.suspended, h.root, h.returning, h.view, h.younger) in
     g
 
-frame-free : (f : Frame) (q : ℕ) → f ≡ freePlace q → Zero f
-frame-free f q e = record {
+frame_free : (f : Frame) (q : ℕ) → f ≡ free_record q → Zero f
+frame_free f q e = record {
   live = ap (λ (g : Frame). g.live) e;
   depth = ap (λ (g : Frame). g.depth) e;
   outstanding = ap (λ (g : Frame). g.outstanding) e;
@@ -183,15 +183,15 @@ frame-free f q e = record {
 }
 
 abbrev pub FreeAt : List Frame → ℕ → Type 0
-FreeAt fs p = (q : ℕ) × (frameAt fs p ≡ freePlace q)
+FreeAt fs p = (q : ℕ) × (frame_at fs p ≡ free_record q)
 
-pub free-is : (fs : List Frame) (p : ℕ) → Is (placeFree fs p) (FreeAt fs p)
-free-is fs p =
-    let f = frameAt fs p in
-    is-as
+pub free_is : (fs : List Frame) (p : ℕ) → Is (place_free fs p) (FreeAt fs p)
+free_is fs p =
+    let f = frame_at fs p in
+    is_as
     (λ h. (
       f.parent,
-      free-frame f (record {
+      free_frame f (record {
         live = h.0;
         depth = h.1.0;
         outstanding = h.1.1.0;
@@ -202,93 +202,93 @@ free-is fs p =
         younger = h.1.1.1.1.1.1.1;
       }),
     ))
-    (λ h. (let z = frame-free f h.0 h.1 in (z.live, (z.depth, (z.outstanding, (z.suspended, (z.root, (z.returning, (z.view, z.younger)))))))))
+    (λ h. (let z = frame_free f h.0 h.1 in (z.live, (z.depth, (z.outstanding, (z.suspended, (z.root, (z.returning, (z.view, z.younger)))))))))
     (and_is (eq_is f.live 0) (and_is (eq_is f.depth 0) (and_is (eq_is f.outstanding 0) (and_is (eq_is f.suspended 0)
-    (and_is (eq_is f.root 0) (and_is (eq_is f.returning 0) (and_is (view-is f.view) (eq_is f.younger 0))))))))
+    (and_is (eq_is f.root 0) (and_is (eq_is f.returning 0) (and_is (view_is f.view) (eq_is f.younger 0))))))))
 
 module _ (fs : List Frame) (first : ℕ) where
   -- p lives and is not among gs, or it is free and there once
-  abbrev eachTest : List ℕ → ℕ → Bool
-  eachTest gs p = (lives fs p && eqb (count p gs) 0) || (placeFree fs p && eqb (count p gs) 1)
+  abbrev each_test : List ℕ → ℕ → Bool
+  each_test gs p = (lives fs p && eqb (count p gs) 0) || (place_free fs p && eqb (count p gs) 1)
 
   abbrev pub EachPlace : List ℕ → ℕ → Type 0
   EachPlace gs p = (Lives fs p × (count p gs ≡ 0)) ⊎ (FreeAt fs p × (count p gs ≡ 1))
 
-  each-is : (gs : List ℕ) (p : ℕ) → Is (eachTest gs p) (EachPlace gs p)
-  each-is gs p = or_is (and_is (eq_is (frameAt fs p).live 1) (eq_is (count p gs) 0)) (and_is (free-is fs p) (eq_is (count p gs) 1))
+  each_is : (gs : List ℕ) (p : ℕ) → Is (each_test gs p) (EachPlace gs p)
+  each_is gs p = or_is (and_is (eq_is (frame_at fs p).live 1) (eq_is (count p gs) 0)) (and_is (free_is fs p) (eq_is (count p gs) 1))
 
-  each-once : (gs : List ℕ) (p : ℕ) → EachPlace gs p → count p gs ≤ 1
-  each-once gs p (inl h) = omega (arith, h.1)
-  each-once gs p (inr h) = omega (arith, h.1)
+  each_once : (gs : List ℕ) (p : ℕ) → EachPlace gs p → count p gs ≤ 1
+  each_once gs p (inl h) = omega (arith, h.1)
+  each_once gs p (inr h) = omega (arith, h.1)
 
   -- the chain that the check follows is the list
-  pub places-are : length fs ≤ maxPlaces → (F : PlacesFree fs first) → freePlaces fs first ≡ F.gs
-  places-are few F = sound-follow (λ p. (frameAt fs p).parent) (length fs) (omega (arith, few)) first F.gs F.chain (λ p b. each-once F.gs p (F.each p b))
+  pub places_are : length fs ≤ max_places → (F : PlacesFree fs first) → free_places fs first ≡ F.gs
+  places_are few F = sound-follow (λ p. (frame_at fs p).parent) (length fs) (omega (arith, few)) first F.gs F.chain (λ p b. each_once F.gs p (F.each p b))
 
   abbrev Chained : Type 0
-  Chained = (below (length fs) (freePlaces fs first) ≡ true) × ((p : ℕ) → p < length fs → EachPlace (freePlaces fs first) p)
+  Chained = (below (length fs) (free_places fs first) ≡ true) × ((p : ℕ) → p < length fs → EachPlace (free_places fs first) p)
 
   pub places_of : Chained → PlacesFree fs first
   places_of h =
-      record { gs = freePlaces fs first; chain = follow-sound (λ p. (frameAt fs p).parent) (length fs) first h.0 (λ p c. each-once (freePlaces fs first) p (h.1 p c)); each = h.1 }
+      record { gs = free_places fs first; chain = follow-sound (λ p. (frame_at fs p).parent) (length fs) first h.0 (λ p c. each_once (free_places fs first) p (h.1 p c)); each = h.1 }
 
-  pub of_places : length fs ≤ maxPlaces → PlacesFree fs first → Chained
+  pub of_places : length fs ≤ max_places → PlacesFree fs first → Chained
   of_places few F =
-      subst (λ xs. (below (length fs) xs ≡ true) × ((p : ℕ) → p < length fs → EachPlace xs p)) (sym (places-are few F))
-      (chain-below (λ p. (frameAt fs p).parent) (length fs) first F.gs F.chain, F.each)
+      subst (λ xs. (below (length fs) xs ≡ true) × ((p : ℕ) → p < length fs → EachPlace xs p)) (sym (places_are few F))
+      (chain_below (λ p. (frame_at fs p).parent) (length fs) first F.gs F.chain, F.each)
 
-  places_is : length fs ≤ maxPlaces → Is (placesFree fs first) (PlacesFree fs first)
-  unfolding placesFree
-  places_is few = is-as places_of (of_places few) (and_is (true-is (below (length fs) (freePlaces fs first))) (all-is (length fs) (each-is (freePlaces fs first))))
+  places_is : length fs ≤ max_places → Is (places_free fs first) (PlacesFree fs first)
+  unfolding places_free
+  places_is few = is_as places_of (of_places few) (and_is (true_is (below (length fs) (free_places fs first))) (all_is (length fs) (each_is (free_places fs first))))
 
 -- ---- all of it
 
-module _ (workers first : ℕ) (ds : List ℕ) (fs : List Frame) (few : length fs ≤ maxPlaces) where
-  pub frames-facts : framesSound workers first ds fs ≡ true → FramesFacts workers first ds fs
-  unfolding framesSound
-  frames-facts e =
-      let r = row_of (frameSentences workers first ds fs) e in
+module _ (workers first : ℕ) (ds : List ℕ) (fs : List Frame) (few : length fs ≤ max_places) where
+  pub frames_facts : frames_sound workers first ds fs ≡ true → FramesFacts workers first ds fs
+  unfolding frames_sound
+  frames_facts e =
+      let r = row_of (frame_sentences workers first ds fs) e in
       record {
-        one-main = (oneMain-is ds fs).fact (r 0);
-        parents = (parents-is ds fs).fact (r 1);
-        outstanding = (counts-is ds fs).fact (r 2);
-        placed = (placedOnce-is ds fs).fact (r 3);
-        returning = (returningRight-is ds fs).fact (r 4);
-        siblings = ((linksRight-is ds fs few).fact (r 5)).0;
-        main-link = ((linksRight-is ds fs few).fact (r 5)).1;
-        hold-live = (holdLive-is ds fs).fact (r 6);
-        absent = (absentEmpty-is ds fs workers).fact (r 7);
-        within = λ w b. ((restZero-is ds fs).fact (r 8) w b).0;
-        zeros = λ w b k l c. ((restZero-is ds fs).fact (r 8) w b).1 k c l;
-        child-of-above = (above-is ds fs).fact (r 9);
-        only_below = (onlyBelow-is ds fs).fact (r 10);
+        one_main_lem = (one_main_is ds fs).fact (r 0);
+        parents = (parents_is ds fs).fact (r 1);
+        outstanding = (counts_is ds fs).fact (r 2);
+        placed = (placed_once_is ds fs).fact (r 3);
+        returning = (returning_right_is ds fs).fact (r 4);
+        siblings = ((links_right_is ds fs few).fact (r 5)).0;
+        main-link = ((links_right_is ds fs few).fact (r 5)).1;
+        hold_live_lem = (hold_live_is ds fs).fact (r 6);
+        absent = (absent_empty_is ds fs workers).fact (r 7);
+        within = λ w b. ((rest_zero_is ds fs).fact (r 8) w b).0;
+        zeros = λ w b k l c. ((rest_zero_is ds fs).fact (r 8) w b).1 k c l;
+        child_of_above = (above_is ds fs).fact (r 9);
+        only_below = (only_below_is ds fs).fact (r 10);
         places = (places_is fs first few).fact (r 11);
       }
 
-  pub facts-frames : FramesFacts workers first ds fs → framesSound workers first ds fs ≡ true
-  unfolding framesSound
-  facts-frames F = of-each (frameSentences workers first ds fs) (
-    (oneMain-is ds fs).test F.one-main,
+  pub facts_frames : FramesFacts workers first ds fs → frames_sound workers first ds fs ≡ true
+  unfolding frames_sound
+  facts_frames F = of_each (frame_sentences workers first ds fs) (
+    (one_main_is ds fs).test F.one_main_lem,
     (
-      (parents-is ds fs).test F.parents,
+      (parents_is ds fs).test F.parents,
       (
-        (counts-is ds fs).test F.outstanding,
+        (counts_is ds fs).test F.outstanding,
         (
-          (placedOnce-is ds fs).test F.placed,
+          (placed_once_is ds fs).test F.placed,
           (
-            (returningRight-is ds fs).test F.returning,
+            (returning_right_is ds fs).test F.returning,
             (
-              (linksRight-is ds fs few).test (F.siblings, F.main-link),
+              (links_right_is ds fs few).test (F.siblings, F.main-link),
               (
-                (holdLive-is ds fs).test F.hold-live,
+                (hold_live_is ds fs).test F.hold_live_lem,
                 (
-                  (absentEmpty-is ds fs workers).test F.absent,
+                  (absent_empty_is ds fs workers).test F.absent,
                   (
-                    (restZero-is ds fs).test (λ w b. (F.within w b, λ k c l. F.zeros w b k l c)),
+                    (rest_zero_is ds fs).test (λ w b. (F.within w b, λ k c l. F.zeros w b k l c)),
                     (
-                      (above-is ds fs).test F.child-of-above,
+                      (above_is ds fs).test F.child_of_above,
                       (
-                        (onlyBelow-is ds fs).test F.only_below,
+                        (only_below_is ds fs).test F.only_below,
                         (
                           (places_is fs first few).test F.places,
                           tt,
@@ -308,43 +308,43 @@ module _ (workers first : ℕ) (ds : List ℕ) (fs : List Frame) (few : length f
 -- ---- numbers, and the whole
 
 module _ (L : Layout) (s : Numbers) (fs : List Frame) (ws : List ℕ) where
-  pub numbers-facts : numbersSound L s fs ws ≡ true → NumbersFacts L s fs ws
-  unfolding numbersSound
-  numbers-facts e =
-      let r = row_of (numberSentences L s fs ws) e in
+  pub numbers_facts : numbers_sound L s fs ws ≡ true → NumbersFacts L s fs ws
+  unfolding numbers_sound
+  numbers_facts e =
+      let r = row_of (number_sentences L s fs ws) e in
       record {
-        workers-positive = (le_is _ _).fact (r 0);
-        workers-le = (le_is _ _).fact (r 1);
-        splitters-positive = (le_is _ _).fact (r 2);
-        splitters-le = (le_is _ _).fact (r 3);
+        workers_positive = (le_is _ _).fact (r 0);
+        workers_le = (le_is _ _).fact (r 1);
+        splitters_positive = (le_is _ _).fact (r 2);
+        splitters_le = (le_is _ _).fact (r 3);
         enough = (le_is _ _).fact (r 4);
-        nodes-le = (le_is _ _).fact (r 5);
+        nodes_le = (le_is _ _).fact (r 5);
         room = (le_is _ _).fact (r 6);
-        places-positive = (le_is _ _).fact (r 7);
-        places-le = (le_is _ _).fact (r 8);
+        places_positive = (le_is _ _).fact (r 7);
+        places_le = (le_is _ _).fact (r 8);
         table = (eq_is _ _).fact (r 9);
       }
 
-  pub facts-numbers : NumbersFacts L s fs ws → numbersSound L s fs ws ≡ true
-  unfolding numbersSound
-  facts-numbers F = of-each (numberSentences L s fs ws) (
-    (le_is _ _).test F.workers-positive,
+  pub facts_numbers : NumbersFacts L s fs ws → numbers_sound L s fs ws ≡ true
+  unfolding numbers_sound
+  facts_numbers F = of_each (number_sentences L s fs ws) (
+    (le_is _ _).test F.workers_positive,
     (
-      (le_is _ _).test F.workers-le,
+      (le_is _ _).test F.workers_le,
       (
-        (le_is _ _).test F.splitters-positive,
+        (le_is _ _).test F.splitters_positive,
         (
-          (le_is _ _).test F.splitters-le,
+          (le_is _ _).test F.splitters_le,
           (
             (le_is _ _).test F.enough,
             (
-              (le_is _ _).test F.nodes-le,
+              (le_is _ _).test F.nodes_le,
               (
                 (le_is _ _).test F.room,
                 (
-                  (le_is _ _).test F.places-positive,
+                  (le_is _ _).test F.places_positive,
                   (
-                    (le_is _ _).test F.places-le,
+                    (le_is _ _).test F.places_le,
                     (
                       (eq_is _ _).test F.table,
                       tt,
@@ -360,34 +360,34 @@ module _ (L : Layout) (s : Numbers) (fs : List Frame) (ws : List ℕ) where
   )
 
 -- R-5: the totals
-totals-is : (ts : List ℕ) (fs : List Frame) → Is (totalsRight ts fs) (TotalsZero ts fs)
-unfolding totalsRight
-totals-is ts fs =
-    is-as (λ h p b l. h (p, b, l)) (λ h e. h e.0 e.1 e.2)
-    (implies-is (some_is (length fs) (λ p. eq_is (frameAt fs p).live 1)) (all-is totalCount (λ i. eq_is (get_or ts i 0) 0)))
+totals_is : (ts : List ℕ) (fs : List Frame) → Is (totals_right ts fs) (TotalsZero ts fs)
+unfolding totals_right
+totals_is ts fs =
+    is_as (λ h p b l. h (p, b, l)) (λ h e. h e.0 e.1 e.2)
+    (implies_is (some_is (length fs) (λ p. eq_is (frame_at fs p).live 1)) (all_is total_count (λ i. eq_is (get_or ts i 0) 0)))
 
 module _ (L : Layout) (s : Numbers) (ts ds : List ℕ) (fs : List Frame) (ws : List ℕ) where
-  pub sound-facts : sound L s ts ds fs ws ≡ true → SoundFacts L s ts ds fs ws
+  pub sound_facts : sound L s ts ds fs ws ≡ true → SoundFacts L s ts ds fs ws
   unfolding sound
-  sound-facts e =
-      let r = row_of (soundParts L s ts ds fs ws) e in
-      let N = numbers-facts L s fs ws (r 0) in
-      record { numbers = N; totals = (totals-is ts fs).fact (r 1); frames = frames-facts s.workers s.free_place ds fs (few-places N) (r 2); pool = r 3 }
+  sound_facts e =
+      let r = row_of (sound_parts L s ts ds fs ws) e in
+      let N = numbers_facts L s fs ws (r 0) in
+      record { numbers = N; totals = (totals_is ts fs).fact (r 1); frames = frames_facts s.workers s.free_place ds fs (few_places N) (r 2); pool = r 3 }
 
-  pub facts-sound : SoundFacts L s ts ds fs ws → sound L s ts ds fs ws ≡ true
+  pub facts_sound : SoundFacts L s ts ds fs ws → sound L s ts ds fs ws ≡ true
   unfolding sound
-  facts-sound F =
-      of-each (soundParts L s ts ds fs ws) (
-        facts-numbers L s fs ws F.numbers,
-        ((totals-is ts fs).test F.totals, (facts-frames s.workers s.free_place ds fs (few-places F.numbers) F.frames, (F.pool, tt))),
+  facts_sound F =
+      of_each (sound_parts L s ts ds fs ws) (
+        facts_numbers L s fs ws F.numbers,
+        ((totals_is ts fs).test F.totals, (facts_frames s.workers s.free_place ds fs (few_places F.numbers) F.frames, (F.pool, tt))),
       )
 
   -- the four parts are all the sentences
-  pub sound-is-all : sound L s ts ds fs ws ≡ all_of (sentences L s ts ds fs ws)
-  unfolding sound numbersSound framesSound poolSound
-  sound-is-all =
-      let nu = numberSentences L s fs ws in
-      let to = totalSentences ts fs in
-      let fr = frameSentences s.workers s.free_place ds fs in
-      let po = L.sentences s.splitters s.nodes ws s.free_node (liveRoots fs) in
-      sym (allOf-append nu (to ++ (fr ++ po)) ∙ ap (λ b. all_of nu && b) (allOf-append to (fr ++ po) ∙ ap (λ b. totalsRight ts fs && b) (allOf-append fr po)))
+  pub sound_is_all : sound L s ts ds fs ws ≡ all_of (sentences L s ts ds fs ws)
+  unfolding sound numbers_sound frames_sound pool_sound
+  sound_is_all =
+      let nu = number_sentences L s fs ws in
+      let to = total_sentences ts fs in
+      let fr = frame_sentences s.workers s.free_place ds fs in
+      let po = L.sentences s.splitters s.nodes ws s.free_node (live_roots fs) in
+      sym (all_of-append nu (to ++ (fr ++ po)) ∙ ap (λ b. all_of nu && b) (all_of-append to (fr ++ po) ∙ ap (λ b. totals_right ts fs && b) (all_of-append fr po)))

@@ -33,13 +33,13 @@ use denote.Triple.Call.{calls_at, calls_at_last}
 use denote.Triple.Clauses.{ensured, lasts}
 use denote.Triple.Walked.{says}
 use Prim.Native.Nat.{min}
-use Rattle.model.specs.Record.{recordOf, decodeAt}
-use Rattle.frames.proofs.Lent.{at-list, Mine, Yours, Lent, Shown, lend, home, show, back, give}
+use Rattle.model.specs.Record.{record_of, decode_at}
+use Rattle.frames.proofs.Lent.{at_list, Mine, Yours, Lent, Shown, lend, home, show, back, give}
 use lib.ListN.{replicate}
 use types.Part.{rep}
 use denote.Plain.{uint_vals, uint_Lawful}
 use denote.Array.{Array, array_val, array_vals, Array-Tells, Array-Makes}
-use Rattle.frames.proofs.Local.{listVal, array-is, array-fits, open-local, shut-local}
+use Rattle.frames.proofs.Local.{list_val, array_is, array_fits, open_local, shut_local}
 use Rattle.splitter.specs.contracts.calls.record_of as callee'
 
 module _ {M : Type 1} {𝓤 : Ura M} (𝓛 : Logic 𝓤) (mem : Memory → SProp 𝓤) (run : Routine → Fun 𝓤) where
@@ -59,13 +59,13 @@ module _ {M : Type 1} {𝓤 : Ura M} {𝓛 : Logic 𝓤} {K : Type 0} (mem : Mem
 
   pub step : K → FmC 𝓤 H 𝓛.laws C → Triple 𝓤 (C name') (Asked 𝓛 mem run) → (kind : ℕ) (worker : ℕ) (field : ℕ) (value : ℕ) → (kind-good : kind < 2 ^ 32) → (worker-good : worker < 2 ^ 32) → (field-good : field < 2 ^ 32) → (value-good : value < 2 ^ 32) →
       (Opds K 𝓛 (raw ((Asked 𝓛 mem run).pre (to_step 𝓛 mem run kind worker field value)) ∷ Γ) E opds' (vint w32 kind ∷ vint w32 worker ∷ vint w32 field ∷ vint w32 value ∷ [])) →
-      ((res' : (List ℕ)) → Is (Array u8 8) res' (listVal (uint_vals w8) res' ∷ []) → decodeAt res' 0 ≡ recordOf (min kind 255) (min worker 255) (min field 65535) value → Seq K 𝓛 (Γ) (lands C Λ E dest' (listVal (uint_vals w8) res') rest' post')) →
+      ((res' : (List ℕ)) → Is (Array u8 8) res' (list_val (uint_vals w8) res' ∷ []) → decode_at res' 0 ≡ record_of (min kind 255) (min worker 255) (min field 65535) value → Seq K 𝓛 (Γ) (lands C Λ E dest' (list_val (uint_vals w8) res') rest' post')) →
       Seq K 𝓛 (Γ) (runs C Λ E (seq (call name' opds' dest') rest') post')
   step t' fm' known' kind worker field value kind-good worker-good field-good value-good os' k' =
       nothing t' $ use1 𝓛 (raw ((Asked 𝓛 mem run).pre (to_step 𝓛 mem run kind worker field value))) (goes_step 𝓛 mem run kind worker field value kind-good worker-good field-good value-good) $
       calls_at t' fm' (Asked 𝓛 mem run) known' (to_step 𝓛 mem run kind worker field value) (os') (λ w'.
       use1 𝓛 (later (some (λ (res' : (List ℕ)). (‵ ftrue ⊛ ‵ ((Array u8 8).own_val res' (w' ∷ []))) ⊛ raw (ensured 𝓛 callee'.ended (callee'.clauses 𝓛 mem run) tt (kind, (worker, (field, (value, tt)))) tt res')))) (id⊢ 𝓤 _) $ await t' tt $ pick t' (λ res'. split t' $ move t' (1 ∷ []) $
-      use1 𝓛 (some (λ (zs' : Unit {0} × (Unit {0} × (Unit {0} × (Unit {0} × Unit {0})))). ‵ (lasts callee'.ended tt (kind, (worker, (field, (value, tt)))) zs') ⊛ raw (fact 𝓤 (decodeAt res' 0 ≡ recordOf (min kind 255) (min worker 255) (min field 65535) value)))) (id⊢ 𝓤 _) $ pick t' (λ zs'. split t' $ move t' (1 ∷ []) $ heard t' (decodeAt res' 0 ≡ recordOf (min kind 255) (min worker 255) (min field 65535) value) (λ e'.
+      use1 𝓛 (some (λ (zs' : Unit {0} × (Unit {0} × (Unit {0} × (Unit {0} × Unit {0})))). ‵ (lasts callee'.ended tt (kind, (worker, (field, (value, tt)))) zs') ⊛ raw (fact 𝓤 (decode_at res' 0 ≡ record_of (min kind 255) (min worker 255) (min field 65535) value)))) (id⊢ 𝓤 _) $ pick t' (λ zs'. split t' $ move t' (1 ∷ []) $ heard t' (decode_at res' 0 ≡ record_of (min kind 255) (min worker 255) (min field 65535) value) (λ e'.
       fsplit t' $ drop t' $ fsplit t' $ drop t' $ fsplit t' $ drop t' $ fsplit t' $ drop t' $ drop t' $
       move t' (0 ∷ []) $ split t' $ move t' (1 ∷ []) $ peeks t' (Array u8 8) (Is (Array u8 8)) (shows 𝓛 (Array u8 8)) res' (w' ∷ []) (λ is'. drop t' $ drop t' $
       subst (λ (v' : Val). Seq K 𝓛 (Γ) (lands C Λ E dest' v' rest' post')) (sym (ap only (Array-Tells u8 (uint_vals w8) (uint_Tells w8) 8 res' _ is'))) (k' res' (subst (Is (Array u8 8) res') (Array-Tells u8 (uint_vals w8) (uint_Tells w8) 8 res' _ is') is') e'))))))

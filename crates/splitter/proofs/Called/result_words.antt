@@ -32,8 +32,8 @@ use denote.Triple.Statement.{Contract, Triple}
 use denote.Triple.Call.{calls_at, calls_at_last}
 use denote.Triple.Clauses.{ensured, lasts}
 use denote.Triple.Walked.{says}
-use Rattle.splitter.specs.OneRecord.{resultWords}
-use Rattle.frames.proofs.Lent.{at-list, Mine, Yours, Lent, Shown, lend, home, show, back, give}
+use Rattle.splitter.specs.OneRecord.{result_words}
+use Rattle.frames.proofs.Lent.{at_list, Mine, Yours, Lent, Shown, lend, home, show, back, give}
 use Rattle.splitter.specs.contracts.calls.result_words as callee'
 
 module _ {M : Type 1} {𝓤 : Ura M} (𝓛 : Logic 𝓤) (mem : Memory → SProp 𝓤) (run : Routine → Fun 𝓤) where
@@ -53,13 +53,13 @@ module _ {M : Type 1} {𝓤 : Ura M} {𝓛 : Logic 𝓤} {K : Type 0} (mem : Mem
 
   pub step : K → FmC 𝓤 H 𝓛.laws C → Triple 𝓤 (C name') (Asked 𝓛 mem run) → (refused : ℕ) (first : ℕ) (second : ℕ) → (refused-good : refused < 2 ^ 32) → (first_Good : first < 2 ^ 32) → (second-good : second < 2 ^ 32) →
       (Opds K 𝓛 (raw ((Asked 𝓛 mem run).pre (to_step 𝓛 mem run refused first second)) ∷ Γ) E opds' (vint w32 refused ∷ vint w32 first ∷ vint w32 second ∷ [])) →
-      ((res' : ℕ) → res' < 2 ^ 64 → res' ≡ resultWords refused first second → Seq K 𝓛 (Γ) (lands C Λ E dest' (vint w64 res') rest' post')) →
+      ((res' : ℕ) → res' < 2 ^ 64 → res' ≡ result_words refused first second → Seq K 𝓛 (Γ) (lands C Λ E dest' (vint w64 res') rest' post')) →
       Seq K 𝓛 (Γ) (runs C Λ E (seq (call name' opds' dest') rest') post')
   step t' fm' known' refused first second refused-good first_Good second-good os' k' =
       nothing t' $ use1 𝓛 (raw ((Asked 𝓛 mem run).pre (to_step 𝓛 mem run refused first second))) (goes_step 𝓛 mem run refused first second refused-good first_Good second-good) $
       calls_at t' fm' (Asked 𝓛 mem run) known' (to_step 𝓛 mem run refused first second) (os') (λ w'.
       use1 𝓛 (later (some (λ (res' : ℕ). (‵ ftrue ⊛ ‵ (u64.own_val res' (w' ∷ []))) ⊛ raw (ensured 𝓛 callee'.ended (callee'.clauses 𝓛 mem run) tt (refused, (first, (second, tt))) tt res')))) (id⊢ 𝓤 _) $ await t' tt $ pick t' (λ res'. split t' $ move t' (1 ∷ []) $
-      use1 𝓛 (some (λ (zs' : Unit {0} × (Unit {0} × (Unit {0} × Unit {0}))). ‵ (lasts callee'.ended tt (refused, (first, (second, tt))) zs') ⊛ raw (fact 𝓤 (res' ≡ resultWords refused first second)))) (id⊢ 𝓤 _) $ pick t' (λ zs'. split t' $ move t' (1 ∷ []) $ heard t' (res' ≡ resultWords refused first second) (λ e'.
+      use1 𝓛 (some (λ (zs' : Unit {0} × (Unit {0} × (Unit {0} × Unit {0}))). ‵ (lasts callee'.ended tt (refused, (first, (second, tt))) zs') ⊛ raw (fact 𝓤 (res' ≡ result_words refused first second)))) (id⊢ 𝓤 _) $ pick t' (λ zs'. split t' $ move t' (1 ∷ []) $ heard t' (res' ≡ result_words refused first second) (λ e'.
       fsplit t' $ drop t' $ fsplit t' $ drop t' $ fsplit t' $ drop t' $ drop t' $
       move t' (0 ∷ []) $ split t' $ move t' (1 ∷ []) $ peeks t' u64 (Is u64) (shows 𝓛 u64) res' (w' ∷ []) (λ is'. drop t' $ drop t' $
       subst (λ (v' : Val). Seq K 𝓛 (Γ) (lands C Λ E dest' v' rest' post')) (sym (ap only (uint_Tells w64 res' _ is'))) (k' res' is'.1 e'))))))

@@ -16,15 +16,15 @@ use Rattle.model.specs.declared.Step.{Step}
 use Rattle.model.specs.declared.Step.TheVariants.{Spawn, Return, Steal, Sync, Read, Write, Fold}
 use Rattle.model.specs.declared.Decoded.{Decoded}
 use Rattle.model.specs.declared.Decoded.TheVariants.{Valid, Invalid}
-use Rattle.model.specs.Steps.{firstTrue, reducers}
-use Rattle.model.specs.Record.{validIf, recordOf}
+use Rattle.model.specs.Steps.{first_true, reducers}
+use Rattle.model.specs.Record.{valid_if, record_of}
 use Rattle.semantics.specs.declared.Refusal.{Refusal}
 use Rattle.semantics.specs.declared.Refusal.TheVariants.{NoWorker, MainReturned, ThiefBusy, NoVictim, NoSplitter, NoReducer, Lengths}
-use Rattle.semantics.specs.Core.{Core, StepResult, noWorker, allIdle, idle, judged, actingTests, stepOn}
-use Rattle.semantics.specs.Entries.{State, numbersOf, totalsOf, core_of, isSound, checkedState, recordOn, OutsideResult, outsideDone, outsideRefused}
-use Rattle.semantics.specs.Remembering.{WithMemory, isAccepted, memoryAfter, memoryOver, fitsWith, rightMemory, withMemory, checkedWith, outsideWithMemory, outsideRemembering}
-use Rattle.semantics.specs.Theory.Refusals.{refusedBy}
-use Rattle.soundness.specs.Theory.Sentences.{sound-facts}
+use Rattle.semantics.specs.Core.{Core, StepResult, no_worker, all_idle, idle, judged, acting_tests, step_on}
+use Rattle.semantics.specs.Entries.{State, numbers_of, totals_of, core_of, is_sound, checked_state, record_on, OutsideResult, outside_done, outside_refused}
+use Rattle.semantics.specs.Remembering.{WithMemory, is_accepted, memory_after, memory_over, fits_with, right_memory, with_memory, checked_with, outside_with_memory, outside_remembering}
+use Rattle.semantics.specs.Theory.Refusals.{refused_by}
+use Rattle.soundness.specs.Theory.Sentences.{sound_facts}
 use Rattle.soundness.specs.Layout.{two_words}
 
 -- ---- numbers
@@ -38,84 +38,84 @@ same_test x m i h = elim (ℕ_discrete x i) [
 
 -- ---- the steps of a core
 
-abbrev workerOf : Step → ℕ
-workerOf (Spawn w) = w
-workerOf (Return w) = w
-workerOf (Steal w v) = w
-workerOf (Sync w) = w
-workerOf (Read w x) = w
-workerOf (Write w x v) = w
-workerOf (Fold w r v) = w
+abbrev worker_of : Step → ℕ
+worker_of (Spawn w) = w
+worker_of (Return w) = w
+worker_of (Steal w v) = w
+worker_of (Sync w) = w
+worker_of (Read w x) = w
+worker_of (Write w x v) = w
+worker_of (Fold w r v) = w
 
--- the choices of recordOf
+-- the choices of record_of
 abbrev kinds : ℕ → ℕ → ℕ → ℕ → List (Bool × Decoded)
 kinds kind w x v =
-    (eqb kind 1, validIf (eqb x 0 && eqb v 0) (Spawn w))
-    ∷ (eqb kind 2, validIf (eqb x 0 && eqb v 0) (Return w))
-    ∷ (eqb kind 3, validIf (eqb v 0) (Steal w x))
-    ∷ (eqb kind 4, validIf (eqb x 0 && eqb v 0) (Sync w))
-    ∷ (eqb kind 5, validIf (eqb v 0) (Read w x))
+    (eqb kind 1, valid_if (eqb x 0 && eqb v 0) (Spawn w))
+    ∷ (eqb kind 2, valid_if (eqb x 0 && eqb v 0) (Return w))
+    ∷ (eqb kind 3, valid_if (eqb v 0) (Steal w x))
+    ∷ (eqb kind 4, valid_if (eqb x 0 && eqb v 0) (Sync w))
+    ∷ (eqb kind 5, valid_if (eqb v 0) (Read w x))
     ∷ (eqb kind 6, Valid (Write w x v))
     ∷ (eqb kind 7, Valid (Fold w x v))
     ∷ []
 
 module _ (c : Core) where
-  no-worker : (st : Step) → ltb (workerOf st) c.head.numbers.workers ≡ false → stepOn two_words c st ≡ refusedBy c NoWorker
-  unfolding stepOn
-  no-worker (Spawn w) e = rw e
-  no-worker (Return w) e = rw e
-  no-worker (Steal w v) e = rw e
-  no-worker (Sync w) e = rw e
-  no-worker (Read w x) e = rw e
-  no-worker (Write w x v) e = rw e
-  no-worker (Fold w r v) e = rw e
+  no_worker_lem : (st : Step) → ltb (worker_of st) c.head.numbers.workers ≡ false → step_on two_words c st ≡ refused_by c NoWorker
+  unfolding step_on
+  no_worker_lem (Spawn w) e = rw e
+  no_worker_lem (Return w) e = rw e
+  no_worker_lem (Steal w v) e = rw e
+  no_worker_lem (Sync w) e = rw e
+  no_worker_lem (Read w x) e = rw e
+  no_worker_lem (Write w x v) e = rw e
+  no_worker_lem (Fold w r v) e = rw e
 
-  no-victim : (w v : ℕ) → ltb v c.head.numbers.workers ≡ false
-      → stepOn two_words c (Steal w v) ≡ judged ((noWorker c w, NoWorker) ∷ (allIdle c, MainReturned) ∷ (not (idle c w), ThiefBusy) ∷ []) c (refusedBy c NoVictim)
-  unfolding stepOn
-  no-victim w v e = rw e
+  no_victim : (w v : ℕ) → ltb v c.head.numbers.workers ≡ false
+      → step_on two_words c (Steal w v) ≡ judged ((no_worker c w, NoWorker) ∷ (all_idle c, MainReturned) ∷ (not (idle c w), ThiefBusy) ∷ []) c (refused_by c NoVictim)
+  unfolding step_on
+  no_victim w v e = rw e
 
-  no_read : (w x : ℕ) → ltb x c.head.numbers.splitters ≡ false → stepOn two_words c (Read w x) ≡ judged (actingTests c w) c (refusedBy c NoSplitter)
-  unfolding stepOn
+  no_read : (w x : ℕ) → ltb x c.head.numbers.splitters ≡ false → step_on two_words c (Read w x) ≡ judged (acting_tests c w) c (refused_by c NoSplitter)
+  unfolding step_on
   no_read w x e = rw e
 
-  no_write : (w x v : ℕ) → ltb x c.head.numbers.splitters ≡ false → stepOn two_words c (Write w x v) ≡ judged (actingTests c w) c (refusedBy c NoSplitter)
-  unfolding stepOn
+  no_write : (w x v : ℕ) → ltb x c.head.numbers.splitters ≡ false → step_on two_words c (Write w x v) ≡ judged (acting_tests c w) c (refused_by c NoSplitter)
+  unfolding step_on
   no_write w x v e = rw e
 
-  no-fold : (w r v : ℕ) → ltb r reducers ≡ false → stepOn two_words c (Fold w r v) ≡ judged (actingTests c w) c (refusedBy c NoReducer)
-  unfolding stepOn
-  no-fold w r v e = rw e
+  no_fold : (w r v : ℕ) → ltb r reducers ≡ false → step_on two_words c (Fold w r v) ≡ judged (acting_tests c w) c (refused_by c NoReducer)
+  unfolding step_on
+  no_fold w r v e = rw e
 
   -- two records leave and answer the same, and leave the same of the memory
   record SameRecord (d d' : Decoded) : Type 0 where
-    result : recordOn two_words c d ≡ recordOn two_words c d'
-    memory : (ms : List ℕ) → memoryAfter two_words c ms d ≡ memoryAfter two_words c ms d'
+    result : record_on two_words c d ≡ record_on two_words c d'
+    memory : (ms : List ℕ) → memory_after two_words c ms d ≡ memory_after two_words c ms d'
 
   same : {d d' : Decoded} → d ≡ d' → SameRecord d d'
-  same e = record { result = ap (λ d. recordOn two_words c d) e; memory = λ ms. ap (λ d. memoryAfter two_words c ms d) e }
+  same e = record { result = ap (λ d. record_on two_words c d) e; memory = λ ms. ap (λ d. memory_after two_words c ms d) e }
 
   chain : {d d' d'' : Decoded} → SameRecord d d' → SameRecord d' d'' → SameRecord d d''
   chain a b = record { result = a.result ∙ b.result; memory = λ ms. a.memory ms ∙ b.memory ms }
 
   -- a refused step leaves the memory
-  refused-keeps : (st : Step) (d : StepResult) → stepOn two_words c st ≡ d → isAccepted d.answer ≡ false → (ms : List ℕ) → memoryAfter two_words c ms (Valid st) ≡ ms
-  unfolding memoryAfter
-  refused-keeps st d e f ms = rw (ap (λ (q : StepResult). isAccepted q.answer) e ∙ f)
+  refused_keeps : (st : Step) (d : StepResult) → step_on two_words c st ≡ d → is_accepted d.answer ≡ false → (ms : List ℕ) → memory_after two_words c ms (Valid st) ≡ ms
+  unfolding memory_after
+  refused_keeps st d e f ms = rw (ap (λ (q : StepResult). is_accepted q.answer) e ∙ f)
 
   -- tests of a step that is refused anyhow
-  judged-refuses : (ts : List (Bool × Refusal)) (d : StepResult) → isAccepted d.answer ≡ false → isAccepted (judged ts c d).answer ≡ false
-  judged-refuses [] d f = f
-  judged-refuses (t ∷ ts) d f = elim (decided t.0) [ inl e ↦ rw e refl | inr e ↦ rw e (judged-refuses ts d f) ]
+  judged_refuses : (ts : List (Bool × Refusal)) (d : StepResult) → is_accepted d.answer ≡ false → is_accepted (judged ts c d).answer ≡ false
+  judged_refuses [] d f = f
+  judged_refuses (t ∷ ts) d f = elim (decided t.0) [ inl e ↦ rw e refl | inr e ↦ rw e (judged_refuses ts d f) ]
 
   -- a number cut to m: past its bound n the step is refused, whatever the number
-  cut : (f : ℕ → Step) (d : StepResult) (x m n : ℕ) → n ≤ m → isAccepted d.answer ≡ false → ((y : ℕ) → ltb y n ≡ false → stepOn two_words c (f y) ≡ d) → SameRecord (Valid (f (min x m))) (Valid (f x))
+  cut : (f : ℕ → Step) (d : StepResult) (x m n : ℕ) → n ≤ m → is_accepted d.answer ≡ false → ((y : ℕ) → ltb y n ≡ false → step_on two_words c (f y) ≡ d) → SameRecord (Valid (f (min x m))) (Valid (f x))
   cut f d x m n few no_answer past = elim (dec_lt x n) [
     | yes h ↦ same (ap (λ (y : ℕ). Valid (f y)) (omega arith))
     | no h ↦
         let a = past (min x m) (le-ltb (min x m) n (omega arith)) in
         let b = past x (le-ltb x n (omega arith)) in
-        record { result = a ∙ sym b; memory = λ ms. refused-keeps (f (min x m)) d a no_answer ms ∙ sym (refused-keeps (f x) d b no_answer ms) }
+        record { result = a ∙ sym b; memory = λ ms. refused_keeps (f (min x m)) d a no_answer ms ∙ sym (refused_keeps (f x) d b no_answer ms) }
   ]
 
   -- ---- a record's step
@@ -125,49 +125,49 @@ module _ (c : Core) where
     end : Alike [] []
     also : {t u : Bool × Decoded} {ts us : List (Bool × Decoded)} → t.0 ≡ u.0 → SameRecord t.1 u.1 → Alike ts us → Alike (t ∷ ts) (u ∷ us)
 
-  firsts : {ts us : List (Bool × Decoded)} → Alike ts us → SameRecord (firstTrue Invalid ts) (firstTrue Invalid us)
+  firsts : {ts us : List (Bool × Decoded)} → Alike ts us → SameRecord (first_true Invalid ts) (first_true Invalid us)
   firsts end = same refl
   firsts (also {u = u} e d a) = elim (decided u.0) [ inl z ↦ rw (e ∙ z, z) d | inr z ↦ rw (e ∙ z, z) (firsts a) ]
 
-  valid-cut : (b b' : Bool) (st st' : Step) → b ≡ b' → SameRecord (Valid st) (Valid st') → SameRecord (validIf b st) (validIf b' st')
-  valid-cut b b' st st' e h = elim (decided b') [ inl z ↦ rw (e ∙ z, z) h | inr z ↦ rw (e ∙ z, z) (same refl) ]
+  valid_cut : (b b' : Bool) (st st' : Step) → b ≡ b' → SameRecord (Valid st) (Valid st') → SameRecord (valid_if b st) (valid_if b' st')
+  valid_cut b b' st st' e h = elim (decided b') [ inl z ↦ rw (e ∙ z, z) h | inr z ↦ rw (e ∙ z, z) (same refl) ]
 
-  module _ (workers-le : c.head.numbers.workers ≤ 8) (splitters-le : c.head.numbers.splitters ≤ 256) (w x v : ℕ) where
-    worker-cut : (f : ℕ → Step) → ((y : ℕ) → ltb y c.head.numbers.workers ≡ false → stepOn two_words c (f y) ≡ refusedBy c NoWorker) → SameRecord (Valid (f (min w 255))) (Valid (f w))
-    worker-cut f past = cut f (refusedBy c NoWorker) w 255 c.head.numbers.workers (omega arith) refl past
+  module _ (workers_le : c.head.numbers.workers ≤ 8) (splitters_le : c.head.numbers.splitters ≤ 256) (w x v : ℕ) where
+    worker_cut : (f : ℕ → Step) → ((y : ℕ) → ltb y c.head.numbers.workers ≡ false → step_on two_words c (f y) ≡ refused_by c NoWorker) → SameRecord (Valid (f (min w 255))) (Valid (f w))
+    worker_cut f past = cut f (refused_by c NoWorker) w 255 c.head.numbers.workers (omega arith) refl past
 
-    steal-cut : SameRecord (Valid (Steal (min w 255) (min x 65535))) (Valid (Steal w x))
-    steal-cut =
-        chain (worker-cut (λ u. Steal u (min x 65535)) (λ y e. no-worker (Steal y (min x 65535)) e))
-        (cut (λ u. Steal w u) _ x 65535 c.head.numbers.workers (omega arith) (judged-refuses ((noWorker c w, NoWorker) ∷ (allIdle c, MainReturned) ∷ (not (idle c w), ThiefBusy) ∷ []) (refusedBy c NoVictim) refl) (no-victim w))
+    steal_cut : SameRecord (Valid (Steal (min w 255) (min x 65535))) (Valid (Steal w x))
+    steal_cut =
+        chain (worker_cut (λ u. Steal u (min x 65535)) (λ y e. no_worker_lem (Steal y (min x 65535)) e))
+        (cut (λ u. Steal w u) _ x 65535 c.head.numbers.workers (omega arith) (judged_refuses ((no_worker c w, NoWorker) ∷ (all_idle c, MainReturned) ∷ (not (idle c w), ThiefBusy) ∷ []) (refused_by c NoVictim) refl) (no_victim w))
 
-    read-cut : SameRecord (Valid (Read (min w 255) (min x 65535))) (Valid (Read w x))
-    read-cut =
-        chain (worker-cut (λ u. Read u (min x 65535)) (λ y e. no-worker (Read y (min x 65535)) e))
-        (cut (λ u. Read w u) _ x 65535 c.head.numbers.splitters (omega arith) (judged-refuses (actingTests c w) (refusedBy c NoSplitter) refl) (no_read w))
+    read_cut : SameRecord (Valid (Read (min w 255) (min x 65535))) (Valid (Read w x))
+    read_cut =
+        chain (worker_cut (λ u. Read u (min x 65535)) (λ y e. no_worker_lem (Read y (min x 65535)) e))
+        (cut (λ u. Read w u) _ x 65535 c.head.numbers.splitters (omega arith) (judged_refuses (acting_tests c w) (refused_by c NoSplitter) refl) (no_read w))
 
-    write-cut : SameRecord (Valid (Write (min w 255) (min x 65535) v)) (Valid (Write w x v))
-    write-cut =
-        chain (worker-cut (λ u. Write u (min x 65535) v) (λ y e. no-worker (Write y (min x 65535) v) e))
-        (cut (λ u. Write w u v) _ x 65535 c.head.numbers.splitters (omega arith) (judged-refuses (actingTests c w) (refusedBy c NoSplitter) refl) (λ y e. no_write w y v e))
+    write_cut : SameRecord (Valid (Write (min w 255) (min x 65535) v)) (Valid (Write w x v))
+    write_cut =
+        chain (worker_cut (λ u. Write u (min x 65535) v) (λ y e. no_worker_lem (Write y (min x 65535) v) e))
+        (cut (λ u. Write w u v) _ x 65535 c.head.numbers.splitters (omega arith) (judged_refuses (acting_tests c w) (refused_by c NoSplitter) refl) (λ y e. no_write w y v e))
 
-    fold-cut : SameRecord (Valid (Fold (min w 255) (min x 65535) v)) (Valid (Fold w x v))
-    fold-cut =
-        chain (worker-cut (λ u. Fold u (min x 65535) v) (λ y e. no-worker (Fold y (min x 65535) v) e))
-        (cut (λ u. Fold w u v) _ x 65535 reducers (omega arith) (judged-refuses (actingTests c w) (refusedBy c NoReducer) refl) (λ y e. no-fold w y v e))
+    fold_cut : SameRecord (Valid (Fold (min w 255) (min x 65535) v)) (Valid (Fold w x v))
+    fold_cut =
+        chain (worker_cut (λ u. Fold u (min x 65535) v) (λ y e. no_worker_lem (Fold y (min x 65535) v) e))
+        (cut (λ u. Fold w u v) _ x 65535 reducers (omega arith) (judged_refuses (acting_tests c w) (refused_by c NoReducer) refl) (λ y e. no_fold w y v e))
 
-    record-cut : (kind : ℕ) → SameRecord (recordOf (min kind 255) (min w 255) (min x 65535) v) (recordOf kind w x v)
-    unfolding recordOf
-    record-cut kind =
+    record_cut : (kind : ℕ) → SameRecord (record_of (min kind 255) (min w 255) (min x 65535) v) (record_of kind w x v)
+    unfolding record_of
+    record_cut kind =
         let zero_field : eqb (min x 65535) 0 && eqb v 0 ≡ eqb x 0 && eqb v 0 = ap (λ (b : Bool). b && eqb v 0) (same_test x 65535 0 (omega arith)) in
         firsts {ts = kinds (min kind 255) (min w 255) (min x 65535) v} {us = kinds kind w x v}
-        (also (same_test kind 255 1 (omega arith)) (valid-cut _ _ _ _ zero_field (worker-cut (λ u. Spawn u) (λ y e. no-worker (Spawn y) e)))
-        (also (same_test kind 255 2 (omega arith)) (valid-cut _ _ _ _ zero_field (worker-cut (λ u. Return u) (λ y e. no-worker (Return y) e)))
-        (also (same_test kind 255 3 (omega arith)) (valid-cut (eqb v 0) _ _ _ refl steal-cut)
-        (also (same_test kind 255 4 (omega arith)) (valid-cut _ _ _ _ zero_field (worker-cut (λ u. Sync u) (λ y e. no-worker (Sync y) e)))
-        (also (same_test kind 255 5 (omega arith)) (valid-cut (eqb v 0) _ _ _ refl read-cut)
-        (also (same_test kind 255 6 (omega arith)) write-cut
-        (also (same_test kind 255 7 (omega arith)) fold-cut end)))))))
+        (also (same_test kind 255 1 (omega arith)) (valid_cut _ _ _ _ zero_field (worker_cut (λ u. Spawn u) (λ y e. no_worker_lem (Spawn y) e)))
+        (also (same_test kind 255 2 (omega arith)) (valid_cut _ _ _ _ zero_field (worker_cut (λ u. Return u) (λ y e. no_worker_lem (Return y) e)))
+        (also (same_test kind 255 3 (omega arith)) (valid_cut (eqb v 0) _ _ _ refl steal_cut)
+        (also (same_test kind 255 4 (omega arith)) (valid_cut _ _ _ _ zero_field (worker_cut (λ u. Sync u) (λ y e. no_worker_lem (Sync y) e)))
+        (also (same_test kind 255 5 (omega arith)) (valid_cut (eqb v 0) _ _ _ refl read_cut)
+        (also (same_test kind 255 6 (omega arith)) write_cut
+        (also (same_test kind 255 7 (omega arith)) fold_cut end)))))))
 
 -- ---- a step by the fields of a record
 
@@ -182,23 +182,23 @@ checked-sound N ts ds fs ws ks k e = elim (decided (sound two_words N ts ds fs w
 ]
 
 -- a state that is sound with its memory
-state-sound : (s : State) (ms ws ks : List ℕ) (j : Checked) (b : Bool) (k : ℕ) → j ≡ checkedState two_words s ws ks → withMemory j b ≡ Sound k → isSound two_words s ws ≡ true
-state-sound s ms ws ks NoRoom b k e q = absurd (let z : ◌≡◌ {A = ℕ} 0 1 = cc in omega arith)
-state-sound s ms ws ks Checked.Unsound b k e q = absurd (let z : ◌≡◌ {A = ℕ} 0 1 = cc in omega arith)
-state-sound s ms ws ks (Sound n) b k e q = checked-sound (numbersOf s) (totalsOf s) s.deques s.frames ws ks n (sym e)
+state_sound : (s : State) (ms ws ks : List ℕ) (j : Checked) (b : Bool) (k : ℕ) → j ≡ checked_state two_words s ws ks → with_memory j b ≡ Sound k → is_sound two_words s ws ≡ true
+state_sound s ms ws ks NoRoom b k e q = absurd (let z : ◌≡◌ {A = ℕ} 0 1 = cc in omega arith)
+state_sound s ms ws ks Checked.Unsound b k e q = absurd (let z : ◌≡◌ {A = ℕ} 0 1 = cc in omega arith)
+state_sound s ms ws ks (Sound n) b k e q = checked-sound (numbers_of s) (totals_of s) s.deques s.frames ws ks n (sym e)
 
 module _ (s : State) (ms ws ks : List ℕ) (kind w x v : ℕ) where
-  check-cut : (k : Checked) → checkedWith two_words s ms ws ks ≡ k
-      → outsideWithMemory two_words k s ms ws ks (recordOf (min kind 255) (min w 255) (min x 65535) v) ≡ outsideWithMemory two_words k s ms ws ks (recordOf kind w x v)
-  unfolding memoryOver
-  check-cut NoRoom e = refl
-  check-cut Checked.Unsound e = refl
-  check-cut (Sound k) e =
-      let F = (sound-facts two_words (numbersOf s) (totalsOf s) s.deques s.frames ws (state-sound s ms ws ks (checkedState two_words s ws ks) (rightMemory two_words s ws ms) k refl e)).numbers in
-      let same = record-cut (core_of s ws k) F.workers-le F.splitters-le w x v kind in
-      λ i. record { call = outsideDone (same.result i) (cleared (numbersOf s).nodes ks); memory = same.memory ms i }
+  check_cut : (k : Checked) → checked_with two_words s ms ws ks ≡ k
+      → outside_with_memory two_words k s ms ws ks (record_of (min kind 255) (min w 255) (min x 65535) v) ≡ outside_with_memory two_words k s ms ws ks (record_of kind w x v)
+  unfolding memory_over
+  check_cut NoRoom e = refl
+  check_cut Checked.Unsound e = refl
+  check_cut (Sound k) e =
+      let F = (sound_facts two_words (numbers_of s) (totals_of s) s.deques s.frames ws (state_sound s ms ws ks (checked_state two_words s ws ks) (right_memory two_words s ws ms) k refl e)).numbers in
+      let same = record_cut (core_of s ws k) F.workers_le F.splitters_le w x v kind in
+      λ i. record { call = outside_done (same.result i) (cleared (numbers_of s).nodes ks); memory = same.memory ms i }
 
   -- the fields cut to 8, 8 and 16 bits
-  pub same-cut : outsideRemembering two_words s ms ws ks (recordOf (min kind 255) (min w 255) (min x 65535) v) ≡ outsideRemembering two_words s ms ws ks (recordOf kind w x v)
-  unfolding outsideRemembering
-  same-cut = ap (λ (o : WithMemory OutsideResult). cond (fitsWith s ms) o (record { call = outsideRefused s ws ks Lengths; memory = ms })) (check-cut (checkedWith two_words s ms ws ks) refl)
+  pub same_cut : outside_remembering two_words s ms ws ks (record_of (min kind 255) (min w 255) (min x 65535) v) ≡ outside_remembering two_words s ms ws ks (record_of kind w x v)
+  unfolding outside_remembering
+  same_cut = ap (λ (o : WithMemory OutsideResult). cond (fits_with s ms) o (record { call = outside_refused s ws ks Lengths; memory = ms })) (check_cut (checked_with two_words s ms ws ks) refl)

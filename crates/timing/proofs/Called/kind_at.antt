@@ -33,8 +33,8 @@ use denote.Triple.Call.{calls_at, calls_at_last}
 use denote.Triple.Clauses.{ensured, lasts}
 use denote.Triple.Walked.{says}
 use Prim.Native.Nat.{◌+◌, ◌*◌, ◌≤◌}
-use Rattle.timing.specs.Turns.{kindAt}
-use Rattle.frames.proofs.Lent.{at-list, Mine, Yours, Lent, Shown, lend, home, show, back, give}
+use Rattle.timing.specs.Turns.{kind_at}
+use Rattle.frames.proofs.Lent.{at_list, Mine, Yours, Lent, Shown, lend, home, show, back, give}
 use Rattle.timing.specs.contracts.turns.kind_at as callee'
 
 module _ {M : Type 1} {𝓤 : Ura M} (𝓛 : Logic 𝓤) (mem : Memory → SProp 𝓤) (run : Routine → Fun 𝓤) where
@@ -42,10 +42,10 @@ module _ {M : Type 1} {𝓤 : Ura M} (𝓛 : Logic 𝓤) (mem : Memory → SProp
   Asked = triple_of 𝓛 callee'.signature (callee'.spec 𝓛 mem run)
 
   abbrev pub to-step-g : (κ-tape : Lft) (q-tape : Share) (γ-tape : GName) (b-tape o-tape n-tape : ℕ) (tape : List ℕ) (i : ℕ) → Asked.Ghost
-  to-step-g κ-tape q-tape γ-tape b-tape o-tape n-tape tape i = (((κ-tape, tt), (q-tape, tt), tt, (at-list b-tape o-tape γ-tape tape, (i, tt)), (slice_val (b-tape, o-tape) n-tape ∷ [], (vint w64 i ∷ [], tt))), tt)
+  to-step-g κ-tape q-tape γ-tape b-tape o-tape n-tape tape i = (((κ-tape, tt), (q-tape, tt), tt, (at_list b-tape o-tape γ-tape tape, (i, tt)), (slice_val (b-tape, o-tape) n-tape ∷ [], (vint w64 i ∷ [], tt))), tt)
 
-  pub goes-step-g : (κ-tape : Lft) (q-tape : Share) (γ-tape : GName) (b-tape o-tape n-tape : ℕ) (tape : List ℕ) (i : ℕ) → (i-good : i < 2 ^ 64) (ok' : 8 * i + 8 ≤ length tape) → ent 𝓤 (⋆ 𝓛 (‵ (flft κ-tape q-tape) ∷ ‵ ((ShrSlice (named 0) κ-tape u8).own_val (at-list b-tape o-tape γ-tape tape) (slice_val (b-tape, o-tape) n-tape ∷ [])) ∷ [])) (Asked.pre (to-step-g κ-tape q-tape γ-tape b-tape o-tape n-tape tape i))
-  goes-step-g κ-tape q-tape γ-tape b-tape o-tape n-tape tape i i-good ok' = qed 𝓛 (‵ (flft κ-tape q-tape) ∷ ‵ ((ShrSlice (named 0) κ-tape u8).own_val (at-list b-tape o-tape γ-tape tape) (slice_val (b-tape, o-tape) n-tape ∷ [])) ∷ []) ∵ says ! ok' $ nothing ! $ move ! (1 ∷ 0 ∷ []) $ group ! 2 $ frame ! $
+  pub goes-step-g : (κ-tape : Lft) (q-tape : Share) (γ-tape : GName) (b-tape o-tape n-tape : ℕ) (tape : List ℕ) (i : ℕ) → (i-good : i < 2 ^ 64) (ok' : 8 * i + 8 ≤ length tape) → ent 𝓤 (⋆ 𝓛 (‵ (flft κ-tape q-tape) ∷ ‵ ((ShrSlice (named 0) κ-tape u8).own_val (at_list b-tape o-tape γ-tape tape) (slice_val (b-tape, o-tape) n-tape ∷ [])) ∷ [])) (Asked.pre (to-step-g κ-tape q-tape γ-tape b-tape o-tape n-tape tape i))
+  goes-step-g κ-tape q-tape γ-tape b-tape o-tape n-tape tape i i-good ok' = qed 𝓛 (‵ (flft κ-tape q-tape) ∷ ‵ ((ShrSlice (named 0) κ-tape u8).own_val (at_list b-tape o-tape γ-tape tape) (slice_val (b-tape, o-tape) n-tape ∷ [])) ∷ []) ∵ says ! ok' $ nothing ! $ move ! (1 ∷ 0 ∷ []) $ group ! 2 $ frame ! $
       nothing ! $ owned ! usize (Is usize) (uint_Makes 𝓛 w64) i _ (refl, i-good) $ fjoin ! $ move ! (1 ∷ 0 ∷ []) $ fjoin ! $ done !
 
 module _ {M : Type 1} {𝓤 : Ura M} {𝓛 : Logic 𝓤} {K : Type 0} (mem : Memory → SProp 𝓤) (run : Routine → Fun 𝓤)
@@ -53,15 +53,15 @@ module _ {M : Type 1} {𝓤 : Ura M} {𝓛 : Logic 𝓤} {K : Type 0} (mem : Mem
   open 𝓛 use {H}
 
   pub step-g : K → FmC 𝓤 H 𝓛.laws C → Triple 𝓤 (C name') (Asked 𝓛 mem run) → {κ-tape : Lft} {q-tape : Share} {γ-tape : GName} → (b-tape o-tape n-tape : ℕ) (tape : List ℕ) (i : ℕ) → (i-good : i < 2 ^ 64) → 8 * i + 8 ≤ length tape →
-      (Opds K 𝓛 (raw ((Asked 𝓛 mem run).pre (to-step-g 𝓛 mem run κ-tape q-tape γ-tape b-tape o-tape n-tape tape i)) ∷ ‵ ((ShrSlice (named 0) κ-tape u8).own_val (at-list b-tape o-tape γ-tape tape) (slice_val (b-tape, o-tape) n-tape ∷ [])) ∷ Γ) E opds' (slice_val (b-tape, o-tape) n-tape ∷ vint w64 i ∷ [])) →
-      ((res' : ℕ) → res' < 2 ^ 8 → res' ≡ kindAt tape i → Seq K 𝓛 (‵ (Yours u8 κ-tape q-tape γ-tape b-tape o-tape n-tape tape) ∷ Γ) (lands C Λ E dest' (vint w8 res') rest' post')) →
+      (Opds K 𝓛 (raw ((Asked 𝓛 mem run).pre (to-step-g 𝓛 mem run κ-tape q-tape γ-tape b-tape o-tape n-tape tape i)) ∷ ‵ ((ShrSlice (named 0) κ-tape u8).own_val (at_list b-tape o-tape γ-tape tape) (slice_val (b-tape, o-tape) n-tape ∷ [])) ∷ Γ) E opds' (slice_val (b-tape, o-tape) n-tape ∷ vint w64 i ∷ [])) →
+      ((res' : ℕ) → res' < 2 ^ 8 → res' ≡ kind_at tape i → Seq K 𝓛 (‵ (Yours u8 κ-tape q-tape γ-tape b-tape o-tape n-tape tape) ∷ Γ) (lands C Λ E dest' (vint w8 res') rest' post')) →
       Seq K 𝓛 (‵ (Yours u8 κ-tape q-tape γ-tape b-tape o-tape n-tape tape) ∷ Γ) (runs C Λ E (seq (call name' opds' dest') rest') post')
   step-g t' fm' known' {κ-tape} {q-tape} {γ-tape} b-tape o-tape n-tape tape i i-good ok' os' k' =
       give t' u8 b-tape o-tape n-tape tape $
       move t' (0 ∷ 1 ∷ []) $ group t' 2 $ use1 𝓛 (raw ((Asked 𝓛 mem run).pre (to-step-g 𝓛 mem run κ-tape q-tape γ-tape b-tape o-tape n-tape tape i))) (goes-step-g 𝓛 mem run κ-tape q-tape γ-tape b-tape o-tape n-tape tape i i-good ok') $
       calls_at t' fm' (Asked 𝓛 mem run) known' (to-step-g 𝓛 mem run κ-tape q-tape γ-tape b-tape o-tape n-tape tape i) (os') (λ w'.
-      use1 𝓛 (later (some (λ (res' : ℕ). ((‵ (flft κ-tape q-tape) ⊛ ‵ ftrue) ⊛ ‵ (u8.own_val res' (w' ∷ []))) ⊛ raw (ensured 𝓛 callee'.ended (callee'.clauses 𝓛 mem run) (κ-tape, tt) (at-list b-tape o-tape γ-tape tape, (i, tt)) tt res')))) (id⊢ 𝓤 _) $ await t' tt $ pick t' (λ res'. split t' $ move t' (1 ∷ []) $
-      use1 𝓛 (some (λ (zs' : Unit {0} × (Unit {0} × Unit {0})). ‵ (lasts callee'.ended (κ-tape, tt) (at-list b-tape o-tape γ-tape tape, (i, tt)) zs') ⊛ raw (fact 𝓤 (res' ≡ kindAt tape i)))) (id⊢ 𝓤 _) $ pick t' (λ zs'. split t' $ move t' (1 ∷ []) $ heard t' (res' ≡ kindAt tape i) (λ e'.
+      use1 𝓛 (later (some (λ (res' : ℕ). ((‵ (flft κ-tape q-tape) ⊛ ‵ ftrue) ⊛ ‵ (u8.own_val res' (w' ∷ []))) ⊛ raw (ensured 𝓛 callee'.ended (callee'.clauses 𝓛 mem run) (κ-tape, tt) (at_list b-tape o-tape γ-tape tape, (i, tt)) tt res')))) (id⊢ 𝓤 _) $ await t' tt $ pick t' (λ res'. split t' $ move t' (1 ∷ []) $
+      use1 𝓛 (some (λ (zs' : Unit {0} × (Unit {0} × Unit {0})). ‵ (lasts callee'.ended (κ-tape, tt) (at_list b-tape o-tape γ-tape tape, (i, tt)) zs') ⊛ raw (fact 𝓤 (res' ≡ kind_at tape i)))) (id⊢ 𝓤 _) $ pick t' (λ zs'. split t' $ move t' (1 ∷ []) $ heard t' (res' ≡ kind_at tape i) (λ e'.
       fsplit t' $ drop t' $ fsplit t' $ drop t' $ drop t' $
       move t' (0 ∷ []) $ split t' $ move t' (1 ∷ []) $ peeks t' u8 (Is u8) (shows 𝓛 u8) res' (w' ∷ []) (λ is'. drop t' $ split t' $ move t' (1 ∷ []) $ drop t' $
       move t' (1 ∷ 0 ∷ []) $ fjoin t' $

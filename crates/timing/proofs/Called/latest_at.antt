@@ -33,7 +33,7 @@ use denote.Triple.Call.{calls_at, calls_at_last}
 use denote.Triple.Clauses.{ensured, lasts}
 use denote.Triple.Walked.{says}
 use Rattle.semantics.specs.Timing.{latest}
-use Rattle.frames.proofs.Lent.{at-list, Mine, Yours, Lent, Shown, lend, home, show, back, give}
+use Rattle.frames.proofs.Lent.{at_list, Mine, Yours, Lent, Shown, lend, home, show, back, give}
 use Rattle.timing.specs.contracts.clocks.latest_at as callee'
 
 module _ {M : Type 1} {𝓤 : Ura M} (𝓛 : Logic 𝓤) (mem : Memory → SProp 𝓤) (run : Routine → Fun 𝓤) where
@@ -41,10 +41,10 @@ module _ {M : Type 1} {𝓤 : Ura M} (𝓛 : Logic 𝓤) (mem : Memory → SProp
   Asked = triple_of 𝓛 callee'.signature (callee'.spec 𝓛 mem run)
 
   abbrev pub to-step-g : (κ-clocks : Lft) (q-clocks : Share) (γ-clocks : GName) (b-clocks o-clocks n-clocks : ℕ) (clocks : List ℕ) (p : ℕ) → Asked.Ghost
-  to-step-g κ-clocks q-clocks γ-clocks b-clocks o-clocks n-clocks clocks p = (((κ-clocks, tt), (q-clocks, tt), tt, (at-list b-clocks o-clocks γ-clocks clocks, (p, tt)), (slice_val (b-clocks, o-clocks) n-clocks ∷ [], (vint w32 p ∷ [], tt))), tt)
+  to-step-g κ-clocks q-clocks γ-clocks b-clocks o-clocks n-clocks clocks p = (((κ-clocks, tt), (q-clocks, tt), tt, (at_list b-clocks o-clocks γ-clocks clocks, (p, tt)), (slice_val (b-clocks, o-clocks) n-clocks ∷ [], (vint w32 p ∷ [], tt))), tt)
 
-  pub goes-step-g : (κ-clocks : Lft) (q-clocks : Share) (γ-clocks : GName) (b-clocks o-clocks n-clocks : ℕ) (clocks : List ℕ) (p : ℕ) → (p-good : p < 2 ^ 32) → ent 𝓤 (⋆ 𝓛 (‵ (flft κ-clocks q-clocks) ∷ ‵ ((ShrSlice (named 0) κ-clocks u64).own_val (at-list b-clocks o-clocks γ-clocks clocks) (slice_val (b-clocks, o-clocks) n-clocks ∷ [])) ∷ [])) (Asked.pre (to-step-g κ-clocks q-clocks γ-clocks b-clocks o-clocks n-clocks clocks p))
-  goes-step-g κ-clocks q-clocks γ-clocks b-clocks o-clocks n-clocks clocks p p-good = qed 𝓛 (‵ (flft κ-clocks q-clocks) ∷ ‵ ((ShrSlice (named 0) κ-clocks u64).own_val (at-list b-clocks o-clocks γ-clocks clocks) (slice_val (b-clocks, o-clocks) n-clocks ∷ [])) ∷ []) ∵ nothing ! $ move ! (1 ∷ 0 ∷ []) $ group ! 2 $ move ! (1 ∷ 0 ∷ []) $
+  pub goes-step-g : (κ-clocks : Lft) (q-clocks : Share) (γ-clocks : GName) (b-clocks o-clocks n-clocks : ℕ) (clocks : List ℕ) (p : ℕ) → (p-good : p < 2 ^ 32) → ent 𝓤 (⋆ 𝓛 (‵ (flft κ-clocks q-clocks) ∷ ‵ ((ShrSlice (named 0) κ-clocks u64).own_val (at_list b-clocks o-clocks γ-clocks clocks) (slice_val (b-clocks, o-clocks) n-clocks ∷ [])) ∷ [])) (Asked.pre (to-step-g κ-clocks q-clocks γ-clocks b-clocks o-clocks n-clocks clocks p))
+  goes-step-g κ-clocks q-clocks γ-clocks b-clocks o-clocks n-clocks clocks p p-good = qed 𝓛 (‵ (flft κ-clocks q-clocks) ∷ ‵ ((ShrSlice (named 0) κ-clocks u64).own_val (at_list b-clocks o-clocks γ-clocks clocks) (slice_val (b-clocks, o-clocks) n-clocks ∷ [])) ∷ []) ∵ nothing ! $ move ! (1 ∷ 0 ∷ []) $ group ! 2 $ move ! (1 ∷ 0 ∷ []) $
       nothing ! $ owned ! u32 (Is u32) (uint_Makes 𝓛 w32) p _ (refl, p-good) $ fjoin ! $ move ! (1 ∷ 0 ∷ []) $ fjoin ! $ move ! (1 ∷ 0 ∷ []) $ join ! $ frame ! $ done !
 
 module _ {M : Type 1} {𝓤 : Ura M} {𝓛 : Logic 𝓤} {K : Type 0} (mem : Memory → SProp 𝓤) (run : Routine → Fun 𝓤)
@@ -52,15 +52,15 @@ module _ {M : Type 1} {𝓤 : Ura M} {𝓛 : Logic 𝓤} {K : Type 0} (mem : Mem
   open 𝓛 use {H}
 
   pub step-g : K → FmC 𝓤 H 𝓛.laws C → Triple 𝓤 (C name') (Asked 𝓛 mem run) → {κ-clocks : Lft} {q-clocks : Share} {γ-clocks : GName} → (b-clocks o-clocks n-clocks : ℕ) (clocks : List ℕ) (p : ℕ) → (p-good : p < 2 ^ 32) →
-      (Opds K 𝓛 (raw ((Asked 𝓛 mem run).pre (to-step-g 𝓛 mem run κ-clocks q-clocks γ-clocks b-clocks o-clocks n-clocks clocks p)) ∷ ‵ ((ShrSlice (named 0) κ-clocks u64).own_val (at-list b-clocks o-clocks γ-clocks clocks) (slice_val (b-clocks, o-clocks) n-clocks ∷ [])) ∷ Γ) E opds' (slice_val (b-clocks, o-clocks) n-clocks ∷ vint w32 p ∷ [])) →
+      (Opds K 𝓛 (raw ((Asked 𝓛 mem run).pre (to-step-g 𝓛 mem run κ-clocks q-clocks γ-clocks b-clocks o-clocks n-clocks clocks p)) ∷ ‵ ((ShrSlice (named 0) κ-clocks u64).own_val (at_list b-clocks o-clocks γ-clocks clocks) (slice_val (b-clocks, o-clocks) n-clocks ∷ [])) ∷ Γ) E opds' (slice_val (b-clocks, o-clocks) n-clocks ∷ vint w32 p ∷ [])) →
       ((res' : ℕ) → res' < 2 ^ 64 → res' ≡ latest clocks p → Seq K 𝓛 (‵ (Yours u64 κ-clocks q-clocks γ-clocks b-clocks o-clocks n-clocks clocks) ∷ Γ) (lands C Λ E dest' (vint w64 res') rest' post')) →
       Seq K 𝓛 (‵ (Yours u64 κ-clocks q-clocks γ-clocks b-clocks o-clocks n-clocks clocks) ∷ Γ) (runs C Λ E (seq (call name' opds' dest') rest') post')
   step-g t' fm' known' {κ-clocks} {q-clocks} {γ-clocks} b-clocks o-clocks n-clocks clocks p p-good os' k' =
       give t' u64 b-clocks o-clocks n-clocks clocks $
       move t' (0 ∷ 1 ∷ []) $ group t' 2 $ use1 𝓛 (raw ((Asked 𝓛 mem run).pre (to-step-g 𝓛 mem run κ-clocks q-clocks γ-clocks b-clocks o-clocks n-clocks clocks p))) (goes-step-g 𝓛 mem run κ-clocks q-clocks γ-clocks b-clocks o-clocks n-clocks clocks p p-good) $
       calls_at t' fm' (Asked 𝓛 mem run) known' (to-step-g 𝓛 mem run κ-clocks q-clocks γ-clocks b-clocks o-clocks n-clocks clocks p) (os') (λ w'.
-      use1 𝓛 (later (some (λ (res' : ℕ). ((‵ (flft κ-clocks q-clocks) ⊛ ‵ ftrue) ⊛ ‵ (u64.own_val res' (w' ∷ []))) ⊛ raw (ensured 𝓛 callee'.ended (callee'.clauses 𝓛 mem run) (κ-clocks, tt) (at-list b-clocks o-clocks γ-clocks clocks, (p, tt)) tt res')))) (id⊢ 𝓤 _) $ await t' tt $ pick t' (λ res'. split t' $ move t' (1 ∷ []) $
-      use1 𝓛 (some (λ (zs' : Unit {0} × (Unit {0} × Unit {0})). ‵ (lasts callee'.ended (κ-clocks, tt) (at-list b-clocks o-clocks γ-clocks clocks, (p, tt)) zs') ⊛ raw (fact 𝓤 (res' ≡ latest clocks p)))) (id⊢ 𝓤 _) $ pick t' (λ zs'. split t' $ move t' (1 ∷ []) $ heard t' (res' ≡ latest clocks p) (λ e'.
+      use1 𝓛 (later (some (λ (res' : ℕ). ((‵ (flft κ-clocks q-clocks) ⊛ ‵ ftrue) ⊛ ‵ (u64.own_val res' (w' ∷ []))) ⊛ raw (ensured 𝓛 callee'.ended (callee'.clauses 𝓛 mem run) (κ-clocks, tt) (at_list b-clocks o-clocks γ-clocks clocks, (p, tt)) tt res')))) (id⊢ 𝓤 _) $ await t' tt $ pick t' (λ res'. split t' $ move t' (1 ∷ []) $
+      use1 𝓛 (some (λ (zs' : Unit {0} × (Unit {0} × Unit {0})). ‵ (lasts callee'.ended (κ-clocks, tt) (at_list b-clocks o-clocks γ-clocks clocks, (p, tt)) zs') ⊛ raw (fact 𝓤 (res' ≡ latest clocks p)))) (id⊢ 𝓤 _) $ pick t' (λ zs'. split t' $ move t' (1 ∷ []) $ heard t' (res' ≡ latest clocks p) (λ e'.
       fsplit t' $ drop t' $ fsplit t' $ drop t' $ drop t' $
       move t' (0 ∷ []) $ split t' $ move t' (1 ∷ []) $ peeks t' u64 (Is u64) (shows 𝓛 u64) res' (w' ∷ []) (λ is'. drop t' $ split t' $ move t' (1 ∷ []) $ drop t' $
       move t' (1 ∷ 0 ∷ []) $ fjoin t' $

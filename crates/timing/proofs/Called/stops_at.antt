@@ -35,7 +35,7 @@ use denote.Triple.Walked.{says}
 use Rattle.semantics.specs.contracts.Rise as M-Rise
 use Rattle.semantics.proofs.Rise.TheLaws as L-Rise
 use Rattle.semantics.specs.declared.Rise.{Rise}
-use Rattle.frames.proofs.Lent.{at-list, Mine, Yours, Lent, Shown, lend, home, show, back, give}
+use Rattle.frames.proofs.Lent.{at_list, Mine, Yours, Lent, Shown, lend, home, show, back, give}
 use Rattle.timing.specs.contracts.ends.stops_at as callee'
 
 abbrev R-Rise : RattleType

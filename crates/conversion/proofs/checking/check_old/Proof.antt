@@ -44,7 +44,7 @@ use denote.Triple.Statement.{Triple}
 use denote.Triple.Table.{entered, cited}
 use denote.Triple.Walked.{says, needs, Stays, stay_slice, stay_none, stay_none_slice, walk_of, Walks, ends_at, walked, Goes-slice, Goes-none, Goes-none_slice, walk_Meets}
 use borrow.Author.Rules.{scaled_Fits}
-use Rattle.frames.proofs.Lent.{at-list, Mine, Yours, ty_at, exit-unless, exit-if, leave-if, fork, skipped, regroup, matched, matched-last, const, is_true, is_false, not-not, differ, widen, less-fits, after, turn-of, take_out, put_in, put_back, look-out, look-back, free_all}
+use Rattle.frames.proofs.Lent.{at_list, Mine, Yours, ty_at, exit_unless, exit_if, leave_if, fork, skipped, regroup, matched, matched_last, const, is_true, is_false, not_not, differ, widen, less_fits, after, turn_of_lem, take_out, put_in, put_back, look_out, look_back, free_all}
 use Rattle.semantics.specs.Promises.{parts, Fits}
 use Rattle.conversion.specs.Promises.{IsOldCheck}
 use Rattle.conversion.proofs.Called.numbers_in as S-numbers-in
@@ -153,7 +153,7 @@ module _ {M : Type 1} {𝓤 : Ura M} (𝓛 : Logic 𝓤) (mem : Memory → SProp
   n-work = length work
 
   abbrev args' : Bor (List ℕ) × (Bor (List ℕ) × (Bor (List Frame) × (Bor (List ℕ) × (Bor (List ℕ) × Unit {0}))))
-  args' = (at-list b-numbers o-numbers γ-numbers numbers, (at-list b-deques o-deques γ-deques deques, (at-list b-frames o-frames γ-frames frames, (at-list b-pool o-pool γ-pool pool, (at-list b-work o-work γ-work work, tt)))))
+  args' = (at_list b-numbers o-numbers γ-numbers numbers, (at_list b-deques o-deques γ-deques deques, (at_list b-frames o-frames γ-frames frames, (at_list b-pool o-pool γ-pool pool, (at_list b-work o-work γ-work work, tt)))))
 
   abbrev vals' : Vals f'.signature (κ-numbers, (κ-deques, (κ-frames, (κ-pool, (κ-work, tt)))))
   vals' = (slice_val (b-numbers, o-numbers) (length numbers) ∷ [], (slice_val (b-deques, o-deques) (length deques) ∷ [], (slice_val (b-frames, o-frames) (length frames) ∷ [], (slice_val (b-pool, o-pool) (length pool) ∷ [], (slice_val (b-work, o-work) (length work) ∷ [], tt)))))
@@ -165,9 +165,9 @@ module _ {M : Type 1} {𝓤 : Ura M} (𝓛 : Logic 𝓤) (mem : Memory → SProp
   Post = (walk_of 𝓛 f'.ended stayed (f'.clauses 𝓛 mem run)).post bound'
 
   exits' : (res' : Checked) (zs-work : List ℕ) → Is R-Checked res' (val-Checked res' ∷ []) → IsOldCheck (parts numbers deques frames) pool work zs-work res' → length zs-work ≡ length work → ent 𝓤 (⋆ 𝓛 (‵ (Yours u32 κ-numbers q-numbers γ-numbers b-numbers o-numbers n-numbers numbers) ∷ ‵ (Yours u32 κ-deques q-deques γ-deques b-deques o-deques n-deques deques) ∷ ‵ (Yours R-Frame κ-frames q-frames γ-frames b-frames o-frames n-frames frames) ∷ ‵ (Yours u32 κ-pool q-pool γ-pool b-pool o-pool n-pool pool) ∷ ‵ (Mine u32 κ-work q-work γ-work b-work o-work n-work zs-work) ∷ [])) (Post (val-Checked res'))
-  exits' res' zs-work good' e' same-work =
+  exits' res' zs-work good' e' same_work =
       qed 𝓛 (‵ (Yours u32 κ-numbers q-numbers γ-numbers b-numbers o-numbers n-numbers numbers) ∷ ‵ (Yours u32 κ-deques q-deques γ-deques b-deques o-deques n-deques deques) ∷ ‵ (Yours R-Frame κ-frames q-frames γ-frames b-frames o-frames n-frames frames) ∷ ‵ (Yours u32 κ-pool q-pool γ-pool b-pool o-pool n-pool pool) ∷ ‵ (Mine u32 κ-work q-work γ-work b-work o-work n-work zs-work) ∷ []) ∵
-      suffices ! _ (ends_at 𝓛 f'.ended stayed (f'.clauses 𝓛 mem run) bound' (val-Checked res') res' (tt, (tt, (tt, (tt, (zs-work, tt))))) (tt, (tt, (tt, (tt, (same-work, tt)))))) $ says ! e' $
+      suffices ! _ (ends_at 𝓛 f'.ended stayed (f'.clauses 𝓛 mem run) bound' (val-Checked res') res' (tt, (tt, (tt, (tt, (zs-work, tt))))) (tt, (tt, (tt, (tt, (same_work, tt)))))) $ says ! e' $
       fsplit ! $ move ! (2 ∷ []) $ fsplit ! $ move ! (4 ∷ []) $ fsplit ! $ move ! (6 ∷ []) $ fsplit ! $ move ! (8 ∷ []) $ fsplit ! $ nothing ! $ move ! (10 ∷ 8 ∷ 6 ∷ 4 ∷ 2 ∷ 0 ∷ []) $ group ! 6 $ frame ! $
       nothing ! $ move ! (1 ∷ 0 ∷ []) $ fjoin ! $ move ! (1 ∷ 0 ∷ []) $ fjoin ! $ move ! (1 ∷ 0 ∷ []) $ fjoin ! $ move ! (1 ∷ 0 ∷ []) $ fjoin ! $ move ! (1 ∷ 0 ∷ []) $ fjoin ! $ frame ! $
       owned ! R-Checked (Is R-Checked) (EL.makes M-Checked.the_type L-Checked.the_plain 𝓛) res' _ good' $ done !
@@ -190,7 +190,7 @@ module _ {M : Type 1} {𝓤 : Ura M} (𝓛 : Logic 𝓤) (mem : Memory → SProp
         assigns ! (of_opd ! (load ! (from ! (fld ! refl (stop !))) (look_in ! 45 (sub ! 1 refl (whole !))))) (from ! (stop !)) (init ! 33 refl (tt, record { fits = room-work.0 })) $
         assigns ! (un ! (load ! (from ! (fld ! refl (stop !))) (look_in ! 43 (sub ! 2 refl (whole !)))) (record { fits = (widen n.nodes (2 ^ 32) (2 ^ 64) tt (LL.owed M-Numbers.the_type L-Numbers.the_laws n _ n-good).1.1.0.1) })) (from ! (stop !)) (init ! 31 refl (tt, record { fits = (widen n.nodes (2 ^ 32) (2 ^ 64) tt (LL.owed M-Numbers.the_type L-Numbers.the_laws n _ n-good).1.1.0.1) })) $
         assigns ! (bin ! (load ! (from ! (stop !)) (look ! 33 refl)) (load ! (from ! (stop !)) (look ! 31 refl)) tt) (from ! (stop !)) (init ! 29 refl (tt, tt)) $
-        leave-if ! (load ! (from ! (stop !)) (look ! 29 refl))
+        leave_if ! (load ! (from ! (stop !)) (look ! 29 refl))
         (λ test-2.
         assigns ! (agg ! (and_then ! (const ! _ tt) (no_more !))) (from ! (stop !)) (init ! 55 refl ((EL.lawful M-Checked.the_type L-Checked.the_laws 𝓛 tt).typed Checked.NoRoom _ (EL.owes M-Checked.the_type L-Checked.the_laws Checked.NoRoom tt)).0) $
         returns_within ! Post refl (look ! 55 refl) $ forget ! 29 refl $ forget ! 31 refl $ forget ! 33 refl $ forget ! 43 refl $ forget ! 45 refl $ forget ! 47 refl $ forget ! 49 refl $ forget ! 51 refl $ forget ! 53 refl $ forget ! 55 refl $
@@ -203,7 +203,7 @@ module _ {M : Type 1} {𝓤 : Ura M} (𝓛 : Logic 𝓤) (mem : Memory → SProp
         (and_then ! (load ! (from ! (fld ! refl (stop !))) (look_in ! 44 (sub ! 2 refl (whole !)))) (and_then ! (load ! (from ! (stop !)) (look ! 48 refl)) (no_more !))) (λ r-4 r-4-is.
         land ! (from ! (stop !)) (store ! 29 refl (tt, tt)) $
         assigns ! (un ! (load ! (from ! (stop !)) (look ! 29 refl)) tt) (from ! (stop !)) (init ! 27 refl (tt, tt)) $
-        leave-if ! (load ! (from ! (stop !)) (look ! 27 refl))
+        leave_if ! (load ! (from ! (stop !)) (look ! 27 refl))
         (λ test-5.
         assigns ! (addr ! (from ! (fld ! refl (hop ! (look_in ! 45 (sub ! 0 refl (whole !))) (stop !))))) (from ! (stop !)) (init ! 23 refl (tt, tt)) $
         assigns ! (agg ! (and_then ! (load ! (from ! (stop !)) (look ! 23 refl)) (and_then ! (load ! (from ! (fld ! refl (stop !))) (look_in ! 45 (sub ! 1 refl (whole !)))) (no_more !)))) (from ! (stop !)) (init ! 21 refl (tt, (tt, (record { fits = room-work.0 }, tt)))) $
@@ -220,7 +220,7 @@ module _ {M : Type 1} {𝓤 : Ura M} (𝓛 : Logic 𝓤) (mem : Memory → SProp
         (λ test-5.
         -- _7 = engine::checking::check_tables(_6, _2, _3, _4)
         move ! (2 ∷ 3 ∷ 0 ∷ []) $
-        S-check-tables.step-ggg mem run ! fm known-check-tables b-deques o-deques n-deques deques b-frames o-frames n-frames frames b-pool o-pool n-pool pool n n-good (F.needs-8 numbers deques frames pool work room-numbers.0 room-deques.0 room-frames.0 room-pool.0 room-work.0 ok' n n-is (nltb→le (length work) n.nodes test-2) r-4 r-4-is (is_true r-4 (not-not r-4 test-5)))
+        S-check-tables.step-ggg mem run ! fm known-check-tables b-deques o-deques n-deques deques b-frames o-frames n-frames frames b-pool o-pool n-pool pool n n-good (F.needs-8 numbers deques frames pool work room-numbers.0 room-deques.0 room-frames.0 room-pool.0 room-work.0 ok' n n-is (nltb→le (length work) n.nodes test-2) r-4 r-4-is (is_true r-4 (not_not r-4 test-5)))
         (and_then ! (load ! (from ! (stop !)) (look ! 44 refl)) (and_then ! (load ! (from ! (stop !)) (look ! 52 refl)) (and_then ! (load ! (from ! (stop !)) (look ! 50 refl)) (and_then ! (load ! (from ! (stop !)) (look ! 48 refl)) (no_more !))))) (λ tables' tables'-good tables'-is.
         land ! (from ! (stop !)) (init ! 41 refl ((EL.lawful M-FramesChecked.the_type L-FramesChecked.the_laws 𝓛 tt).typed tables' _ tables'-good).0) $
         cases-FramesChecked tables'
@@ -243,18 +243,18 @@ module _ {M : Type 1} {𝓤 : Ura M} (𝓛 : Logic 𝓤) (mem : Memory → SProp
         returns_within ! Post refl (look ! 55 refl) $ forget ! 15 refl $ forget ! 17 refl $ forget ! 19 refl $ forget ! 27 refl $ forget ! 29 refl $ forget ! 31 refl $ forget ! 33 refl $ forget ! 41 refl $ forget ! 43 refl $ forget ! 45 refl $ forget ! 47 refl $ forget ! 49 refl $ forget ! 51 refl $ forget ! 53 refl $ forget ! 55 refl $
         free_all ! 5 refl $
         move ! (4 ∷ 1 ∷ 2 ∷ 3 ∷ 0 ∷ []) $
-        by ! (exits' Checked.Unsound work-10 (EL.owes M-Checked.the_type L-Checked.the_laws Checked.Unsound tt) (F.out-11 numbers deques frames pool work room-numbers.0 room-deques.0 room-frames.0 room-pool.0 room-work.0 ok' n n-is (nltb→le (length work) n.nodes test-2) r-4 r-4-is (is_true r-4 (not-not r-4 test-5)) tables' tables'-is case-9 work-10 done-10 same-work-10) (same-work-10))))
+        by ! (exits' Checked.Unsound work-10 (EL.owes M-Checked.the_type L-Checked.the_laws Checked.Unsound tt) (F.out-11 numbers deques frames pool work room-numbers.0 room-deques.0 room-frames.0 room-pool.0 room-work.0 ok' n n-is (nltb→le (length work) n.nodes test-2) r-4 r-4-is (is_true r-4 (not_not r-4 test-5)) tables' tables'-is case-9 work-10 done-10 same-work-10) (same-work-10))))
         (λ end case-9.
         rewrite ! 41 (λ (x' : FramesChecked). ‵ (fat full_share L-FramesChecked.mir l₇ 0 (val-FramesChecked x'))) case-9 refl $
         matched ! (load ! (from ! (vrt ! refl (fld ! refl (stop !)))) (look_tag ! 41 (whole !))) tt $
         assigns ! (of_opd ! (load ! (from ! (vrt ! refl (fld ! refl (stop !)))) (look_in ! 41 (in_variant ! 1 0 refl refl (whole !))))) (from ! (stop !)) (init ! 39 refl (tt, record { fits = (EL.owed M-FramesChecked.the_type L-FramesChecked.the_laws (FramesChecked.Good end) _ (subst (λ (x' : FramesChecked). Is R-FramesChecked x' (val-FramesChecked x' ∷ [])) case-9 tables'-good)).0.1 })) $
         -- _13 = engine::checking::totals_right(_1, _8)
         move ! (3 ∷ []) $
-        S-totals-right.step-g mem run ! fm known-totals-right b-numbers o-numbers n-numbers numbers end (EL.owed M-FramesChecked.the_type L-FramesChecked.the_laws (FramesChecked.Good end) _ (subst (λ (x' : FramesChecked). Is R-FramesChecked x' (val-FramesChecked x' ∷ [])) case-9 tables'-good)).0.1 (F.needs-12 numbers deques frames pool work room-numbers.0 room-deques.0 room-frames.0 room-pool.0 room-work.0 ok' n n-is (nltb→le (length work) n.nodes test-2) r-4 r-4-is (is_true r-4 (not-not r-4 test-5)) tables' tables'-is end (EL.owed M-FramesChecked.the_type L-FramesChecked.the_laws (FramesChecked.Good end) _ (subst (λ (x' : FramesChecked). Is R-FramesChecked x' (val-FramesChecked x' ∷ [])) case-9 tables'-good)).0.1 case-9)
+        S-totals-right.step-g mem run ! fm known-totals-right b-numbers o-numbers n-numbers numbers end (EL.owed M-FramesChecked.the_type L-FramesChecked.the_laws (FramesChecked.Good end) _ (subst (λ (x' : FramesChecked). Is R-FramesChecked x' (val-FramesChecked x' ∷ [])) case-9 tables'-good)).0.1 (F.needs-12 numbers deques frames pool work room-numbers.0 room-deques.0 room-frames.0 room-pool.0 room-work.0 ok' n n-is (nltb→le (length work) n.nodes test-2) r-4 r-4-is (is_true r-4 (not_not r-4 test-5)) tables' tables'-is end (EL.owed M-FramesChecked.the_type L-FramesChecked.the_laws (FramesChecked.Good end) _ (subst (λ (x' : FramesChecked). Is R-FramesChecked x' (val-FramesChecked x' ∷ [])) case-9 tables'-good)).0.1 case-9)
         (and_then ! (load ! (from ! (stop !)) (look ! 54 refl)) (and_then ! (load ! (from ! (stop !)) (look ! 40 refl)) (no_more !))) (λ r-12 r-12-is.
         land ! (from ! (stop !)) (store ! 29 refl (tt, tt)) $
         assigns ! (un ! (load ! (from ! (stop !)) (look ! 29 refl)) tt) (from ! (stop !)) (store ! 27 refl (tt, tt)) $
-        leave-if ! (load ! (from ! (stop !)) (look ! 27 refl))
+        leave_if ! (load ! (from ! (stop !)) (look ! 27 refl))
         (λ test-13.
         assigns ! (addr ! (from ! (fld ! refl (hop ! (look_in ! 45 (sub ! 0 refl (whole !))) (stop !))))) (from ! (stop !)) (init ! 11 refl (tt, tt)) $
         assigns ! (agg ! (and_then ! (load ! (from ! (stop !)) (look ! 11 refl)) (and_then ! (load ! (from ! (fld ! refl (stop !))) (look_in ! 45 (sub ! 1 refl (whole !)))) (no_more !)))) (from ! (stop !)) (init ! 9 refl (tt, (tt, (record { fits = room-work.0 }, tt)))) $
@@ -267,14 +267,14 @@ module _ {M : Type 1} {𝓤 : Ura M} (𝓛 : Logic 𝓤) (mem : Memory → SProp
         returns_within ! Post refl (look ! 55 refl) $ forget ! 9 refl $ forget ! 11 refl $ forget ! 13 refl $ forget ! 27 refl $ forget ! 29 refl $ forget ! 31 refl $ forget ! 33 refl $ forget ! 39 refl $ forget ! 41 refl $ forget ! 43 refl $ forget ! 45 refl $ forget ! 47 refl $ forget ! 49 refl $ forget ! 51 refl $ forget ! 53 refl $ forget ! 55 refl $
         free_all ! 5 refl $
         move ! (1 ∷ 2 ∷ 3 ∷ 4 ∷ 0 ∷ []) $
-        by ! (exits' Checked.Unsound work-14 (EL.owes M-Checked.the_type L-Checked.the_laws Checked.Unsound tt) (F.out-15 numbers deques frames pool work room-numbers.0 room-deques.0 room-frames.0 room-pool.0 room-work.0 ok' n n-is (nltb→le (length work) n.nodes test-2) r-4 r-4-is (is_true r-4 (not-not r-4 test-5)) tables' tables'-is end (EL.owed M-FramesChecked.the_type L-FramesChecked.the_laws (FramesChecked.Good end) _ (subst (λ (x' : FramesChecked). Is R-FramesChecked x' (val-FramesChecked x' ∷ [])) case-9 tables'-good)).0.1 case-9 r-12 r-12-is (is_false r-12 test-13) work-14 done-14 same-work-14) (same-work-14))))
+        by ! (exits' Checked.Unsound work-14 (EL.owes M-Checked.the_type L-Checked.the_laws Checked.Unsound tt) (F.out-15 numbers deques frames pool work room-numbers.0 room-deques.0 room-frames.0 room-pool.0 room-work.0 ok' n n-is (nltb→le (length work) n.nodes test-2) r-4 r-4-is (is_true r-4 (not_not r-4 test-5)) tables' tables'-is end (EL.owed M-FramesChecked.the_type L-FramesChecked.the_laws (FramesChecked.Good end) _ (subst (λ (x' : FramesChecked). Is R-FramesChecked x' (val-FramesChecked x' ∷ [])) case-9 tables'-good)).0.1 case-9 r-12 r-12-is (is_false r-12 test-13) work-14 done-14 same-work-14) (same-work-14))))
         (λ test-13.
         assigns ! (addr ! (from ! (fld ! refl (hop ! (look_in ! 45 (sub ! 0 refl (whole !))) (stop !))))) (from ! (stop !)) (init ! 7 refl (tt, tt)) $
         assigns ! (agg ! (and_then ! (load ! (from ! (stop !)) (look ! 7 refl)) (and_then ! (load ! (from ! (fld ! refl (stop !))) (look_in ! 45 (sub ! 1 refl (whole !)))) (no_more !)))) (from ! (stop !)) (init ! 5 refl (tt, (tt, (record { fits = room-work.0 }, tt)))) $
         -- _9 = pool_check::check_pool(_6.1, _6.2, _6.3, _8, _3, _4, _25)
         move ! (2 ∷ 3 ∷ 4 ∷ []) $
-        S-check-pool.step-gg mem run ! fm known-check-pool b-frames o-frames n-frames frames b-pool o-pool n-pool pool b-work o-work n-work work n.splitters n.nodes n.free_node end (LL.owed M-Numbers.the_type L-Numbers.the_laws n _ n-good).1.0.1 (LL.owed M-Numbers.the_type L-Numbers.the_laws n _ n-good).1.1.0.1 (LL.owed M-Numbers.the_type L-Numbers.the_laws n _ n-good).1.1.1.0.1 (EL.owed M-FramesChecked.the_type L-FramesChecked.the_laws (FramesChecked.Good end) _ (subst (λ (x' : FramesChecked). Is R-FramesChecked x' (val-FramesChecked x' ∷ [])) case-9 tables'-good)).0.1 (F.needs-16 numbers deques frames pool work room-numbers.0 room-deques.0 room-frames.0 room-pool.0 room-work.0 ok' n n-is (nltb→le (length work) n.nodes test-2) r-4 r-4-is (is_true r-4 (not-not r-4 test-5)) tables' tables'-is end (EL.owed M-FramesChecked.the_type L-FramesChecked.the_laws (FramesChecked.Good end) _ (subst (λ (x' : FramesChecked). Is R-FramesChecked x' (val-FramesChecked x' ∷ [])) case-9 tables'-good)).0.1 case-9 r-12 r-12-is (is_true r-12 (not-not r-12 test-13))) (refl) room-work
-        (λ ν-0 δ-0. and_then ! (load ! (from ! (fld ! refl (stop !))) (look_in ! 44 (sub ! 1 refl (whole !)))) (and_then ! (load ! (from ! (fld ! refl (stop !))) (look_in ! 44 (sub ! 2 refl (whole !)))) (and_then ! (load ! (from ! (fld ! refl (stop !))) (look_in ! 44 (sub ! 3 refl (whole !)))) (and_then ! (load ! (from ! (stop !)) (look ! 40 refl)) (and_then ! (load ! (from ! (stop !)) (look ! 50 refl)) (and_then ! (load ! (from ! (stop !)) (look ! 48 refl)) (and_then ! (load ! (from ! (stop !)) (look ! 6 refl)) (no_more !)))))))) (λ answer work-16 answer-good answer-is same-work-16.
+        S-check-pool.step-gg mem run ! fm known-check-pool b-frames o-frames n-frames frames b-pool o-pool n-pool pool b-work o-work n-work work n.splitters n.nodes n.free_node end (LL.owed M-Numbers.the_type L-Numbers.the_laws n _ n-good).1.0.1 (LL.owed M-Numbers.the_type L-Numbers.the_laws n _ n-good).1.1.0.1 (LL.owed M-Numbers.the_type L-Numbers.the_laws n _ n-good).1.1.1.0.1 (EL.owed M-FramesChecked.the_type L-FramesChecked.the_laws (FramesChecked.Good end) _ (subst (λ (x' : FramesChecked). Is R-FramesChecked x' (val-FramesChecked x' ∷ [])) case-9 tables'-good)).0.1 (F.needs-16 numbers deques frames pool work room-numbers.0 room-deques.0 room-frames.0 room-pool.0 room-work.0 ok' n n-is (nltb→le (length work) n.nodes test-2) r-4 r-4-is (is_true r-4 (not_not r-4 test-5)) tables' tables'-is end (EL.owed M-FramesChecked.the_type L-FramesChecked.the_laws (FramesChecked.Good end) _ (subst (λ (x' : FramesChecked). Is R-FramesChecked x' (val-FramesChecked x' ∷ [])) case-9 tables'-good)).0.1 case-9 r-12 r-12-is (is_true r-12 (not_not r-12 test-13))) (refl) room-work
+        (λ ν-0 δ-0. and_then ! (load ! (from ! (fld ! refl (stop !))) (look_in ! 44 (sub ! 1 refl (whole !)))) (and_then ! (load ! (from ! (fld ! refl (stop !))) (look_in ! 44 (sub ! 2 refl (whole !)))) (and_then ! (load ! (from ! (fld ! refl (stop !))) (look_in ! 44 (sub ! 3 refl (whole !)))) (and_then ! (load ! (from ! (stop !)) (look ! 40 refl)) (and_then ! (load ! (from ! (stop !)) (look ! 50 refl)) (and_then ! (load ! (from ! (stop !)) (look ! 48 refl)) (and_then ! (load ! (from ! (stop !)) (look ! 6 refl)) (no_more !)))))))) (λ answer work-16 answer-good answer_is same-work-16.
         land ! (from ! (stop !)) (init ! 37 refl ((EL.lawful M-PoolChecked.the_type L-PoolChecked.the_laws 𝓛 tt).typed answer _ answer-good).0) $
         cases-PoolChecked answer
         (λ case-17.
@@ -286,7 +286,7 @@ module _ {M : Type 1} {𝓤 : Ura M} (𝓛 : Logic 𝓤) (mem : Memory → SProp
         returns_within ! Post refl (look ! 55 refl) $ forget ! 5 refl $ forget ! 7 refl $ forget ! 27 refl $ forget ! 29 refl $ forget ! 31 refl $ forget ! 33 refl $ forget ! 37 refl $ forget ! 39 refl $ forget ! 41 refl $ forget ! 43 refl $ forget ! 45 refl $ forget ! 47 refl $ forget ! 49 refl $ forget ! 51 refl $ forget ! 53 refl $ forget ! 55 refl $
         free_all ! 5 refl $
         move ! (3 ∷ 4 ∷ 0 ∷ 1 ∷ 2 ∷ []) $
-        by ! (exits' Checked.Unsound work-16 (EL.owes M-Checked.the_type L-Checked.the_laws Checked.Unsound tt) (F.out-18 numbers deques frames pool work room-numbers.0 room-deques.0 room-frames.0 room-pool.0 room-work.0 ok' n n-is (nltb→le (length work) n.nodes test-2) r-4 r-4-is (is_true r-4 (not-not r-4 test-5)) tables' tables'-is end (EL.owed M-FramesChecked.the_type L-FramesChecked.the_laws (FramesChecked.Good end) _ (subst (λ (x' : FramesChecked). Is R-FramesChecked x' (val-FramesChecked x' ∷ [])) case-9 tables'-good)).0.1 case-9 r-12 r-12-is (is_true r-12 (not-not r-12 test-13)) answer work-16 answer-is same-work-16 case-17) (same-work-16)))
+        by ! (exits' Checked.Unsound work-16 (EL.owes M-Checked.the_type L-Checked.the_laws Checked.Unsound tt) (F.out-18 numbers deques frames pool work room-numbers.0 room-deques.0 room-frames.0 room-pool.0 room-work.0 ok' n n-is (nltb→le (length work) n.nodes test-2) r-4 r-4-is (is_true r-4 (not_not r-4 test-5)) tables' tables'-is end (EL.owed M-FramesChecked.the_type L-FramesChecked.the_laws (FramesChecked.Good end) _ (subst (λ (x' : FramesChecked). Is R-FramesChecked x' (val-FramesChecked x' ∷ [])) case-9 tables'-good)).0.1 case-9 r-12 r-12-is (is_true r-12 (not_not r-12 test-13)) answer work-16 answer_is same-work-16 case-17) (same-work-16)))
         (λ free case-17.
         rewrite ! 37 (λ (x' : PoolChecked). ‵ (fat full_share L-PoolChecked.mir l₉ 0 (val-PoolChecked x'))) case-17 refl $
         matched ! (load ! (from ! (vrt ! refl (fld ! refl (stop !)))) (look_tag ! 37 (whole !))) tt $
@@ -295,7 +295,7 @@ module _ {M : Type 1} {𝓤 : Ura M} (𝓛 : Logic 𝓤) (mem : Memory → SProp
         returns_within ! Post refl (look ! 55 refl) $ forget ! 5 refl $ forget ! 7 refl $ forget ! 27 refl $ forget ! 29 refl $ forget ! 31 refl $ forget ! 33 refl $ forget ! 35 refl $ forget ! 37 refl $ forget ! 39 refl $ forget ! 41 refl $ forget ! 43 refl $ forget ! 45 refl $ forget ! 47 refl $ forget ! 49 refl $ forget ! 51 refl $ forget ! 53 refl $ forget ! 55 refl $
         free_all ! 5 refl $
         move ! (3 ∷ 4 ∷ 0 ∷ 1 ∷ 2 ∷ []) $
-        by ! (exits' (Checked.Sound free) work-16 (EL.owes M-Checked.the_type L-Checked.the_laws (Checked.Sound free) ((refl, (EL.owed M-PoolChecked.the_type L-PoolChecked.the_laws (PoolChecked.Good free) _ (subst (λ (x' : PoolChecked). Is R-PoolChecked x' (val-PoolChecked x' ∷ [])) case-17 answer-good)).0.1), tt)) (F.out-19 numbers deques frames pool work room-numbers.0 room-deques.0 room-frames.0 room-pool.0 room-work.0 ok' n n-is (nltb→le (length work) n.nodes test-2) r-4 r-4-is (is_true r-4 (not-not r-4 test-5)) tables' tables'-is end (EL.owed M-FramesChecked.the_type L-FramesChecked.the_laws (FramesChecked.Good end) _ (subst (λ (x' : FramesChecked). Is R-FramesChecked x' (val-FramesChecked x' ∷ [])) case-9 tables'-good)).0.1 case-9 r-12 r-12-is (is_true r-12 (not-not r-12 test-13)) answer work-16 answer-is same-work-16 free (EL.owed M-PoolChecked.the_type L-PoolChecked.the_laws (PoolChecked.Good free) _ (subst (λ (x' : PoolChecked). Is R-PoolChecked x' (val-PoolChecked x' ∷ [])) case-17 answer-good)).0.1 case-17) (same-work-16))))))))))))))))))))))))))))))))))))))
+        by ! (exits' (Checked.Sound free) work-16 (EL.owes M-Checked.the_type L-Checked.the_laws (Checked.Sound free) ((refl, (EL.owed M-PoolChecked.the_type L-PoolChecked.the_laws (PoolChecked.Good free) _ (subst (λ (x' : PoolChecked). Is R-PoolChecked x' (val-PoolChecked x' ∷ [])) case-17 answer-good)).0.1), tt)) (F.out-19 numbers deques frames pool work room-numbers.0 room-deques.0 room-frames.0 room-pool.0 room-work.0 ok' n n-is (nltb→le (length work) n.nodes test-2) r-4 r-4-is (is_true r-4 (not_not r-4 test-5)) tables' tables'-is end (EL.owed M-FramesChecked.the_type L-FramesChecked.the_laws (FramesChecked.Good end) _ (subst (λ (x' : FramesChecked). Is R-FramesChecked x' (val-FramesChecked x' ∷ [])) case-9 tables'-good)).0.1 case-9 r-12 r-12-is (is_true r-12 (not_not r-12 test-13)) answer work-16 answer_is same-work-16 free (EL.owed M-PoolChecked.the_type L-PoolChecked.the_laws (PoolChecked.Good free) _ (subst (λ (x' : PoolChecked). Is R-PoolChecked x' (val-PoolChecked x' ∷ [])) case-17 answer-good)).0.1 case-17) (same-work-16))))))))))))))))))))))))))))))))))))))
 
 module _ {M : Type 1} {𝓤 : Ura M} (𝓛 : Logic 𝓤) (mem : Memory → SProp 𝓤) (run : Routine → Fun 𝓤) (𝓣 : Tables 𝓤 𝓛.H) where
   open 𝓛 use {H}
@@ -318,7 +318,7 @@ check-old-spec 𝓤 𝓛 𝓜 𝓡 =
     entered 𝓤 𝓛.H (triple_of 𝓛 f'.signature (f'.spec 𝓛 𝓜.mem 𝓡.run))
     (tables 𝓤 𝓛.H 𝓜 𝓡 code.env).C (tables 𝓤 𝓛.H 𝓜 𝓡 code.env).Λ #own code.function (code.unfolded 𝓤 𝓛.H 𝓜 𝓡)
     (meets 𝓛 𝓜.mem 𝓡.run (tables_of 𝓤 𝓛.H 𝓜 (tables 𝓤 𝓛.H 𝓜 𝓡 code.env))
-    (cited 𝓤 𝓛.H (S-numbers-in.Asked 𝓛 𝓜.mem 𝓡.run) 𝓜 𝓡 code.env #numbers-in D-numbers-in.routine code.calls-engine::numbers-in (T-numbers-in.met 𝓤 𝓛 𝓜 𝓡))
+    (cited 𝓤 𝓛.H (S-numbers-in.Asked 𝓛 𝓜.mem 𝓡.run) 𝓜 𝓡 code.env #numbers-in D-numbers-in.routine code.calls-engine::numbers_in_lem (T-numbers-in.met 𝓤 𝓛 𝓜 𝓡))
     (cited 𝓤 𝓛.H (S-holds-old.Asked 𝓛 𝓜.mem 𝓡.run) 𝓜 𝓡 code.env #holds-old D-holds-old.routine code.calls-conversion::checking::holds-old (T-holds-old.met 𝓤 𝓛 𝓜 𝓡))
     (cited 𝓤 𝓛.H (S-clear.Asked 𝓛 𝓜.mem 𝓡.run) 𝓜 𝓡 code.env #clear D-clear.routine code.calls-pool-check::clear (T-clear.met 𝓤 𝓛 𝓜 𝓡))
     (cited 𝓤 𝓛.H (S-check-tables.Asked 𝓛 𝓜.mem 𝓡.run) 𝓜 𝓡 code.env #check-tables D-check-tables.routine code.calls-engine::check-tables (T-check-tables.met 𝓤 𝓛 𝓜 𝓡))

@@ -3,13 +3,13 @@ use borrow.Author.Rules.{rules}
 use lib.ListN.{length-set}
 use Rattle.pool.specs.Pool as Four
 use Rattle.packed.specs.Pool as Two
-use Rattle.packed.specs.Pack.{packedContent}
-use Rattle.conversion.specs.Promises.{nodePacked}
+use Rattle.packed.specs.Pack.{packed_content}
+use Rattle.conversion.specs.Promises.{node_packed}
 use Rattle.conversion.proofs.pack.pack_node.Statement.{statement}
 use Rattle.conversion.proofs.pack.pack_node.Tie as tie
 
 returns : tie.Need-returns
-unfolding nodePacked packedContent Four.setNode Four.refcount Four.left Four.right Four.value Two.setNode
+unfolding node_packed packed_content Four.set_node Four.refcount Four.left Four.right Four.value Two.set_node
 returns c = rw c.packed-content.ensures
 
 pub pack-node-spec : {M : Type 1} → statement M

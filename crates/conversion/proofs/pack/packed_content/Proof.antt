@@ -10,7 +10,7 @@ returns-2 : tie.Need-returns-2
 returns-2 c = rw (ne_eqb _ _ c.before.if1.false, eq-eqb _ _ c.if2.true)
 
 returns-3 : tie.Need-returns-3
-returns-3 c = rw (ne_eqb _ _ c.before.before.if1.false, ne_eqb _ _ c.before.if2.false) c.links-of.ensures
+returns-3 c = rw (ne_eqb _ _ c.before.before.if1.false, ne_eqb _ _ c.before.if2.false) c.links_of.ensures
 
 pub packed-content-spec : {M : Type 1} → statement M
 packed-content-spec = tie.close (tie.spec returns returns-2 (λ c κs. search rules) returns-3)

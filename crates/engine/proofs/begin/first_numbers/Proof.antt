@@ -4,7 +4,7 @@ use Rattle.engine.proofs.begin.first_numbers.Statement.{statement}
 use Rattle.engine.proofs.begin.first_numbers.Tie as tie
 
 returns : tie.Need-returns
-returns c = rw c.first-free.ensures
+returns c = rw c.first_free_lem.ensures
 
 pub first-numbers-spec : {M : Type 1} → statement M
 first-numbers-spec = tie.close (tie.spec (λ c κs. search rules) returns)

@@ -39,8 +39,8 @@ use denote.Triple.Statement.{Triple}
 use denote.Triple.Table.{entered, cited}
 use denote.Triple.Walked.{says, needs, Stays, stay_slice, stay_none, stay_none_slice, walk_of, Walks, ends_at, walked, Goes-slice, Goes-none, Goes-none_slice, walk_Meets}
 use borrow.Author.Rules.{scaled_Fits}
-use Rattle.frames.proofs.Lent.{at-list, Mine, Yours, ty_at, exit-unless, exit-if, leave-if, fork, skipped, regroup, matched, matched-last, const, is_true, is_false, not-not, differ, widen, less-fits, after, turn-of, take_out, put_in, put_back, look-out, look-back, free_all}
-use Rattle.semantics.specs.Entries.{startWith}
+use Rattle.frames.proofs.Lent.{at_list, Mine, Yours, ty_at, exit_unless, exit_if, leave_if, fork, skipped, regroup, matched, matched_last, const, is_true, is_false, not_not, differ, widen, less_fits, after, turn_of_lem, take_out, put_in, put_back, look_out, look_back, free_all}
+use Rattle.semantics.specs.Entries.{start_with}
 use Rattle.semantics.specs.Promises.{parts, Fits, IsStart}
 use Rattle.soundness.specs.Layout.{two_words}
 use Rattle.engine.proofs.Called.whole_nodes as S-whole-nodes
@@ -122,7 +122,7 @@ module _ {M : Type 1} {𝓤 : Ura M} (𝓛 : Logic 𝓤) (mem : Memory → SProp
   n-pool = length pool
 
   abbrev args' : Bor (List ℕ) × (Bor (List ℕ) × (Bor (List Frame) × (ℕ × (Bor (List ℕ) × (Bor (List ℕ) × Unit {0})))))
-  args' = (at-list b-numbers o-numbers γ-numbers numbers, (at-list b-deques o-deques γ-deques deques, (at-list b-frames o-frames γ-frames frames, (workers, (at-list b-values o-values γ-values values, (at-list b-pool o-pool γ-pool pool, tt))))))
+  args' = (at_list b-numbers o-numbers γ-numbers numbers, (at_list b-deques o-deques γ-deques deques, (at_list b-frames o-frames γ-frames frames, (workers, (at_list b-values o-values γ-values values, (at_list b-pool o-pool γ-pool pool, tt))))))
 
   abbrev vals' : Vals f'.signature (κ-numbers, (κ-deques, (κ-frames, (κ-values, (κ-pool, tt)))))
   vals' = (slice_val (b-numbers, o-numbers) (length numbers) ∷ [], (slice_val (b-deques, o-deques) (length deques) ∷ [], (slice_val (b-frames, o-frames) (length frames) ∷ [], (vint w32 workers ∷ [], (slice_val (b-values, o-values) (length values) ∷ [], (slice_val (b-pool, o-pool) (length pool) ∷ [], tt))))))
@@ -133,7 +133,7 @@ module _ {M : Type 1} {𝓤 : Ura M} (𝓛 : Logic 𝓤) (mem : Memory → SProp
   abbrev Post : Val → SProp 𝓤
   Post = (walk_of 𝓛 f'.ended stayed (f'.clauses 𝓛 mem run)).post bound'
 
-  exits' : (res' : ℕ) (zs-numbers : List ℕ) (zs-deques : List ℕ) (zs-frames : List Frame) (zs-pool : List ℕ) → res' < 2 ^ 32 → IsStart (startWith two_words workers values frames pool) zs-numbers zs-deques zs-frames zs-pool res' → length zs-numbers ≡ length numbers → length zs-deques ≡ length deques → length zs-frames ≡ length frames → length zs-pool ≡ length pool → ent 𝓤 (⋆ 𝓛 (‵ (Mine u32 κ-numbers q-numbers γ-numbers b-numbers o-numbers n-numbers zs-numbers) ∷ ‵ (Mine u32 κ-deques q-deques γ-deques b-deques o-deques n-deques zs-deques) ∷ ‵ (Mine R-Frame κ-frames q-frames γ-frames b-frames o-frames n-frames zs-frames) ∷ ‵ (Yours u32 κ-values q-values γ-values b-values o-values n-values values) ∷ ‵ (Mine u32 κ-pool q-pool γ-pool b-pool o-pool n-pool zs-pool) ∷ [])) (Post (vint w32 res'))
+  exits' : (res' : ℕ) (zs-numbers : List ℕ) (zs-deques : List ℕ) (zs-frames : List Frame) (zs-pool : List ℕ) → res' < 2 ^ 32 → IsStart (start_with two_words workers values frames pool) zs-numbers zs-deques zs-frames zs-pool res' → length zs-numbers ≡ length numbers → length zs-deques ≡ length deques → length zs-frames ≡ length frames → length zs-pool ≡ length pool → ent 𝓤 (⋆ 𝓛 (‵ (Mine u32 κ-numbers q-numbers γ-numbers b-numbers o-numbers n-numbers zs-numbers) ∷ ‵ (Mine u32 κ-deques q-deques γ-deques b-deques o-deques n-deques zs-deques) ∷ ‵ (Mine R-Frame κ-frames q-frames γ-frames b-frames o-frames n-frames zs-frames) ∷ ‵ (Yours u32 κ-values q-values γ-values b-values o-values n-values values) ∷ ‵ (Mine u32 κ-pool q-pool γ-pool b-pool o-pool n-pool zs-pool) ∷ [])) (Post (vint w32 res'))
   exits' res' zs-numbers zs-deques zs-frames zs-pool good' e' same_numbers same-deques same-frames same-pool =
       qed 𝓛 (‵ (Mine u32 κ-numbers q-numbers γ-numbers b-numbers o-numbers n-numbers zs-numbers) ∷ ‵ (Mine u32 κ-deques q-deques γ-deques b-deques o-deques n-deques zs-deques) ∷ ‵ (Mine R-Frame κ-frames q-frames γ-frames b-frames o-frames n-frames zs-frames) ∷ ‵ (Yours u32 κ-values q-values γ-values b-values o-values n-values values) ∷ ‵ (Mine u32 κ-pool q-pool γ-pool b-pool o-pool n-pool zs-pool) ∷ []) ∵
       suffices ! _ (ends_at 𝓛 f'.ended stayed (f'.clauses 𝓛 mem run) bound' (vint w32 res') res' (zs-numbers, (zs-deques, (zs-frames, (tt, (tt, (zs-pool, tt)))))) (same_numbers, (same-deques, (same-frames, (tt, (tt, (same-pool, tt))))))) $ says ! e' $
@@ -157,7 +157,7 @@ module _ {M : Type 1} {𝓤 : Ura M} (𝓛 : Logic 𝓤) (mem : Memory → SProp
         -- _7 = engine::begin::whole_nodes(_11)
         move ! (4 ∷ []) $
         S-whole-nodes.step-s mem run ! fm known-whole-nodes b-pool o-pool n-pool pool (refl) room-pool
-        (λ ν-0 δ-0. and_then ! (load ! (from ! (stop !)) (look ! 48 refl)) (no_more !)) (λ nodes nodes-fits nodes-is.
+        (λ ν-0 δ-0. and_then ! (load ! (from ! (stop !)) (look ! 48 refl)) (no_more !)) (λ nodes nodes-fits nodes_is.
         land ! (from ! (stop !)) (init ! 55 refl (tt, record { fits = nodes-fits })) $
         assigns ! (of_opd ! (load ! (from ! (fld ! refl (stop !))) (look_in ! 59 (sub ! 1 refl (whole !))))) (from ! (stop !)) (init ! 45 refl (tt, record { fits = room-values.0 })) $
         assigns ! (of_opd ! (load ! (from ! (fld ! refl (stop !))) (look_in ! 63 (sub ! 1 refl (whole !))))) (from ! (stop !)) (init ! 43 refl (tt, record { fits = room-frames.0 })) $
@@ -166,7 +166,7 @@ module _ {M : Type 1} {𝓤 : Ura M} (𝓛 : Logic 𝓤) (mem : Memory → SProp
         (and_then ! (load ! (from ! (stop !)) (look ! 62 refl)) (and_then ! (load ! (from ! (stop !)) (look ! 46 refl)) (and_then ! (load ! (from ! (stop !)) (look ! 44 refl)) (and_then ! (load ! (from ! (stop !)) (look ! 56 refl)) (no_more !))))) (λ refusal refusal-fits refusal_is.
         land ! (from ! (stop !)) (init ! 53 refl (tt, record { fits = refusal-fits })) $
         assigns ! (bin ! (load ! (from ! (stop !)) (look ! 53 refl)) (const ! _ tt) tt) (from ! (stop !)) (init ! 41 refl (tt, tt)) $
-        leave-if ! (load ! (from ! (stop !)) (look ! 41 refl))
+        leave_if ! (load ! (from ! (stop !)) (look ! 41 refl))
         (λ test-3.
         assigns ! (addr ! (from ! (fld ! refl (hop ! (look_in ! 67 (sub ! 0 refl (whole !))) (stop !))))) (from ! (stop !)) (init ! 37 refl (tt, tt)) $
         assigns ! (agg ! (and_then ! (load ! (from ! (stop !)) (look ! 37 refl)) (and_then ! (load ! (from ! (fld ! refl (stop !))) (look_in ! 67 (sub ! 1 refl (whole !)))) (no_more !)))) (from ! (stop !)) (init ! 35 refl (tt, (tt, (record { fits = room-numbers.0 }, tt)))) $
@@ -186,53 +186,53 @@ module _ {M : Type 1} {𝓤 : Ura M} (𝓛 : Logic 𝓤) (mem : Memory → SProp
         returns_within ! Post refl (look ! 69 refl) $ forget ! 31 refl $ forget ! 33 refl $ forget ! 35 refl $ forget ! 37 refl $ forget ! 39 refl $ forget ! 41 refl $ forget ! 43 refl $ forget ! 45 refl $ forget ! 47 refl $ forget ! 49 refl $ forget ! 53 refl $ forget ! 55 refl $ forget ! 57 refl $ forget ! 59 refl $ forget ! 61 refl $ forget ! 63 refl $ forget ! 65 refl $ forget ! 67 refl $ forget ! 69 refl $
         free_all ! 5 refl $
         move ! (1 ∷ 0 ∷ 3 ∷ 4 ∷ 2 ∷ []) $
-        by ! (exits' refusal numbers-4 deques-5 frames pool refusal-fits (F.out-6 numbers deques frames workers values pool room-numbers.0 room-deques.0 room-frames.0 workers-fits room-values.0 room-pool.0 ok' nodes nodes-fits nodes-is refusal refusal-fits refusal_is (differ refusal 0 test-3) numbers-4 done-4 same-numbers-4 deques-5 done-5 same-deques-5) (same-numbers-4) (same-deques-5) (refl) (refl)))))
+        by ! (exits' refusal numbers-4 deques-5 frames pool refusal-fits (F.out-6 numbers deques frames workers values pool room-numbers.0 room-deques.0 room-frames.0 workers-fits room-values.0 room-pool.0 ok' nodes nodes-fits nodes_is refusal refusal-fits refusal_is (differ refusal 0 test-3) numbers-4 done-4 same-numbers-4 deques-5 done-5 same-deques-5) (same-numbers-4) (same-deques-5) (refl) (refl)))))
         (λ test-3.
         assigns ! (addr ! (from ! (fld ! refl (hop ! (look_in ! 57 (sub ! 0 refl (whole !))) (stop !))))) (from ! (stop !)) (init ! 29 refl (tt, tt)) $
         assigns ! (agg ! (and_then ! (load ! (from ! (stop !)) (look ! 29 refl)) (and_then ! (load ! (from ! (fld ! refl (stop !))) (look_in ! 57 (sub ! 1 refl (whole !)))) (no_more !)))) (from ! (stop !)) (init ! 27 refl (tt, (tt, (record { fits = room-pool.0 }, tt)))) $
         assigns ! (of_opd ! (load ! (from ! (fld ! refl (stop !))) (look_in ! 59 (sub ! 1 refl (whole !))))) (from ! (stop !)) (store ! 45 refl (tt, record { fits = room-values.0 })) $
-        assigns ! (un ! (load ! (from ! (stop !)) (look ! 45 refl)) (record { fits = (F.small-7 numbers deques frames workers values pool room-numbers.0 room-deques.0 room-frames.0 workers-fits room-values.0 room-pool.0 ok' nodes nodes-fits nodes-is refusal refusal-fits refusal_is (eqb→eq refusal 0 (not-not (eqb refusal 0) test-3))) })) (from ! (stop !)) (init ! 25 refl (tt, record { fits = (F.small-7 numbers deques frames workers values pool room-numbers.0 room-deques.0 room-frames.0 workers-fits room-values.0 room-pool.0 ok' nodes nodes-fits nodes-is refusal refusal-fits refusal_is (eqb→eq refusal 0 (not-not (eqb refusal 0) test-3))) })) $
-        assigns ! (un ! (load ! (from ! (stop !)) (look ! 55 refl)) (record { fits = (F.small-8 numbers deques frames workers values pool room-numbers.0 room-deques.0 room-frames.0 workers-fits room-values.0 room-pool.0 ok' nodes nodes-fits nodes-is refusal refusal-fits refusal_is (eqb→eq refusal 0 (not-not (eqb refusal 0) test-3))) })) (from ! (stop !)) (init ! 23 refl (tt, record { fits = (F.small-8 numbers deques frames workers values pool room-numbers.0 room-deques.0 room-frames.0 workers-fits room-values.0 room-pool.0 ok' nodes nodes-fits nodes-is refusal refusal-fits refusal_is (eqb→eq refusal 0 (not-not (eqb refusal 0) test-3))) })) $
+        assigns ! (un ! (load ! (from ! (stop !)) (look ! 45 refl)) (record { fits = (F.small-7 numbers deques frames workers values pool room-numbers.0 room-deques.0 room-frames.0 workers-fits room-values.0 room-pool.0 ok' nodes nodes-fits nodes_is refusal refusal-fits refusal_is (eqb→eq refusal 0 (not_not (eqb refusal 0) test-3))) })) (from ! (stop !)) (init ! 25 refl (tt, record { fits = (F.small-7 numbers deques frames workers values pool room-numbers.0 room-deques.0 room-frames.0 workers-fits room-values.0 room-pool.0 ok' nodes nodes-fits nodes_is refusal refusal-fits refusal_is (eqb→eq refusal 0 (not_not (eqb refusal 0) test-3))) })) $
+        assigns ! (un ! (load ! (from ! (stop !)) (look ! 55 refl)) (record { fits = (F.small-8 numbers deques frames workers values pool room-numbers.0 room-deques.0 room-frames.0 workers-fits room-values.0 room-pool.0 ok' nodes nodes-fits nodes_is refusal refusal-fits refusal_is (eqb→eq refusal 0 (not_not (eqb refusal 0) test-3))) })) (from ! (stop !)) (init ! 23 refl (tt, record { fits = (F.small-8 numbers deques frames workers values pool room-numbers.0 room-deques.0 room-frames.0 workers-fits room-values.0 room-pool.0 ok' nodes nodes-fits nodes_is refusal refusal-fits refusal_is (eqb→eq refusal 0 (not_not (eqb refusal 0) test-3))) })) $
         -- _9 = packed::start::init_pool(_21, _22, _23, _5)
         move ! (0 ∷ 4 ∷ []) $
-        S-init-pool.step-g mem run ! fm known-init-pool b-pool o-pool n-pool pool b-values o-values n-values values (length values) nodes (F.small-7 numbers deques frames workers values pool room-numbers.0 room-deques.0 room-frames.0 workers-fits room-values.0 room-pool.0 ok' nodes nodes-fits nodes-is refusal refusal-fits refusal_is (eqb→eq refusal 0 (not-not (eqb refusal 0) test-3))) (F.small-8 numbers deques frames workers values pool room-numbers.0 room-deques.0 room-frames.0 workers-fits room-values.0 room-pool.0 ok' nodes nodes-fits nodes-is refusal refusal-fits refusal_is (eqb→eq refusal 0 (not-not (eqb refusal 0) test-3))) (refl) room-pool
-        (λ ν-0 δ-0. and_then ! (load ! (from ! (stop !)) (look ! 28 refl)) (and_then ! (load ! (from ! (stop !)) (look ! 26 refl)) (and_then ! (load ! (from ! (stop !)) (look ! 24 refl)) (and_then ! (load ! (from ! (stop !)) (look ! 60 refl)) (no_more !))))) (λ free pool-9 free-fits free-is same-pool-9.
+        S-init-pool.step-g mem run ! fm known-init-pool b-pool o-pool n-pool pool b-values o-values n-values values (length values) nodes (F.small-7 numbers deques frames workers values pool room-numbers.0 room-deques.0 room-frames.0 workers-fits room-values.0 room-pool.0 ok' nodes nodes-fits nodes_is refusal refusal-fits refusal_is (eqb→eq refusal 0 (not_not (eqb refusal 0) test-3))) (F.small-8 numbers deques frames workers values pool room-numbers.0 room-deques.0 room-frames.0 workers-fits room-values.0 room-pool.0 ok' nodes nodes-fits nodes_is refusal refusal-fits refusal_is (eqb→eq refusal 0 (not_not (eqb refusal 0) test-3))) (refl) room-pool
+        (λ ν-0 δ-0. and_then ! (load ! (from ! (stop !)) (look ! 28 refl)) (and_then ! (load ! (from ! (stop !)) (look ! 26 refl)) (and_then ! (load ! (from ! (stop !)) (look ! 24 refl)) (and_then ! (load ! (from ! (stop !)) (look ! 60 refl)) (no_more !))))) (λ free pool-9 free-fits free_is same-pool-9.
         land ! (from ! (stop !)) (init ! 51 refl (tt, record { fits = free-fits })) $
         assigns ! (addr ! (from ! (fld ! refl (hop ! (look_in ! 65 (sub ! 0 refl (whole !))) (stop !))))) (from ! (stop !)) (init ! 19 refl (tt, tt)) $
         assigns ! (agg ! (and_then ! (load ! (from ! (stop !)) (look ! 19 refl)) (and_then ! (load ! (from ! (fld ! refl (stop !))) (look_in ! 65 (sub ! 1 refl (whole !)))) (no_more !)))) (from ! (stop !)) (init ! 17 refl (tt, (tt, (record { fits = room-deques.0 }, tt)))) $
         -- _24 = frames::deques::init_deques(_26)
         move ! (3 ∷ []) $
-        S-init-deques.step mem run ! fm known-init-deques b-deques o-deques n-deques deques (F.needs-10 numbers deques frames workers values pool room-numbers.0 room-deques.0 room-frames.0 workers-fits room-values.0 room-pool.0 ok' nodes nodes-fits nodes-is refusal refusal-fits refusal_is (eqb→eq refusal 0 (not-not (eqb refusal 0) test-3)) free pool-9 free-fits free-is same-pool-9) (refl) room-deques
+        S-init-deques.step mem run ! fm known-init-deques b-deques o-deques n-deques deques (F.needs-10 numbers deques frames workers values pool room-numbers.0 room-deques.0 room-frames.0 workers-fits room-values.0 room-pool.0 ok' nodes nodes-fits nodes_is refusal refusal-fits refusal_is (eqb→eq refusal 0 (not_not (eqb refusal 0) test-3)) free pool-9 free-fits free_is same-pool-9) (refl) room-deques
         (λ ν-0 δ-0. and_then ! (load ! (from ! (stop !)) (look ! 18 refl)) (no_more !)) (λ deques-10 done-10 same-deques-10.
         land ! (from ! (stop !)) (init ! 21 refl (tt, tt)) $
         assigns ! (addr ! (from ! (fld ! refl (hop ! (look_in ! 63 (sub ! 0 refl (whole !))) (stop !))))) (from ! (stop !)) (init ! 15 refl (tt, tt)) $
         assigns ! (agg ! (and_then ! (load ! (from ! (stop !)) (look ! 15 refl)) (and_then ! (load ! (from ! (fld ! refl (stop !))) (look_in ! 63 (sub ! 1 refl (whole !)))) (no_more !)))) (from ! (stop !)) (init ! 13 refl (tt, (tt, (record { fits = room-frames.0 }, tt)))) $
         -- _24 = frames::start::init_frames(_28)
         move ! (4 ∷ []) $
-        S-init-frames.step mem run ! fm known-init-frames b-frames o-frames n-frames frames (F.needs-11 numbers deques frames workers values pool room-numbers.0 room-deques.0 room-frames.0 workers-fits room-values.0 room-pool.0 ok' nodes nodes-fits nodes-is refusal refusal-fits refusal_is (eqb→eq refusal 0 (not-not (eqb refusal 0) test-3)) free pool-9 free-fits free-is same-pool-9 deques-10 done-10 same-deques-10) (refl) room-frames
+        S-init-frames.step mem run ! fm known-init-frames b-frames o-frames n-frames frames (F.needs-11 numbers deques frames workers values pool room-numbers.0 room-deques.0 room-frames.0 workers-fits room-values.0 room-pool.0 ok' nodes nodes-fits nodes_is refusal refusal-fits refusal_is (eqb→eq refusal 0 (not_not (eqb refusal 0) test-3)) free pool-9 free-fits free_is same-pool-9 deques-10 done-10 same-deques-10) (refl) room-frames
         (λ ν-0 δ-0. and_then ! (load ! (from ! (stop !)) (look ! 14 refl)) (no_more !)) (λ frames-11 done-11 same-frames-11.
         land ! (from ! (stop !)) (store ! 21 refl (tt, tt)) $
         assigns ! (addr ! (from ! (fld ! refl (hop ! (look_in ! 67 (sub ! 0 refl (whole !))) (stop !))))) (from ! (stop !)) (init ! 11 refl (tt, tt)) $
         assigns ! (agg ! (and_then ! (load ! (from ! (stop !)) (look ! 11 refl)) (and_then ! (load ! (from ! (fld ! refl (stop !))) (look_in ! 67 (sub ! 1 refl (whole !)))) (no_more !)))) (from ! (stop !)) (init ! 9 refl (tt, (tt, (record { fits = room-numbers.0 }, tt)))) $
         assigns ! (of_opd ! (load ! (from ! (fld ! refl (stop !))) (look_in ! 59 (sub ! 1 refl (whole !))))) (from ! (stop !)) (store ! 43 refl (tt, record { fits = room-values.0 })) $
-        assigns ! (un ! (load ! (from ! (stop !)) (look ! 43 refl)) (record { fits = (F.small-12 numbers deques frames workers values pool room-numbers.0 room-deques.0 room-frames.0 workers-fits room-values.0 room-pool.0 ok' nodes nodes-fits nodes-is refusal refusal-fits refusal_is (eqb→eq refusal 0 (not-not (eqb refusal 0) test-3)) free pool-9 free-fits free-is same-pool-9 deques-10 done-10 same-deques-10 frames-11 done-11 same-frames-11) })) (from ! (stop !)) (store ! 23 refl (tt, record { fits = (F.small-12 numbers deques frames workers values pool room-numbers.0 room-deques.0 room-frames.0 workers-fits room-values.0 room-pool.0 ok' nodes nodes-fits nodes-is refusal refusal-fits refusal_is (eqb→eq refusal 0 (not-not (eqb refusal 0) test-3)) free pool-9 free-fits free-is same-pool-9 deques-10 done-10 same-deques-10 frames-11 done-11 same-frames-11) })) $
-        assigns ! (un ! (load ! (from ! (stop !)) (look ! 55 refl)) (record { fits = (F.small-13 numbers deques frames workers values pool room-numbers.0 room-deques.0 room-frames.0 workers-fits room-values.0 room-pool.0 ok' nodes nodes-fits nodes-is refusal refusal-fits refusal_is (eqb→eq refusal 0 (not-not (eqb refusal 0) test-3)) free pool-9 free-fits free-is same-pool-9 deques-10 done-10 same-deques-10 frames-11 done-11 same-frames-11) })) (from ! (stop !)) (store ! 25 refl (tt, record { fits = (F.small-13 numbers deques frames workers values pool room-numbers.0 room-deques.0 room-frames.0 workers-fits room-values.0 room-pool.0 ok' nodes nodes-fits nodes-is refusal refusal-fits refusal_is (eqb→eq refusal 0 (not-not (eqb refusal 0) test-3)) free pool-9 free-fits free-is same-pool-9 deques-10 done-10 same-deques-10 frames-11 done-11 same-frames-11) })) $
+        assigns ! (un ! (load ! (from ! (stop !)) (look ! 43 refl)) (record { fits = (F.small-12 numbers deques frames workers values pool room-numbers.0 room-deques.0 room-frames.0 workers-fits room-values.0 room-pool.0 ok' nodes nodes-fits nodes_is refusal refusal-fits refusal_is (eqb→eq refusal 0 (not_not (eqb refusal 0) test-3)) free pool-9 free-fits free_is same-pool-9 deques-10 done-10 same-deques-10 frames-11 done-11 same-frames-11) })) (from ! (stop !)) (store ! 23 refl (tt, record { fits = (F.small-12 numbers deques frames workers values pool room-numbers.0 room-deques.0 room-frames.0 workers-fits room-values.0 room-pool.0 ok' nodes nodes-fits nodes_is refusal refusal-fits refusal_is (eqb→eq refusal 0 (not_not (eqb refusal 0) test-3)) free pool-9 free-fits free_is same-pool-9 deques-10 done-10 same-deques-10 frames-11 done-11 same-frames-11) })) $
+        assigns ! (un ! (load ! (from ! (stop !)) (look ! 55 refl)) (record { fits = (F.small-13 numbers deques frames workers values pool room-numbers.0 room-deques.0 room-frames.0 workers-fits room-values.0 room-pool.0 ok' nodes nodes-fits nodes_is refusal refusal-fits refusal_is (eqb→eq refusal 0 (not_not (eqb refusal 0) test-3)) free pool-9 free-fits free_is same-pool-9 deques-10 done-10 same-deques-10 frames-11 done-11 same-frames-11) })) (from ! (stop !)) (store ! 25 refl (tt, record { fits = (F.small-13 numbers deques frames workers values pool room-numbers.0 room-deques.0 room-frames.0 workers-fits room-values.0 room-pool.0 ok' nodes nodes-fits nodes_is refusal refusal-fits refusal_is (eqb→eq refusal 0 (not_not (eqb refusal 0) test-3)) free pool-9 free-fits free_is same-pool-9 deques-10 done-10 same-deques-10 frames-11 done-11 same-frames-11) })) $
         assigns ! (of_opd ! (load ! (from ! (fld ! refl (stop !))) (look_in ! 63 (sub ! 1 refl (whole !))))) (from ! (stop !)) (store ! 45 refl (tt, record { fits = room-frames.0 })) $
-        assigns ! (un ! (load ! (from ! (stop !)) (look ! 45 refl)) (record { fits = (F.small-14 numbers deques frames workers values pool room-numbers.0 room-deques.0 room-frames.0 workers-fits room-values.0 room-pool.0 ok' nodes nodes-fits nodes-is refusal refusal-fits refusal_is (eqb→eq refusal 0 (not-not (eqb refusal 0) test-3)) free pool-9 free-fits free-is same-pool-9 deques-10 done-10 same-deques-10 frames-11 done-11 same-frames-11) })) (from ! (stop !)) (init ! 5 refl (tt, record { fits = (F.small-14 numbers deques frames workers values pool room-numbers.0 room-deques.0 room-frames.0 workers-fits room-values.0 room-pool.0 ok' nodes nodes-fits nodes-is refusal refusal-fits refusal_is (eqb→eq refusal 0 (not-not (eqb refusal 0) test-3)) free pool-9 free-fits free-is same-pool-9 deques-10 done-10 same-deques-10 frames-11 done-11 same-frames-11) })) $
+        assigns ! (un ! (load ! (from ! (stop !)) (look ! 45 refl)) (record { fits = (F.small-14 numbers deques frames workers values pool room-numbers.0 room-deques.0 room-frames.0 workers-fits room-values.0 room-pool.0 ok' nodes nodes-fits nodes_is refusal refusal-fits refusal_is (eqb→eq refusal 0 (not_not (eqb refusal 0) test-3)) free pool-9 free-fits free_is same-pool-9 deques-10 done-10 same-deques-10 frames-11 done-11 same-frames-11) })) (from ! (stop !)) (init ! 5 refl (tt, record { fits = (F.small-14 numbers deques frames workers values pool room-numbers.0 room-deques.0 room-frames.0 workers-fits room-values.0 room-pool.0 ok' nodes nodes-fits nodes_is refusal refusal-fits refusal_is (eqb→eq refusal 0 (not_not (eqb refusal 0) test-3)) free pool-9 free-fits free_is same-pool-9 deques-10 done-10 same-deques-10 frames-11 done-11 same-frames-11) })) $
         -- _31 = engine::begin::first_numbers(_4, _23, _22, _9, _32)
-        S-first-numbers.step mem run ! fm known-first-numbers workers (length values) nodes free (length frames) workers-fits (F.small-12 numbers deques frames workers values pool room-numbers.0 room-deques.0 room-frames.0 workers-fits room-values.0 room-pool.0 ok' nodes nodes-fits nodes-is refusal refusal-fits refusal_is (eqb→eq refusal 0 (not-not (eqb refusal 0) test-3)) free pool-9 free-fits free-is same-pool-9 deques-10 done-10 same-deques-10 frames-11 done-11 same-frames-11) (F.small-13 numbers deques frames workers values pool room-numbers.0 room-deques.0 room-frames.0 workers-fits room-values.0 room-pool.0 ok' nodes nodes-fits nodes-is refusal refusal-fits refusal_is (eqb→eq refusal 0 (not-not (eqb refusal 0) test-3)) free pool-9 free-fits free-is same-pool-9 deques-10 done-10 same-deques-10 frames-11 done-11 same-frames-11) free-fits (F.small-14 numbers deques frames workers values pool room-numbers.0 room-deques.0 room-frames.0 workers-fits room-values.0 room-pool.0 ok' nodes nodes-fits nodes-is refusal refusal-fits refusal_is (eqb→eq refusal 0 (not-not (eqb refusal 0) test-3)) free pool-9 free-fits free-is same-pool-9 deques-10 done-10 same-deques-10 frames-11 done-11 same-frames-11)
+        S-first-numbers.step mem run ! fm known-first-numbers workers (length values) nodes free (length frames) workers-fits (F.small-12 numbers deques frames workers values pool room-numbers.0 room-deques.0 room-frames.0 workers-fits room-values.0 room-pool.0 ok' nodes nodes-fits nodes_is refusal refusal-fits refusal_is (eqb→eq refusal 0 (not_not (eqb refusal 0) test-3)) free pool-9 free-fits free_is same-pool-9 deques-10 done-10 same-deques-10 frames-11 done-11 same-frames-11) (F.small-13 numbers deques frames workers values pool room-numbers.0 room-deques.0 room-frames.0 workers-fits room-values.0 room-pool.0 ok' nodes nodes-fits nodes_is refusal refusal-fits refusal_is (eqb→eq refusal 0 (not_not (eqb refusal 0) test-3)) free pool-9 free-fits free_is same-pool-9 deques-10 done-10 same-deques-10 frames-11 done-11 same-frames-11) free-fits (F.small-14 numbers deques frames workers values pool room-numbers.0 room-deques.0 room-frames.0 workers-fits room-values.0 room-pool.0 ok' nodes nodes-fits nodes_is refusal refusal-fits refusal_is (eqb→eq refusal 0 (not_not (eqb refusal 0) test-3)) free pool-9 free-fits free_is same-pool-9 deques-10 done-10 same-deques-10 frames-11 done-11 same-frames-11)
         (and_then ! (load ! (from ! (stop !)) (look ! 62 refl)) (and_then ! (load ! (from ! (stop !)) (look ! 24 refl)) (and_then ! (load ! (from ! (stop !)) (look ! 26 refl)) (and_then ! (load ! (from ! (stop !)) (look ! 52 refl)) (and_then ! (load ! (from ! (stop !)) (look ! 6 refl)) (no_more !)))))) (λ r-15 r-15-good r-15-is.
         land ! (from ! (stop !)) (init ! 7 refl ((LL.lawful M-Numbers.the_type L-Numbers.the_laws 𝓛).typed r-15 _ r-15-good).0) $
         -- _24 = engine::numbers::put_numbers(_30, _31)
         move ! (4 ∷ []) $
-        S-put-numbers.step mem run ! fm known-put-numbers b-numbers o-numbers n-numbers numbers r-15 r-15-good (F.needs-16 numbers deques frames workers values pool room-numbers.0 room-deques.0 room-frames.0 workers-fits room-values.0 room-pool.0 ok' nodes nodes-fits nodes-is refusal refusal-fits refusal_is (eqb→eq refusal 0 (not-not (eqb refusal 0) test-3)) free pool-9 free-fits free-is same-pool-9 deques-10 done-10 same-deques-10 frames-11 done-11 same-frames-11 r-15 r-15-is) (refl) room-numbers
+        S-put-numbers.step mem run ! fm known-put-numbers b-numbers o-numbers n-numbers numbers r-15 r-15-good (F.needs-16 numbers deques frames workers values pool room-numbers.0 room-deques.0 room-frames.0 workers-fits room-values.0 room-pool.0 ok' nodes nodes-fits nodes_is refusal refusal-fits refusal_is (eqb→eq refusal 0 (not_not (eqb refusal 0) test-3)) free pool-9 free-fits free_is same-pool-9 deques-10 done-10 same-deques-10 frames-11 done-11 same-frames-11 r-15 r-15-is) (refl) room-numbers
         (λ ν-0 δ-0. and_then ! (load ! (from ! (stop !)) (look ! 10 refl)) (and_then ! (load ! (from ! (stop !)) (look ! 8 refl)) (no_more !))) (λ numbers-16 done-16 same-numbers-16.
         land ! (from ! (stop !)) (store ! 21 refl (tt, tt)) $
         assigns ! (of_opd ! (const ! _ tt)) (from ! (stop !)) (init ! 69 refl (tt, record { fits = (lit< tt) })) $
         returns_within ! Post refl (look ! 69 refl) $ forget ! 5 refl $ forget ! 7 refl $ forget ! 9 refl $ forget ! 11 refl $ forget ! 13 refl $ forget ! 15 refl $ forget ! 17 refl $ forget ! 19 refl $ forget ! 21 refl $ forget ! 23 refl $ forget ! 25 refl $ forget ! 27 refl $ forget ! 29 refl $ forget ! 41 refl $ forget ! 43 refl $ forget ! 45 refl $ forget ! 47 refl $ forget ! 49 refl $ forget ! 51 refl $ forget ! 53 refl $ forget ! 55 refl $ forget ! 57 refl $ forget ! 59 refl $ forget ! 61 refl $ forget ! 63 refl $ forget ! 65 refl $ forget ! 67 refl $ forget ! 69 refl $
         free_all ! 5 refl $
         move ! (0 ∷ 2 ∷ 1 ∷ 4 ∷ 3 ∷ []) $
-        by ! (exits' 0 numbers-16 deques-10 frames-11 pool-9 (lit< tt) (F.out-17 numbers deques frames workers values pool room-numbers.0 room-deques.0 room-frames.0 workers-fits room-values.0 room-pool.0 ok' nodes nodes-fits nodes-is refusal refusal-fits refusal_is (eqb→eq refusal 0 (not-not (eqb refusal 0) test-3)) free pool-9 free-fits free-is same-pool-9 deques-10 done-10 same-deques-10 frames-11 done-11 same-frames-11 r-15 r-15-is numbers-16 done-16 same-numbers-16) (same-numbers-16) (same-deques-10) (same-frames-11) (same-pool-9)))))))))))))))))))))))))))))))))))))))))))
+        by ! (exits' 0 numbers-16 deques-10 frames-11 pool-9 (lit< tt) (F.out-17 numbers deques frames workers values pool room-numbers.0 room-deques.0 room-frames.0 workers-fits room-values.0 room-pool.0 ok' nodes nodes-fits nodes_is refusal refusal-fits refusal_is (eqb→eq refusal 0 (not_not (eqb refusal 0) test-3)) free pool-9 free-fits free_is same-pool-9 deques-10 done-10 same-deques-10 frames-11 done-11 same-frames-11 r-15 r-15-is numbers-16 done-16 same-numbers-16) (same-numbers-16) (same-deques-10) (same-frames-11) (same-pool-9)))))))))))))))))))))))))))))))))))))))))))
 
 module _ {M : Type 1} {𝓤 : Ura M} (𝓛 : Logic 𝓤) (mem : Memory → SProp 𝓤) (run : Routine → Fun 𝓤) (𝓣 : Tables 𝓤 𝓛.H) where
   open 𝓛 use {H}

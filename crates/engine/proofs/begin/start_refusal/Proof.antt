@@ -1,6 +1,6 @@
 -- The tests in order: the ways out are in `proofs.Starts`.
 use Rattle.std.proofs.Common.{◌≤◌, ◌∙◌, rules}
-use Rattle.engine.proofs.Starts.{few, start-values, start-workers, start-places, start-nodes, start-passes}
+use Rattle.engine.proofs.Starts.{few, start-values, start_workers, start_places, start-nodes, start_passes}
 use Rattle.engine.proofs.begin.start_refusal.Statement.{statement}
 use Rattle.engine.proofs.begin.start_refusal.Tie as tie
 
@@ -15,7 +15,7 @@ returns-2 c =
     let t = c.before in
     let e = t.before in
     let s = e.before in
-    c.refusal-number2.ensures ∙ start-workers s.args.workers s.args.n s.args.places s.args.nodes e.if1.false t.if2.true
+    c.refusal-number2.ensures ∙ start_workers s.args.workers s.args.n s.args.places s.args.nodes e.if1.false t.if2.true
 
 returns-3 : tie.Need-returns-3
 returns-3 c =
@@ -23,7 +23,7 @@ returns-3 c =
     let f = t.before in
     let e = f.before in
     let s = e.before in
-    c.refusal-number3.ensures ∙ start-places s.args.workers s.args.n s.args.places s.args.nodes e.if1.false f.if2.false t.if3.true
+    c.refusal-number3.ensures ∙ start_places s.args.workers s.args.n s.args.places s.args.nodes e.if1.false f.if2.false t.if3.true
 
 cast-tree-nodes : tie.Need-overflow-cast-tree-nodes
 cast-tree-nodes c =
@@ -48,7 +48,7 @@ returns-5 c =
     let f = g.before in
     let e = f.before in
     let s = e.before in
-    start-passes s.args.workers s.args.n s.args.places s.args.nodes e.if1.false f.if2.false g.if3.false _ k.tree-nodes.ensures c.if4.false
+    start_passes s.args.workers s.args.n s.args.places s.args.nodes e.if1.false f.if2.false g.if3.false _ k.tree-nodes.ensures c.if4.false
 
 pub start-refusal-spec : {M : Type 1} → statement M
 start-refusal-spec =

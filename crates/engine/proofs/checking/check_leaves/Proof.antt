@@ -39,12 +39,12 @@ use denote.Triple.Statement.{Triple}
 use denote.Triple.Table.{entered, cited}
 use denote.Triple.Walked.{says, needs, Stays, stay_slice, stay_none, stay_none_slice, walk_of, Walks, ends_at, walked, Goes-slice, Goes-none, Goes-none_slice, walk_Meets}
 use borrow.Author.Rules.{scaled_Fits}
-use Rattle.frames.proofs.Lent.{at-list, Mine, Yours, ty_at, exit-unless, exit-if, leave-if, fork, skipped, regroup, matched, matched-last, const, is_true, is_false, not-not, differ, widen, less-fits, after, turn-of, take_out, put_in, put_back, look-out, look-back, free_all}
+use Rattle.frames.proofs.Lent.{at_list, Mine, Yours, ty_at, exit_unless, exit_if, leave_if, fork, skipped, regroup, matched, matched_last, const, is_true, is_false, not_not, differ, widen, less_fits, after, turn_of_lem, take_out, put_in, put_back, look_out, look_back, free_all}
 use Rattle.soundness.specs.declared.Checked.TheVariants.{Sound}
-use Rattle.semantics.specs.Entries.{isSound}
+use Rattle.semantics.specs.Entries.{is_sound}
 use Rattle.semantics.specs.Promises.{parts, Fits}
-use Rattle.semantics.specs.Remembering.{rightMemory, withMemory}
-use Rattle.memory.specs.Memory.{memoryWords}
+use Rattle.semantics.specs.Remembering.{right_memory, with_memory}
+use Rattle.memory.specs.Memory.{memory_words}
 use Rattle.soundness.specs.Layout.{two_words}
 use Rattle.engine.proofs.Called.numbers_in as S-numbers-in
 use Rattle.engine.proofs.numbers.numbers_in.Symbol as D-numbers-in
@@ -115,7 +115,7 @@ module _ {M : Type 1} {𝓤 : Ura M} (𝓛 : Logic 𝓤) (mem : Memory → SProp
   n-pool = length pool
 
   abbrev args' : Checked × (Bor (List ℕ) × (Bor (List ℕ) × (Bor (List Frame) × (Bor (List ℕ) × (Bor (List ℕ) × Unit {0})))))
-  args' = (checked, (at-list b-numbers o-numbers γ-numbers numbers, (at-list b-deques o-deques γ-deques deques, (at-list b-frames o-frames γ-frames frames, (at-list b-memory o-memory γ-memory memory, (at-list b-pool o-pool γ-pool pool, tt))))))
+  args' = (checked, (at_list b-numbers o-numbers γ-numbers numbers, (at_list b-deques o-deques γ-deques deques, (at_list b-frames o-frames γ-frames frames, (at_list b-memory o-memory γ-memory memory, (at_list b-pool o-pool γ-pool pool, tt))))))
 
   abbrev vals' : Vals f'.signature (κ-numbers, (κ-deques, (κ-frames, (κ-memory, (κ-pool, tt)))))
   vals' = (val-Checked checked ∷ [], (slice_val (b-numbers, o-numbers) (length numbers) ∷ [], (slice_val (b-deques, o-deques) (length deques) ∷ [], (slice_val (b-frames, o-frames) (length frames) ∷ [], (slice_val (b-memory, o-memory) (length memory) ∷ [], (slice_val (b-pool, o-pool) (length pool) ∷ [], tt))))))
@@ -126,7 +126,7 @@ module _ {M : Type 1} {𝓤 : Ura M} (𝓛 : Logic 𝓤) (mem : Memory → SProp
   abbrev Post : Val → SProp 𝓤
   Post = (walk_of 𝓛 f'.ended stayed (f'.clauses 𝓛 mem run)).post bound'
 
-  exits' : (res' : Checked) → Is R-Checked res' (val-Checked res' ∷ []) → res' ≡ withMemory checked (rightMemory two_words (parts numbers deques frames) pool memory) → ent 𝓤 (⋆ 𝓛 (‵ (Yours u32 κ-numbers q-numbers γ-numbers b-numbers o-numbers n-numbers numbers) ∷ ‵ (Yours u32 κ-deques q-deques γ-deques b-deques o-deques n-deques deques) ∷ ‵ (Yours R-Frame κ-frames q-frames γ-frames b-frames o-frames n-frames frames) ∷ ‵ (Yours u32 κ-memory q-memory γ-memory b-memory o-memory n-memory memory) ∷ ‵ (Yours u32 κ-pool q-pool γ-pool b-pool o-pool n-pool pool) ∷ [])) (Post (val-Checked res'))
+  exits' : (res' : Checked) → Is R-Checked res' (val-Checked res' ∷ []) → res' ≡ with_memory checked (right_memory two_words (parts numbers deques frames) pool memory) → ent 𝓤 (⋆ 𝓛 (‵ (Yours u32 κ-numbers q-numbers γ-numbers b-numbers o-numbers n-numbers numbers) ∷ ‵ (Yours u32 κ-deques q-deques γ-deques b-deques o-deques n-deques deques) ∷ ‵ (Yours R-Frame κ-frames q-frames γ-frames b-frames o-frames n-frames frames) ∷ ‵ (Yours u32 κ-memory q-memory γ-memory b-memory o-memory n-memory memory) ∷ ‵ (Yours u32 κ-pool q-pool γ-pool b-pool o-pool n-pool pool) ∷ [])) (Post (val-Checked res'))
   exits' res' good' e' =
       qed 𝓛 (‵ (Yours u32 κ-numbers q-numbers γ-numbers b-numbers o-numbers n-numbers numbers) ∷ ‵ (Yours u32 κ-deques q-deques γ-deques b-deques o-deques n-deques deques) ∷ ‵ (Yours R-Frame κ-frames q-frames γ-frames b-frames o-frames n-frames frames) ∷ ‵ (Yours u32 κ-memory q-memory γ-memory b-memory o-memory n-memory memory) ∷ ‵ (Yours u32 κ-pool q-pool γ-pool b-pool o-pool n-pool pool) ∷ []) ∵
       suffices ! _ (ends_at 𝓛 f'.ended stayed (f'.clauses 𝓛 mem run) bound' (val-Checked res') res' (tt, (tt, (tt, (tt, (tt, (tt, tt)))))) (tt, (tt, (tt, (tt, (tt, (tt, tt))))))) $ says ! e' $
@@ -138,7 +138,7 @@ module _ {M : Type 1} {𝓤 : Ura M} (𝓛 : Logic 𝓤) (mem : Memory → SProp
     abbrev fm : FmC 𝓤 H 𝓛.laws 𝓣.C
     fm = fm_of 𝓤 H 𝓛.laws 𝓣
 
-    walk : Fits (parts numbers deques frames) × (length memory ≡ memoryWords) × ((free : ℕ) → checked ≡ Sound free → isSound two_words (parts numbers deques frames) pool ≡ true) → ent 𝓤 (on_entry 𝓛 f'.signature (κ-numbers, (κ-deques, (κ-frames, (κ-memory, (κ-pool, tt))))) (q-numbers, (q-deques, (q-frames, (q-memory, (q-pool, tt))))) args' vals') (WpFn 𝓤 H 𝓣.C 𝓣.Λ code.function (val-Checked checked ∷ slice_val (b-numbers, o-numbers) (length numbers) ∷ slice_val (b-deques, o-deques) (length deques) ∷ slice_val (b-frames, o-frames) (length frames) ∷ slice_val (b-memory, o-memory) (length memory) ∷ slice_val (b-pool, o-pool) (length pool) ∷ []) Post)
+    walk : Fits (parts numbers deques frames) × (length memory ≡ memory_words) × ((free : ℕ) → checked ≡ Sound free → is_sound two_words (parts numbers deques frames) pool ≡ true) → ent 𝓤 (on_entry 𝓛 f'.signature (κ-numbers, (κ-deques, (κ-frames, (κ-memory, (κ-pool, tt))))) (q-numbers, (q-deques, (q-frames, (q-memory, (q-pool, tt))))) args' vals') (WpFn 𝓤 H 𝓣.C 𝓣.Λ code.function (val-Checked checked ∷ slice_val (b-numbers, o-numbers) (length numbers) ∷ slice_val (b-deques, o-deques) (length deques) ∷ slice_val (b-frames, o-frames) (length frames) ∷ slice_val (b-memory, o-memory) (length memory) ∷ slice_val (b-pool, o-pool) (length pool) ∷ []) Post)
     walk ok' =
         qed 𝓛 ((‵ (flft κ-numbers q-numbers) ⊛ ‵ (flft κ-deques q-deques) ⊛ ‵ (flft κ-frames q-frames) ⊛ ‵ (flft κ-memory q-memory) ⊛ ‵ (flft κ-pool q-pool) ⊛ ‵ ftrue) ∷ ‵ (owns (R-Checked ∷ ShrSlice (named 0) κ-numbers u32 ∷ ShrSlice (named 1) κ-deques u32 ∷ ShrSlice (named 2) κ-frames R-Frame ∷ ShrSlice (named 3) κ-memory u32 ∷ ShrSlice (named 4) κ-pool u32 ∷ []) args' vals') ∷ []) ∵ enter ! 𝓣.C 𝓣.Λ code.function (val-Checked checked ∷ slice_val (b-numbers, o-numbers) (length numbers) ∷ slice_val (b-deques, o-deques) (length deques) ∷ slice_val (b-frames, o-frames) (length frames) ∷ slice_val (b-memory, o-memory) (length memory) ∷ slice_val (b-pool, o-pool) (length pool) ∷ []) _ $
         alloc1 ! (λ l₀. alloc1 ! (λ l₁. alloc1 ! (λ l₂. alloc1 ! (λ l₃. alloc1 ! (λ l₄. alloc1 ! (λ l₅. alloc1 ! (λ l₆. alloc1 ! (λ l₇. alloc1 ! (λ l₈. alloc1 ! (λ l₉. alloc1 ! (λ l₁₀. alloc0 ! $ params1 ! $
@@ -178,7 +178,7 @@ module _ {M : Type 1} {𝓤 : Ura M} (𝓛 : Logic 𝓤) (mem : Memory → SProp
         (and_then ! (load ! (from ! (stop !)) (look ! 8 refl)) (and_then ! (load ! (from ! (stop !)) (look ! 20 refl)) (and_then ! (load ! (from ! (stop !)) (look ! 18 refl)) (and_then ! (load ! (from ! (stop !)) (look ! 14 refl)) (and_then ! (load ! (from ! (stop !)) (look ! 16 refl)) (no_more !)))))) (λ r-5 r-5-is.
         land ! (from ! (stop !)) (init ! 9 refl (tt, tt)) $
         assigns ! (un ! (load ! (from ! (stop !)) (look ! 9 refl)) tt) (from ! (stop !)) (init ! 5 refl (tt, tt)) $
-        leave-if ! (load ! (from ! (stop !)) (look ! 5 refl))
+        leave_if ! (load ! (from ! (stop !)) (look ! 5 refl))
         (λ test-6.
         assigns ! (agg ! (and_then ! (const ! _ tt) (no_more !))) (from ! (stop !)) (init ! 25 refl ((EL.lawful M-Checked.the_type L-Checked.the_laws 𝓛 tt).typed Checked.Unsound _ (EL.owes M-Checked.the_type L-Checked.the_laws Checked.Unsound tt)).0) $
         returns_within ! Post refl (look ! 25 refl) $ forget ! 5 refl $ forget ! 7 refl $ forget ! 9 refl $ forget ! 11 refl $ forget ! 13 refl $ forget ! 15 refl $ forget ! 17 refl $ forget ! 19 refl $ forget ! 21 refl $ forget ! 23 refl $ forget ! 25 refl $
@@ -190,7 +190,7 @@ module _ {M : Type 1} {𝓤 : Ura M} (𝓛 : Logic 𝓤) (mem : Memory → SProp
         returns_within ! Post refl (look ! 25 refl) $ forget ! 5 refl $ forget ! 7 refl $ forget ! 9 refl $ forget ! 11 refl $ forget ! 13 refl $ forget ! 15 refl $ forget ! 17 refl $ forget ! 19 refl $ forget ! 21 refl $ forget ! 23 refl $ forget ! 25 refl $
         free_all ! 5 refl $
         move ! (4 ∷ 0 ∷ 1 ∷ 3 ∷ 2 ∷ []) $
-        by ! (exits' (Checked.Sound free) (EL.owes M-Checked.the_type L-Checked.the_laws (Checked.Sound free) ((refl, (EL.owed M-Checked.the_type L-Checked.the_laws (Checked.Sound free) _ (subst (λ (x' : Checked). Is R-Checked x' (val-Checked x' ∷ [])) case-1 checked-good)).0.1), tt)) (F.out-8 checked numbers deques frames memory pool room-numbers.0 room-deques.0 room-frames.0 room-memory.0 room-pool.0 ok' free (EL.owed M-Checked.the_type L-Checked.the_laws (Checked.Sound free) _ (subst (λ (x' : Checked). Is R-Checked x' (val-Checked x' ∷ [])) case-1 checked-good)).0.1 case-1 r-4 r-4-is r-5 r-5-is (is_true r-5 (not-not r-5 test-6)))))))))))))))))))
+        by ! (exits' (Checked.Sound free) (EL.owes M-Checked.the_type L-Checked.the_laws (Checked.Sound free) ((refl, (EL.owed M-Checked.the_type L-Checked.the_laws (Checked.Sound free) _ (subst (λ (x' : Checked). Is R-Checked x' (val-Checked x' ∷ [])) case-1 checked-good)).0.1), tt)) (F.out-8 checked numbers deques frames memory pool room-numbers.0 room-deques.0 room-frames.0 room-memory.0 room-pool.0 ok' free (EL.owed M-Checked.the_type L-Checked.the_laws (Checked.Sound free) _ (subst (λ (x' : Checked). Is R-Checked x' (val-Checked x' ∷ [])) case-1 checked-good)).0.1 case-1 r-4 r-4-is r-5 r-5-is (is_true r-5 (not_not r-5 test-6)))))))))))))))))))
 
 module _ {M : Type 1} {𝓤 : Ura M} (𝓛 : Logic 𝓤) (mem : Memory → SProp 𝓤) (run : Routine → Fun 𝓤) (𝓣 : Tables 𝓤 𝓛.H) where
   open 𝓛 use {H}
@@ -199,7 +199,7 @@ module _ {M : Type 1} {𝓤 : Ura M} (𝓛 : Logic 𝓤) (mem : Memory → SProp
   walks known-numbers-in known-check-memory = walked 𝓛 f'.ended stayed (f'.clauses 𝓛 mem run) (WpFn 𝓤 H 𝓣.C 𝓣.Λ code.function)
       (λ κs. (EL.vals M-Checked.the_type L-Checked.the_laws, (shr_slice_vals, (shr_slice_vals, (shr_slice_vals, (shr_slice_vals, (shr_slice_vals, tt)))))))
       (λ κs. (EL.tells M-Checked.the_type L-Checked.the_laws, (shr_slice_Tells (named 0) κs.0 u32, (shr_slice_Tells (named 1) κs.1.0 u32, (shr_slice_Tells (named 2) κs.1.1.0 R-Frame, (shr_slice_Tells (named 3) κs.1.1.1.0 u32, (shr_slice_Tells (named 4) κs.1.1.1.1.0 u32, tt)))))))
-      (λ κs qs bounds a g are. needs 𝓤 (Fits (parts a.1.0.now a.1.1.0.now a.1.1.1.0.now) × (length a.1.1.1.1.0.now ≡ memoryWords) × ((free : ℕ) → a.0 ≡ Sound free → isSound two_words (parts a.1.0.now a.1.1.0.now a.1.1.1.0.now) a.1.1.1.1.1.0.now ≡ true)) _
+      (λ κs qs bounds a g are. needs 𝓤 (Fits (parts a.1.0.now a.1.1.0.now a.1.1.1.0.now) × (length a.1.1.1.1.0.now ≡ memory_words) × ((free : ℕ) → a.0 ≡ Sound free → is_sound two_words (parts a.1.0.now a.1.1.0.now a.1.1.1.0.now) a.1.1.1.1.1.0.now ≡ true)) _
       (walk 𝓛 mem run κs.0 qs.0 a.1.0.ref_ptr.0 a.1.0.ref_ptr.1 0 a.1.0.now κs.1.0 qs.1.0 a.1.1.0.ref_ptr.0 a.1.1.0.ref_ptr.1 0 a.1.1.0.now κs.1.1.0 qs.1.1.0 a.1.1.1.0.ref_ptr.0 a.1.1.1.0.ref_ptr.1 0 a.1.1.1.0.now κs.1.1.1.0 qs.1.1.1.0 a.1.1.1.1.0.ref_ptr.0 a.1.1.1.1.0.ref_ptr.1 0 a.1.1.1.1.0.now κs.1.1.1.1.0 qs.1.1.1.1.0 a.1.1.1.1.1.0.ref_ptr.0 a.1.1.1.1.1.0.ref_ptr.1 0 a.1.1.1.1.1.0.now a.0 are.0 are.1.0.0.1 are.1.1.0.0.1 are.1.1.1.0.0.1 are.1.1.1.1.0.0.1 are.1.1.1.1.1.0.0.1 𝓣 known-numbers-in known-check-memory))
 
   meets : Triple 𝓤 (𝓣.C #numbers-in) (S-numbers-in.Asked 𝓛 mem run) → Triple 𝓤 (𝓣.C #check-memory) (S-check-memory.Asked 𝓛 mem run) → Meets 𝓛 f'.signature (WpFn 𝓤 H 𝓣.C 𝓣.Λ code.function) (f'.spec 𝓛 mem run)
@@ -213,5 +213,5 @@ check-leaves-spec 𝓤 𝓛 𝓜 𝓡 =
     entered 𝓤 𝓛.H (triple_of 𝓛 f'.signature (f'.spec 𝓛 𝓜.mem 𝓡.run))
     (tables 𝓤 𝓛.H 𝓜 𝓡 code.env).C (tables 𝓤 𝓛.H 𝓜 𝓡 code.env).Λ #own code.function (code.unfolded 𝓤 𝓛.H 𝓜 𝓡)
     (meets 𝓛 𝓜.mem 𝓡.run (tables_of 𝓤 𝓛.H 𝓜 (tables 𝓤 𝓛.H 𝓜 𝓡 code.env))
-    (cited 𝓤 𝓛.H (S-numbers-in.Asked 𝓛 𝓜.mem 𝓡.run) 𝓜 𝓡 code.env #numbers-in D-numbers-in.routine code.calls-engine::numbers::numbers-in (T-numbers-in.met 𝓤 𝓛 𝓜 𝓡))
-    (cited 𝓤 𝓛.H (S-check-memory.Asked 𝓛 𝓜.mem 𝓡.run) 𝓜 𝓡 code.env #check-memory D-check-memory.routine code.calls-memory-check::check-memory (T-check-memory.met 𝓤 𝓛 𝓜 𝓡)))
+    (cited 𝓤 𝓛.H (S-numbers-in.Asked 𝓛 𝓜.mem 𝓡.run) 𝓜 𝓡 code.env #numbers-in D-numbers-in.routine code.calls-engine::numbers::numbers_in_lem (T-numbers-in.met 𝓤 𝓛 𝓜 𝓡))
+    (cited 𝓤 𝓛.H (S-check-memory.Asked 𝓛 𝓜.mem 𝓡.run) 𝓜 𝓡 code.env #check-memory D-check-memory.routine code.calls-memory-check::check_memory (T-check-memory.met 𝓤 𝓛 𝓜 𝓡)))

@@ -39,10 +39,10 @@ use denote.Triple.Statement.{Triple}
 use denote.Triple.Table.{entered, cited}
 use denote.Triple.Walked.{says, needs, Stays, stay_slice, stay_none, stay_none_slice, walk_of, Walks, ends_at, walked, Goes-slice, Goes-none, Goes-none_slice, walk_Meets}
 use borrow.Author.Rules.{scaled_Fits}
-use Rattle.frames.proofs.Lent.{at-list, Mine, Yours, ty_at, exit-unless, exit-if, leave-if, fork, skipped, regroup, matched, matched-last, const, is_true, is_false, not-not, differ, widen, less-fits, after, turn-of, take_out, put_in, put_back, look-out, look-back, free_all}
-use Rattle.soundness.specs.Numbers.{numbersIn}
+use Rattle.frames.proofs.Lent.{at_list, Mine, Yours, ty_at, exit_unless, exit_if, leave_if, fork, skipped, regroup, matched, matched_last, const, is_true, is_false, not_not, differ, widen, less_fits, after, turn_of_lem, take_out, put_in, put_back, look_out, look_back, free_all}
+use Rattle.soundness.specs.Numbers.{numbers_in}
 use Rattle.semantics.specs.Promises.{parts, Fits}
-use Rattle.engine.specs.Promises.{tablesChecked, IsCheck}
+use Rattle.engine.specs.Promises.{tables_checked, IsCheck}
 use Rattle.engine.proofs.Called.numbers_in as S-numbers-in
 use Rattle.engine.proofs.numbers.numbers_in.Symbol as D-numbers-in
 use Rattle.engine.proofs.numbers.numbers_in.Symbol.{name as #numbers-in}
@@ -141,7 +141,7 @@ module _ {M : Type 1} {𝓤 : Ura M} (𝓛 : Logic 𝓤) (mem : Memory → SProp
   n-work = length work
 
   abbrev args' : Bor (List ℕ) × (Bor (List ℕ) × (Bor (List Frame) × (Bor (List ℕ) × (Bor (List ℕ) × (FramesChecked × Unit {0})))))
-  args' = (at-list b-numbers o-numbers γ-numbers numbers, (at-list b-deques o-deques γ-deques deques, (at-list b-frames o-frames γ-frames frames, (at-list b-pool o-pool γ-pool pool, (at-list b-work o-work γ-work work, (tables', tt))))))
+  args' = (at_list b-numbers o-numbers γ-numbers numbers, (at_list b-deques o-deques γ-deques deques, (at_list b-frames o-frames γ-frames frames, (at_list b-pool o-pool γ-pool pool, (at_list b-work o-work γ-work work, (tables', tt))))))
 
   abbrev vals' : Vals f'.signature (κ-numbers, (κ-deques, (κ-frames, (κ-pool, (κ-work, tt)))))
   vals' = (slice_val (b-numbers, o-numbers) (length numbers) ∷ [], (slice_val (b-deques, o-deques) (length deques) ∷ [], (slice_val (b-frames, o-frames) (length frames) ∷ [], (slice_val (b-pool, o-pool) (length pool) ∷ [], (slice_val (b-work, o-work) (length work) ∷ [], (val-FramesChecked tables' ∷ [], tt))))))
@@ -153,9 +153,9 @@ module _ {M : Type 1} {𝓤 : Ura M} (𝓛 : Logic 𝓤) (mem : Memory → SProp
   Post = (walk_of 𝓛 f'.ended stayed (f'.clauses 𝓛 mem run)).post bound'
 
   exits' : (res' : Checked) (zs-work : List ℕ) → Is R-Checked res' (val-Checked res' ∷ []) → IsCheck (parts numbers deques frames) pool work zs-work res' → length zs-work ≡ length work → ent 𝓤 (⋆ 𝓛 (‵ (Yours u32 κ-numbers q-numbers γ-numbers b-numbers o-numbers n-numbers numbers) ∷ ‵ (Yours u32 κ-deques q-deques γ-deques b-deques o-deques n-deques deques) ∷ ‵ (Yours R-Frame κ-frames q-frames γ-frames b-frames o-frames n-frames frames) ∷ ‵ (Yours u32 κ-pool q-pool γ-pool b-pool o-pool n-pool pool) ∷ ‵ (Mine u32 κ-work q-work γ-work b-work o-work n-work zs-work) ∷ [])) (Post (val-Checked res'))
-  exits' res' zs-work good' e' same-work =
+  exits' res' zs-work good' e' same_work =
       qed 𝓛 (‵ (Yours u32 κ-numbers q-numbers γ-numbers b-numbers o-numbers n-numbers numbers) ∷ ‵ (Yours u32 κ-deques q-deques γ-deques b-deques o-deques n-deques deques) ∷ ‵ (Yours R-Frame κ-frames q-frames γ-frames b-frames o-frames n-frames frames) ∷ ‵ (Yours u32 κ-pool q-pool γ-pool b-pool o-pool n-pool pool) ∷ ‵ (Mine u32 κ-work q-work γ-work b-work o-work n-work zs-work) ∷ []) ∵
-      suffices ! _ (ends_at 𝓛 f'.ended stayed (f'.clauses 𝓛 mem run) bound' (val-Checked res') res' (tt, (tt, (tt, (tt, (zs-work, (tt, tt)))))) (tt, (tt, (tt, (tt, (same-work, (tt, tt))))))) $ says ! e' $
+      suffices ! _ (ends_at 𝓛 f'.ended stayed (f'.clauses 𝓛 mem run) bound' (val-Checked res') res' (tt, (tt, (tt, (tt, (zs-work, (tt, tt)))))) (tt, (tt, (tt, (tt, (same_work, (tt, tt))))))) $ says ! e' $
       fsplit ! $ move ! (2 ∷ []) $ fsplit ! $ move ! (4 ∷ []) $ fsplit ! $ move ! (6 ∷ []) $ fsplit ! $ move ! (8 ∷ []) $ fsplit ! $ nothing ! $ move ! (10 ∷ 8 ∷ 6 ∷ 4 ∷ 2 ∷ 0 ∷ []) $ group ! 6 $ frame ! $
       nothing ! $ owned ! R-FramesChecked (Is R-FramesChecked) (EL.makes M-FramesChecked.the_type L-FramesChecked.the_plain 𝓛) tables' _ tables'-good $ fjoin ! $ move ! (1 ∷ 0 ∷ []) $ fjoin ! $ move ! (1 ∷ 0 ∷ []) $ fjoin ! $ move ! (1 ∷ 0 ∷ []) $ fjoin ! $ move ! (1 ∷ 0 ∷ []) $ fjoin ! $ move ! (1 ∷ 0 ∷ []) $ fjoin ! $ frame ! $
       owned ! R-Checked (Is R-Checked) (EL.makes M-Checked.the_type L-Checked.the_plain 𝓛) res' _ good' $ done !
@@ -164,7 +164,7 @@ module _ {M : Type 1} {𝓤 : Ura M} (𝓛 : Logic 𝓤) (mem : Memory → SProp
     abbrev fm : FmC 𝓤 H 𝓛.laws 𝓣.C
     fm = fm_of 𝓤 H 𝓛.laws 𝓣
 
-    walk : Fits (parts numbers deques frames) × ((numbersIn numbers).nodes ≤ length work) × (tables' ≡ tablesChecked (numbersIn numbers) deques frames pool) → ent 𝓤 (on_entry 𝓛 f'.signature (κ-numbers, (κ-deques, (κ-frames, (κ-pool, (κ-work, tt))))) (q-numbers, (q-deques, (q-frames, (q-pool, (q-work, tt))))) args' vals') (WpFn 𝓤 H 𝓣.C 𝓣.Λ code.function (slice_val (b-numbers, o-numbers) (length numbers) ∷ slice_val (b-deques, o-deques) (length deques) ∷ slice_val (b-frames, o-frames) (length frames) ∷ slice_val (b-pool, o-pool) (length pool) ∷ slice_val (b-work, o-work) (length work) ∷ val-FramesChecked tables' ∷ []) Post)
+    walk : Fits (parts numbers deques frames) × ((numbers_in numbers).nodes ≤ length work) × (tables' ≡ tables_checked (numbers_in numbers) deques frames pool) → ent 𝓤 (on_entry 𝓛 f'.signature (κ-numbers, (κ-deques, (κ-frames, (κ-pool, (κ-work, tt))))) (q-numbers, (q-deques, (q-frames, (q-pool, (q-work, tt))))) args' vals') (WpFn 𝓤 H 𝓣.C 𝓣.Λ code.function (slice_val (b-numbers, o-numbers) (length numbers) ∷ slice_val (b-deques, o-deques) (length deques) ∷ slice_val (b-frames, o-frames) (length frames) ∷ slice_val (b-pool, o-pool) (length pool) ∷ slice_val (b-work, o-work) (length work) ∷ val-FramesChecked tables' ∷ []) Post)
     walk ok' =
         qed 𝓛 ((‵ (flft κ-numbers q-numbers) ⊛ ‵ (flft κ-deques q-deques) ⊛ ‵ (flft κ-frames q-frames) ⊛ ‵ (flft κ-pool q-pool) ⊛ ‵ (flft κ-work q-work) ⊛ ‵ ftrue) ∷ ‵ (owns (ShrSlice (named 0) κ-numbers u32 ∷ ShrSlice (named 1) κ-deques u32 ∷ ShrSlice (named 2) κ-frames R-Frame ∷ ShrSlice (named 3) κ-pool u32 ∷ MutSlice (named 4) κ-work u32 ∷ R-FramesChecked ∷ []) args' vals') ∷ []) ∵ enter ! 𝓣.C 𝓣.Λ code.function (slice_val (b-numbers, o-numbers) (length numbers) ∷ slice_val (b-deques, o-deques) (length deques) ∷ slice_val (b-frames, o-frames) (length frames) ∷ slice_val (b-pool, o-pool) (length pool) ∷ slice_val (b-work, o-work) (length work) ∷ val-FramesChecked tables' ∷ []) _ $
         alloc1 ! (λ l₀. alloc1 ! (λ l₁. alloc1 ! (λ l₂. alloc1 ! (λ l₃. alloc1 ! (λ l₄. alloc1 ! (λ l₅. alloc1 ! (λ l₆. alloc1 ! (λ l₇. alloc1 ! (λ l₈. alloc1 ! (λ l₉. alloc1 ! (λ l₁₀. alloc1 ! (λ l₁₁. alloc1 ! (λ l₁₂. alloc1 ! (λ l₁₃. alloc1 ! (λ l₁₄. alloc1 ! (λ l₁₅. alloc1 ! (λ l₁₆. alloc1 ! (λ l₁₇. alloc1 ! (λ l₁₈. alloc1 ! (λ l₁₉. alloc1 ! (λ l₂₀. alloc0 ! $ params1 ! $
@@ -205,7 +205,7 @@ module _ {M : Type 1} {𝓤 : Ura M} (𝓛 : Logic 𝓤) (mem : Memory → SProp
         (and_then ! (load ! (from ! (stop !)) (look ! 44 refl)) (and_then ! (load ! (from ! (stop !)) (look ! 30 refl)) (no_more !))) (λ r-5 r-5-is.
         land ! (from ! (stop !)) (init ! 17 refl (tt, tt)) $
         assigns ! (un ! (load ! (from ! (stop !)) (look ! 17 refl)) tt) (from ! (stop !)) (init ! 15 refl (tt, tt)) $
-        leave-if ! (load ! (from ! (stop !)) (look ! 15 refl))
+        leave_if ! (load ! (from ! (stop !)) (look ! 15 refl))
         (λ test-6.
         assigns ! (addr ! (from ! (fld ! refl (hop ! (look_in ! 35 (sub ! 0 refl (whole !))) (stop !))))) (from ! (stop !)) (init ! 11 refl (tt, tt)) $
         assigns ! (agg ! (and_then ! (load ! (from ! (stop !)) (look ! 11 refl)) (and_then ! (load ! (from ! (fld ! refl (stop !))) (look_in ! 35 (sub ! 1 refl (whole !)))) (no_more !)))) (from ! (stop !)) (init ! 9 refl (tt, (tt, (record { fits = room-work.0 }, tt)))) $
@@ -224,8 +224,8 @@ module _ {M : Type 1} {𝓤 : Ura M} (𝓛 : Logic 𝓤) (mem : Memory → SProp
         assigns ! (agg ! (and_then ! (load ! (from ! (stop !)) (look ! 7 refl)) (and_then ! (load ! (from ! (fld ! refl (stop !))) (look_in ! 35 (sub ! 1 refl (whole !)))) (no_more !)))) (from ! (stop !)) (init ! 5 refl (tt, (tt, (record { fits = room-work.0 }, tt)))) $
         -- _9 = packed_check::check_pool(_7.1, _7.2, _7.3, _8, _3, _4, _20)
         move ! (2 ∷ 3 ∷ 4 ∷ []) $
-        S-check-pool.step-gg mem run ! fm known-check-pool b-frames o-frames n-frames frames b-pool o-pool n-pool pool b-work o-work n-work work n.splitters n.nodes n.free_node end (LL.owed M-Numbers.the_type L-Numbers.the_laws n _ n-good).1.0.1 (LL.owed M-Numbers.the_type L-Numbers.the_laws n _ n-good).1.1.0.1 (LL.owed M-Numbers.the_type L-Numbers.the_laws n _ n-good).1.1.1.0.1 (EL.owed M-FramesChecked.the_type L-FramesChecked.the_laws (FramesChecked.Good end) _ (subst (λ (x' : FramesChecked). Is R-FramesChecked x' (val-FramesChecked x' ∷ [])) case-2 tables'-good)).0.1 (F.needs-9 numbers deques frames pool work tables' room-numbers.0 room-deques.0 room-frames.0 room-pool.0 room-work.0 ok' n n-is end (EL.owed M-FramesChecked.the_type L-FramesChecked.the_laws (FramesChecked.Good end) _ (subst (λ (x' : FramesChecked). Is R-FramesChecked x' (val-FramesChecked x' ∷ [])) case-2 tables'-good)).0.1 case-2 r-5 r-5-is (is_true r-5 (not-not r-5 test-6))) (refl) room-work
-        (λ ν-0 δ-0. and_then ! (load ! (from ! (fld ! refl (stop !))) (look_in ! 32 (sub ! 1 refl (whole !)))) (and_then ! (load ! (from ! (fld ! refl (stop !))) (look_in ! 32 (sub ! 2 refl (whole !)))) (and_then ! (load ! (from ! (fld ! refl (stop !))) (look_in ! 32 (sub ! 3 refl (whole !)))) (and_then ! (load ! (from ! (stop !)) (look ! 30 refl)) (and_then ! (load ! (from ! (stop !)) (look ! 40 refl)) (and_then ! (load ! (from ! (stop !)) (look ! 38 refl)) (and_then ! (load ! (from ! (stop !)) (look ! 6 refl)) (no_more !)))))))) (λ answer work-9 answer-good answer-is same-work-9.
+        S-check-pool.step-gg mem run ! fm known-check-pool b-frames o-frames n-frames frames b-pool o-pool n-pool pool b-work o-work n-work work n.splitters n.nodes n.free_node end (LL.owed M-Numbers.the_type L-Numbers.the_laws n _ n-good).1.0.1 (LL.owed M-Numbers.the_type L-Numbers.the_laws n _ n-good).1.1.0.1 (LL.owed M-Numbers.the_type L-Numbers.the_laws n _ n-good).1.1.1.0.1 (EL.owed M-FramesChecked.the_type L-FramesChecked.the_laws (FramesChecked.Good end) _ (subst (λ (x' : FramesChecked). Is R-FramesChecked x' (val-FramesChecked x' ∷ [])) case-2 tables'-good)).0.1 (F.needs-9 numbers deques frames pool work tables' room-numbers.0 room-deques.0 room-frames.0 room-pool.0 room-work.0 ok' n n-is end (EL.owed M-FramesChecked.the_type L-FramesChecked.the_laws (FramesChecked.Good end) _ (subst (λ (x' : FramesChecked). Is R-FramesChecked x' (val-FramesChecked x' ∷ [])) case-2 tables'-good)).0.1 case-2 r-5 r-5-is (is_true r-5 (not_not r-5 test-6))) (refl) room-work
+        (λ ν-0 δ-0. and_then ! (load ! (from ! (fld ! refl (stop !))) (look_in ! 32 (sub ! 1 refl (whole !)))) (and_then ! (load ! (from ! (fld ! refl (stop !))) (look_in ! 32 (sub ! 2 refl (whole !)))) (and_then ! (load ! (from ! (fld ! refl (stop !))) (look_in ! 32 (sub ! 3 refl (whole !)))) (and_then ! (load ! (from ! (stop !)) (look ! 30 refl)) (and_then ! (load ! (from ! (stop !)) (look ! 40 refl)) (and_then ! (load ! (from ! (stop !)) (look ! 38 refl)) (and_then ! (load ! (from ! (stop !)) (look ! 6 refl)) (no_more !)))))))) (λ answer work-9 answer-good answer_is same-work-9.
         land ! (from ! (stop !)) (init ! 27 refl ((EL.lawful M-PoolChecked.the_type L-PoolChecked.the_laws 𝓛 tt).typed answer _ answer-good).0) $
         cases-PoolChecked answer
         (λ case-10.
@@ -237,7 +237,7 @@ module _ {M : Type 1} {𝓤 : Ura M} (𝓛 : Logic 𝓤) (mem : Memory → SProp
         returns_within ! Post refl (look ! 45 refl) $ forget ! 5 refl $ forget ! 7 refl $ forget ! 15 refl $ forget ! 17 refl $ forget ! 27 refl $ forget ! 29 refl $ forget ! 31 refl $ forget ! 33 refl $ forget ! 35 refl $ forget ! 37 refl $ forget ! 39 refl $ forget ! 41 refl $ forget ! 43 refl $ forget ! 45 refl $
         free_all ! 5 refl $
         move ! (3 ∷ 4 ∷ 0 ∷ 1 ∷ 2 ∷ []) $
-        by ! (exits' Checked.Unsound work-9 (EL.owes M-Checked.the_type L-Checked.the_laws Checked.Unsound tt) (F.out-11 numbers deques frames pool work tables' room-numbers.0 room-deques.0 room-frames.0 room-pool.0 room-work.0 ok' n n-is end (EL.owed M-FramesChecked.the_type L-FramesChecked.the_laws (FramesChecked.Good end) _ (subst (λ (x' : FramesChecked). Is R-FramesChecked x' (val-FramesChecked x' ∷ [])) case-2 tables'-good)).0.1 case-2 r-5 r-5-is (is_true r-5 (not-not r-5 test-6)) answer work-9 answer-is same-work-9 case-10) (same-work-9)))
+        by ! (exits' Checked.Unsound work-9 (EL.owes M-Checked.the_type L-Checked.the_laws Checked.Unsound tt) (F.out-11 numbers deques frames pool work tables' room-numbers.0 room-deques.0 room-frames.0 room-pool.0 room-work.0 ok' n n-is end (EL.owed M-FramesChecked.the_type L-FramesChecked.the_laws (FramesChecked.Good end) _ (subst (λ (x' : FramesChecked). Is R-FramesChecked x' (val-FramesChecked x' ∷ [])) case-2 tables'-good)).0.1 case-2 r-5 r-5-is (is_true r-5 (not_not r-5 test-6)) answer work-9 answer_is same-work-9 case-10) (same-work-9)))
         (λ free case-10.
         rewrite ! 27 (λ (x' : PoolChecked). ‵ (fat full_share L-PoolChecked.mir l₉ 0 (val-PoolChecked x'))) case-10 refl $
         matched ! (load ! (from ! (vrt ! refl (fld ! refl (stop !)))) (look_tag ! 27 (whole !))) tt $
@@ -246,7 +246,7 @@ module _ {M : Type 1} {𝓤 : Ura M} (𝓛 : Logic 𝓤) (mem : Memory → SProp
         returns_within ! Post refl (look ! 45 refl) $ forget ! 5 refl $ forget ! 7 refl $ forget ! 15 refl $ forget ! 17 refl $ forget ! 25 refl $ forget ! 27 refl $ forget ! 29 refl $ forget ! 31 refl $ forget ! 33 refl $ forget ! 35 refl $ forget ! 37 refl $ forget ! 39 refl $ forget ! 41 refl $ forget ! 43 refl $ forget ! 45 refl $
         free_all ! 5 refl $
         move ! (3 ∷ 4 ∷ 0 ∷ 1 ∷ 2 ∷ []) $
-        by ! (exits' (Checked.Sound free) work-9 (EL.owes M-Checked.the_type L-Checked.the_laws (Checked.Sound free) ((refl, (EL.owed M-PoolChecked.the_type L-PoolChecked.the_laws (PoolChecked.Good free) _ (subst (λ (x' : PoolChecked). Is R-PoolChecked x' (val-PoolChecked x' ∷ [])) case-10 answer-good)).0.1), tt)) (F.out-12 numbers deques frames pool work tables' room-numbers.0 room-deques.0 room-frames.0 room-pool.0 room-work.0 ok' n n-is end (EL.owed M-FramesChecked.the_type L-FramesChecked.the_laws (FramesChecked.Good end) _ (subst (λ (x' : FramesChecked). Is R-FramesChecked x' (val-FramesChecked x' ∷ [])) case-2 tables'-good)).0.1 case-2 r-5 r-5-is (is_true r-5 (not-not r-5 test-6)) answer work-9 answer-is same-work-9 free (EL.owed M-PoolChecked.the_type L-PoolChecked.the_laws (PoolChecked.Good free) _ (subst (λ (x' : PoolChecked). Is R-PoolChecked x' (val-PoolChecked x' ∷ [])) case-10 answer-good)).0.1 case-10) (same-work-9)))))))))))))))))))))))))))))
+        by ! (exits' (Checked.Sound free) work-9 (EL.owes M-Checked.the_type L-Checked.the_laws (Checked.Sound free) ((refl, (EL.owed M-PoolChecked.the_type L-PoolChecked.the_laws (PoolChecked.Good free) _ (subst (λ (x' : PoolChecked). Is R-PoolChecked x' (val-PoolChecked x' ∷ [])) case-10 answer-good)).0.1), tt)) (F.out-12 numbers deques frames pool work tables' room-numbers.0 room-deques.0 room-frames.0 room-pool.0 room-work.0 ok' n n-is end (EL.owed M-FramesChecked.the_type L-FramesChecked.the_laws (FramesChecked.Good end) _ (subst (λ (x' : FramesChecked). Is R-FramesChecked x' (val-FramesChecked x' ∷ [])) case-2 tables'-good)).0.1 case-2 r-5 r-5-is (is_true r-5 (not_not r-5 test-6)) answer work-9 answer_is same-work-9 free (EL.owed M-PoolChecked.the_type L-PoolChecked.the_laws (PoolChecked.Good free) _ (subst (λ (x' : PoolChecked). Is R-PoolChecked x' (val-PoolChecked x' ∷ [])) case-10 answer-good)).0.1 case-10) (same-work-9)))))))))))))))))))))))))))))
 
 module _ {M : Type 1} {𝓤 : Ura M} (𝓛 : Logic 𝓤) (mem : Memory → SProp 𝓤) (run : Routine → Fun 𝓤) (𝓣 : Tables 𝓤 𝓛.H) where
   open 𝓛 use {H}
@@ -255,7 +255,7 @@ module _ {M : Type 1} {𝓤 : Ura M} (𝓛 : Logic 𝓤) (mem : Memory → SProp
   walks known-numbers-in known-clear known-totals-right known-check-pool = walked 𝓛 f'.ended stayed (f'.clauses 𝓛 mem run) (WpFn 𝓤 H 𝓣.C 𝓣.Λ code.function)
       (λ κs. (shr_slice_vals, (shr_slice_vals, (shr_slice_vals, (shr_slice_vals, (shr_slice_vals, (EL.vals M-FramesChecked.the_type L-FramesChecked.the_laws, tt)))))))
       (λ κs. (shr_slice_Tells (named 0) κs.0 u32, (shr_slice_Tells (named 1) κs.1.0 u32, (shr_slice_Tells (named 2) κs.1.1.0 R-Frame, (shr_slice_Tells (named 3) κs.1.1.1.0 u32, (mut_slice_Tells (named 4) κs.1.1.1.1.0 u32, (EL.tells M-FramesChecked.the_type L-FramesChecked.the_laws, tt)))))))
-      (λ κs qs bounds a g are. needs 𝓤 (Fits (parts a.0.now a.1.0.now a.1.1.0.now) × ((numbersIn a.0.now).nodes ≤ length a.1.1.1.1.0.now) × (a.1.1.1.1.1.0 ≡ tablesChecked (numbersIn a.0.now) a.1.0.now a.1.1.0.now a.1.1.1.0.now)) _
+      (λ κs qs bounds a g are. needs 𝓤 (Fits (parts a.0.now a.1.0.now a.1.1.0.now) × ((numbers_in a.0.now).nodes ≤ length a.1.1.1.1.0.now) × (a.1.1.1.1.1.0 ≡ tables_checked (numbers_in a.0.now) a.1.0.now a.1.1.0.now a.1.1.1.0.now)) _
       (walk 𝓛 mem run κs.0 qs.0 a.0.ref_ptr.0 a.0.ref_ptr.1 a.0.ghost_name a.0.now κs.1.0 qs.1.0 a.1.0.ref_ptr.0 a.1.0.ref_ptr.1 a.1.0.ghost_name a.1.0.now κs.1.1.0 qs.1.1.0 a.1.1.0.ref_ptr.0 a.1.1.0.ref_ptr.1 a.1.1.0.ghost_name a.1.1.0.now κs.1.1.1.0 qs.1.1.1.0 a.1.1.1.0.ref_ptr.0 a.1.1.1.0.ref_ptr.1 a.1.1.1.0.ghost_name a.1.1.1.0.now κs.1.1.1.1.0 qs.1.1.1.1.0 a.1.1.1.1.0.ref_ptr.0 a.1.1.1.1.0.ref_ptr.1 a.1.1.1.1.0.ghost_name a.1.1.1.1.0.now a.1.1.1.1.1.0 are.1.1.1.1.1.0 are.0.0.1 are.1.0.0.1 are.1.1.0.0.1 are.1.1.1.0.0.1 are.1.1.1.1.0.0.1 𝓣 known-numbers-in known-clear known-totals-right known-check-pool))
 
   meets : Triple 𝓤 (𝓣.C #numbers-in) (S-numbers-in.Asked 𝓛 mem run) → Triple 𝓤 (𝓣.C #clear) (S-clear.Asked 𝓛 mem run) → Triple 𝓤 (𝓣.C #totals-right) (S-totals-right.Asked 𝓛 mem run) → Triple 𝓤 (𝓣.C #check-pool) (S-check-pool.Asked 𝓛 mem run) → Meets 𝓛 f'.signature (WpFn 𝓤 H 𝓣.C 𝓣.Λ code.function) (f'.spec 𝓛 mem run)
@@ -269,7 +269,7 @@ check-rest-spec 𝓤 𝓛 𝓜 𝓡 =
     entered 𝓤 𝓛.H (triple_of 𝓛 f'.signature (f'.spec 𝓛 𝓜.mem 𝓡.run))
     (tables 𝓤 𝓛.H 𝓜 𝓡 code.env).C (tables 𝓤 𝓛.H 𝓜 𝓡 code.env).Λ #own code.function (code.unfolded 𝓤 𝓛.H 𝓜 𝓡)
     (meets 𝓛 𝓜.mem 𝓡.run (tables_of 𝓤 𝓛.H 𝓜 (tables 𝓤 𝓛.H 𝓜 𝓡 code.env))
-    (cited 𝓤 𝓛.H (S-numbers-in.Asked 𝓛 𝓜.mem 𝓡.run) 𝓜 𝓡 code.env #numbers-in D-numbers-in.routine code.calls-engine::numbers::numbers-in (T-numbers-in.met 𝓤 𝓛 𝓜 𝓡))
+    (cited 𝓤 𝓛.H (S-numbers-in.Asked 𝓛 𝓜.mem 𝓡.run) 𝓜 𝓡 code.env #numbers-in D-numbers-in.routine code.calls-engine::numbers::numbers_in_lem (T-numbers-in.met 𝓤 𝓛 𝓜 𝓡))
     (cited 𝓤 𝓛.H (S-clear.Asked 𝓛 𝓜.mem 𝓡.run) 𝓜 𝓡 code.env #clear D-clear.routine code.calls-pool-check::clear (T-clear.met 𝓤 𝓛 𝓜 𝓡))
     (cited 𝓤 𝓛.H (S-totals-right.Asked 𝓛 𝓜.mem 𝓡.run) 𝓜 𝓡 code.env #totals-right D-totals-right.routine code.calls-engine::checking::totals-right (T-totals-right.met 𝓤 𝓛 𝓜 𝓡))
     (cited 𝓤 𝓛.H (S-check-pool.Asked 𝓛 𝓜.mem 𝓡.run) 𝓜 𝓡 code.env #check-pool D-check-pool.routine code.calls-packed-check::check-pool (T-check-pool.met 𝓤 𝓛 𝓜 𝓡)))

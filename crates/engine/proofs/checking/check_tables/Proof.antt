@@ -39,9 +39,9 @@ use denote.Triple.Statement.{Triple}
 use denote.Triple.Table.{entered, cited}
 use denote.Triple.Walked.{says, needs, Stays, stay_slice, stay_none, stay_none_slice, walk_of, Walks, ends_at, walked, Goes-slice, Goes-none, Goes-none_slice, walk_Meets}
 use borrow.Author.Rules.{scaled_Fits}
-use Rattle.frames.proofs.Lent.{at-list, Mine, Yours, ty_at, exit-unless, exit-if, leave-if, fork, skipped, regroup, matched, matched-last, const, is_true, is_false, not-not, differ, widen, less-fits, after, turn-of, take_out, put_in, put_back, look-out, look-back, free_all}
-use Rattle.frames.specs.Widths.{dequeWords}
-use Rattle.engine.specs.Promises.{tablesChecked}
+use Rattle.frames.proofs.Lent.{at_list, Mine, Yours, ty_at, exit_unless, exit_if, leave_if, fork, skipped, regroup, matched, matched_last, const, is_true, is_false, not_not, differ, widen, less_fits, after, turn_of_lem, take_out, put_in, put_back, look_out, look_back, free_all}
+use Rattle.frames.specs.Widths.{deque_words}
+use Rattle.engine.specs.Promises.{tables_checked}
 use Rattle.engine.proofs.Called.check_numbers as S-check-numbers
 use Rattle.engine.proofs.checking.check_numbers.Symbol as D-check-numbers
 use Rattle.engine.proofs.checking.check_numbers.Symbol.{name as #check-numbers}
@@ -100,7 +100,7 @@ module _ {M : Type 1} {𝓤 : Ura M} (𝓛 : Logic 𝓤) (mem : Memory → SProp
   n-pool = length pool
 
   abbrev args' : Numbers × (Bor (List ℕ) × (Bor (List Frame) × (Bor (List ℕ) × Unit {0})))
-  args' = (numbers, (at-list b-deques o-deques γ-deques deques, (at-list b-frames o-frames γ-frames frames, (at-list b-pool o-pool γ-pool pool, tt))))
+  args' = (numbers, (at_list b-deques o-deques γ-deques deques, (at_list b-frames o-frames γ-frames frames, (at_list b-pool o-pool γ-pool pool, tt))))
 
   abbrev vals' : Vals f'.signature (κ-deques, (κ-frames, (κ-pool, tt)))
   vals' = (val-Numbers numbers ∷ [], (slice_val (b-deques, o-deques) (length deques) ∷ [], (slice_val (b-frames, o-frames) (length frames) ∷ [], (slice_val (b-pool, o-pool) (length pool) ∷ [], tt))))
@@ -111,7 +111,7 @@ module _ {M : Type 1} {𝓤 : Ura M} (𝓛 : Logic 𝓤) (mem : Memory → SProp
   abbrev Post : Val → SProp 𝓤
   Post = (walk_of 𝓛 f'.ended stayed (f'.clauses 𝓛 mem run)).post bound'
 
-  exits' : (res' : FramesChecked) → Is R-FramesChecked res' (val-FramesChecked res' ∷ []) → res' ≡ tablesChecked numbers deques frames pool → ent 𝓤 (⋆ 𝓛 (‵ (Yours u32 κ-deques q-deques γ-deques b-deques o-deques n-deques deques) ∷ ‵ (Yours R-Frame κ-frames q-frames γ-frames b-frames o-frames n-frames frames) ∷ ‵ (Yours u32 κ-pool q-pool γ-pool b-pool o-pool n-pool pool) ∷ [])) (Post (val-FramesChecked res'))
+  exits' : (res' : FramesChecked) → Is R-FramesChecked res' (val-FramesChecked res' ∷ []) → res' ≡ tables_checked numbers deques frames pool → ent 𝓤 (⋆ 𝓛 (‵ (Yours u32 κ-deques q-deques γ-deques b-deques o-deques n-deques deques) ∷ ‵ (Yours R-Frame κ-frames q-frames γ-frames b-frames o-frames n-frames frames) ∷ ‵ (Yours u32 κ-pool q-pool γ-pool b-pool o-pool n-pool pool) ∷ [])) (Post (val-FramesChecked res'))
   exits' res' good' e' =
       qed 𝓛 (‵ (Yours u32 κ-deques q-deques γ-deques b-deques o-deques n-deques deques) ∷ ‵ (Yours R-Frame κ-frames q-frames γ-frames b-frames o-frames n-frames frames) ∷ ‵ (Yours u32 κ-pool q-pool γ-pool b-pool o-pool n-pool pool) ∷ []) ∵
       suffices ! _ (ends_at 𝓛 f'.ended stayed (f'.clauses 𝓛 mem run) bound' (val-FramesChecked res') res' (tt, (tt, (tt, (tt, tt)))) (tt, (tt, (tt, (tt, tt))))) $ says ! e' $
@@ -123,7 +123,7 @@ module _ {M : Type 1} {𝓤 : Ura M} (𝓛 : Logic 𝓤) (mem : Memory → SProp
     abbrev fm : FmC 𝓤 H 𝓛.laws 𝓣.C
     fm = fm_of 𝓤 H 𝓛.laws 𝓣
 
-    walk : length deques ≡ dequeWords → ent 𝓤 (on_entry 𝓛 f'.signature (κ-deques, (κ-frames, (κ-pool, tt))) (q-deques, (q-frames, (q-pool, tt))) args' vals') (WpFn 𝓤 H 𝓣.C 𝓣.Λ code.function (val-Numbers numbers ∷ slice_val (b-deques, o-deques) (length deques) ∷ slice_val (b-frames, o-frames) (length frames) ∷ slice_val (b-pool, o-pool) (length pool) ∷ []) Post)
+    walk : length deques ≡ deque_words → ent 𝓤 (on_entry 𝓛 f'.signature (κ-deques, (κ-frames, (κ-pool, tt))) (q-deques, (q-frames, (q-pool, tt))) args' vals') (WpFn 𝓤 H 𝓣.C 𝓣.Λ code.function (val-Numbers numbers ∷ slice_val (b-deques, o-deques) (length deques) ∷ slice_val (b-frames, o-frames) (length frames) ∷ slice_val (b-pool, o-pool) (length pool) ∷ []) Post)
     walk ok' =
         qed 𝓛 ((‵ (flft κ-deques q-deques) ⊛ ‵ (flft κ-frames q-frames) ⊛ ‵ (flft κ-pool q-pool) ⊛ ‵ ftrue) ∷ ‵ (owns (R-Numbers ∷ ShrSlice (named 0) κ-deques u32 ∷ ShrSlice (named 1) κ-frames R-Frame ∷ ShrSlice (named 2) κ-pool u32 ∷ []) args' vals') ∷ []) ∵ enter ! 𝓣.C 𝓣.Λ code.function (val-Numbers numbers ∷ slice_val (b-deques, o-deques) (length deques) ∷ slice_val (b-frames, o-frames) (length frames) ∷ slice_val (b-pool, o-pool) (length pool) ∷ []) _ $
         alloc1 ! (λ l₀. alloc1 ! (λ l₁. alloc1 ! (λ l₂. alloc1 ! (λ l₃. alloc1 ! (λ l₄. alloc1 ! (λ l₅. alloc1 ! (λ l₆. alloc1 ! (λ l₇. alloc0 ! $ params1 ! $
@@ -137,7 +137,7 @@ module _ {M : Type 1} {𝓤 : Ura M} (𝓛 : Logic 𝓤) (mem : Memory → SProp
         (and_then ! (load ! (from ! (stop !)) (look ! 16 refl)) (and_then ! (load ! (from ! (stop !)) (look ! 6 refl)) (and_then ! (load ! (from ! (stop !)) (look ! 10 refl)) (no_more !)))) (λ r-1 r-1-is.
         land ! (from ! (stop !)) (init ! 7 refl (tt, tt)) $
         assigns ! (un ! (load ! (from ! (stop !)) (look ! 7 refl)) tt) (from ! (stop !)) (init ! 3 refl (tt, tt)) $
-        leave-if ! (load ! (from ! (stop !)) (look ! 3 refl))
+        leave_if ! (load ! (from ! (stop !)) (look ! 3 refl))
         (λ test-2.
         assigns ! (agg ! (and_then ! (const ! _ tt) (no_more !))) (from ! (stop !)) (init ! 17 refl ((EL.lawful M-FramesChecked.the_type L-FramesChecked.the_laws 𝓛 tt).typed FramesChecked.Bad _ (EL.owes M-FramesChecked.the_type L-FramesChecked.the_laws FramesChecked.Bad tt)).0) $
         returns_within ! Post refl (look ! 17 refl) $ forget ! 3 refl $ forget ! 5 refl $ forget ! 7 refl $ forget ! 9 refl $ forget ! 11 refl $ forget ! 13 refl $ forget ! 15 refl $ forget ! 17 refl $
@@ -147,12 +147,12 @@ module _ {M : Type 1} {𝓤 : Ura M} (𝓛 : Logic 𝓤) (mem : Memory → SProp
         (λ test-2.
         -- _0 = frame_check::check_frames(_1.0, _1.4, _2, _3)
         move ! (1 ∷ 2 ∷ []) $
-        S-check-frames.step-gg mem run ! fm known-check-frames b-deques o-deques n-deques deques b-frames o-frames n-frames frames numbers.workers numbers.free_place (LL.owed M-Numbers.the_type L-Numbers.the_laws numbers _ numbers-good).0.1 (LL.owed M-Numbers.the_type L-Numbers.the_laws numbers _ numbers-good).1.1.1.1.0.1 (F.needs-4 numbers deques frames pool room-deques.0 room-frames.0 room-pool.0 ok' r-1 r-1-is (is_true r-1 (not-not r-1 test-2)))
+        S-check-frames.step-gg mem run ! fm known-check-frames b-deques o-deques n-deques deques b-frames o-frames n-frames frames numbers.workers numbers.free_place (LL.owed M-Numbers.the_type L-Numbers.the_laws numbers _ numbers-good).0.1 (LL.owed M-Numbers.the_type L-Numbers.the_laws numbers _ numbers-good).1.1.1.1.0.1 (F.needs-4 numbers deques frames pool room-deques.0 room-frames.0 room-pool.0 ok' r-1 r-1-is (is_true r-1 (not_not r-1 test-2)))
         (and_then ! (load ! (from ! (fld ! refl (stop !))) (look_in ! 16 (sub ! 0 refl (whole !)))) (and_then ! (load ! (from ! (fld ! refl (stop !))) (look_in ! 16 (sub ! 4 refl (whole !)))) (and_then ! (load ! (from ! (stop !)) (look ! 14 refl)) (and_then ! (load ! (from ! (stop !)) (look ! 12 refl)) (no_more !))))) (λ r-4 r-4-good r-4-is.
         land ! (from ! (stop !)) (init ! 17 refl ((EL.lawful M-FramesChecked.the_type L-FramesChecked.the_laws 𝓛 tt).typed r-4 _ r-4-good).0) $
         returns_within ! Post refl (look ! 17 refl) $ forget ! 3 refl $ forget ! 5 refl $ forget ! 7 refl $ forget ! 9 refl $ forget ! 11 refl $ forget ! 13 refl $ forget ! 15 refl $ forget ! 17 refl $
         free_all ! 3 refl $
-        by ! (exits' r-4 r-4-good (F.out-5 numbers deques frames pool room-deques.0 room-frames.0 room-pool.0 ok' r-1 r-1-is (is_true r-1 (not-not r-1 test-2)) r-4 r-4-is)))))))))))))
+        by ! (exits' r-4 r-4-good (F.out-5 numbers deques frames pool room-deques.0 room-frames.0 room-pool.0 ok' r-1 r-1-is (is_true r-1 (not_not r-1 test-2)) r-4 r-4-is)))))))))))))
 
 module _ {M : Type 1} {𝓤 : Ura M} (𝓛 : Logic 𝓤) (mem : Memory → SProp 𝓤) (run : Routine → Fun 𝓤) (𝓣 : Tables 𝓤 𝓛.H) where
   open 𝓛 use {H}
@@ -161,7 +161,7 @@ module _ {M : Type 1} {𝓤 : Ura M} (𝓛 : Logic 𝓤) (mem : Memory → SProp
   walks known-check-numbers known-check-frames = walked 𝓛 f'.ended stayed (f'.clauses 𝓛 mem run) (WpFn 𝓤 H 𝓣.C 𝓣.Λ code.function)
       (λ κs. (LL.vals M-Numbers.the_type L-Numbers.the_laws, (shr_slice_vals, (shr_slice_vals, (shr_slice_vals, tt)))))
       (λ κs. (LL.tells M-Numbers.the_type L-Numbers.the_laws, (shr_slice_Tells (named 0) κs.0 u32, (shr_slice_Tells (named 1) κs.1.0 R-Frame, (shr_slice_Tells (named 2) κs.1.1.0 u32, tt)))))
-      (λ κs qs bounds a g are. needs 𝓤 (length a.1.0.now ≡ dequeWords) _
+      (λ κs qs bounds a g are. needs 𝓤 (length a.1.0.now ≡ deque_words) _
       (walk 𝓛 mem run κs.0 qs.0 a.1.0.ref_ptr.0 a.1.0.ref_ptr.1 0 a.1.0.now κs.1.0 qs.1.0 a.1.1.0.ref_ptr.0 a.1.1.0.ref_ptr.1 0 a.1.1.0.now κs.1.1.0 qs.1.1.0 a.1.1.1.0.ref_ptr.0 a.1.1.1.0.ref_ptr.1 0 a.1.1.1.0.now a.0 are.0 are.1.0.0.1 are.1.1.0.0.1 are.1.1.1.0.0.1 𝓣 known-check-numbers known-check-frames))
 
   meets : Triple 𝓤 (𝓣.C #check-numbers) (S-check-numbers.Asked 𝓛 mem run) → Triple 𝓤 (𝓣.C #check-frames) (S-check-frames.Asked 𝓛 mem run) → Meets 𝓛 f'.signature (WpFn 𝓤 H 𝓣.C 𝓣.Λ code.function) (f'.spec 𝓛 mem run)

@@ -39,9 +39,9 @@ use denote.Triple.Statement.{Triple}
 use denote.Triple.Table.{entered, cited}
 use denote.Triple.Walked.{says, needs, Stays, stay_slice, stay_none, stay_none_slice, walk_of, Walks, ends_at, walked, Goes-slice, Goes-none, Goes-none_slice, walk_Meets}
 use borrow.Author.Rules.{scaled_Fits}
-use Rattle.frames.proofs.Lent.{at-list, Mine, Yours, ty_at, exit-unless, exit-if, leave-if, fork, skipped, regroup, matched, matched-last, const, is_true, is_false, not-not, differ, widen, less-fits, after, turn-of, take_out, put_in, put_back, look-out, look-back, free_all}
+use Rattle.frames.proofs.Lent.{at_list, Mine, Yours, ty_at, exit_unless, exit_if, leave_if, fork, skipped, regroup, matched, matched_last, const, is_true, is_false, not_not, differ, widen, less_fits, after, turn_of_lem, take_out, put_in, put_back, look_out, look_back, free_all}
 use Rattle.semantics.specs.Promises.{parts, lent, IsReportWith}
-use Rattle.semantics.specs.Remembering.{reportRemembering}
+use Rattle.semantics.specs.Remembering.{report_remembering}
 use Rattle.soundness.specs.Layout.{two_words}
 use Rattle.engine.proofs.Called.fit as S-fit
 use Rattle.engine.proofs.entries.fit.Symbol as D-fit
@@ -115,7 +115,7 @@ module _ {M : Type 1} {𝓤 : Ura M} (𝓛 : Logic 𝓤) (mem : Memory → SProp
   n-report = length report
 
   abbrev args' : Bor (List ℕ) × (Bor (List ℕ) × (Bor (List Frame) × (Bor (List ℕ) × (ℕ × (Bor (List ℕ) × (Bor (List ℕ) × (Bor (List ℕ) × (Bor (List ℕ) × (Bor (List ℕ) × (Bor (List ℕ) × (Bor (List ℕ) × Unit {0})))))))))))
-  args' = (at-list b-numbers o-numbers γ-numbers numbers, (at-list b-deques o-deques γ-deques deques, (at-list b-frames o-frames γ-frames frames, (at-list b-memory o-memory γ-memory memory, (workers, (at-list b-values o-values γ-values values, (at-list b-pool o-pool γ-pool pool, (at-list b-work o-work γ-work work, (at-list b-bytes o-bytes γ-bytes bytes, (at-list b-answers o-answers γ-answers answers, (at-list b-clocks o-clocks γ-clocks clocks, (at-list b-report o-report γ-report report, tt))))))))))))
+  args' = (at_list b-numbers o-numbers γ-numbers numbers, (at_list b-deques o-deques γ-deques deques, (at_list b-frames o-frames γ-frames frames, (at_list b-memory o-memory γ-memory memory, (workers, (at_list b-values o-values γ-values values, (at_list b-pool o-pool γ-pool pool, (at_list b-work o-work γ-work work, (at_list b-bytes o-bytes γ-bytes bytes, (at_list b-answers o-answers γ-answers answers, (at_list b-clocks o-clocks γ-clocks clocks, (at_list b-report o-report γ-report report, tt))))))))))))
 
   abbrev vals' : Vals f'.signature (κ-numbers, (κ-deques, (κ-frames, (κ-memory, (κ-values, (κ-pool, (κ-work, (κ-bytes, (κ-answers, (κ-clocks, (κ-report, tt)))))))))))
   vals' = (slice_val (b-numbers, o-numbers) (length numbers) ∷ [], (slice_val (b-deques, o-deques) (length deques) ∷ [], (slice_val (b-frames, o-frames) (length frames) ∷ [], (slice_val (b-memory, o-memory) (length memory) ∷ [], (vint w32 workers ∷ [], (slice_val (b-values, o-values) (length values) ∷ [], (slice_val (b-pool, o-pool) (length pool) ∷ [], (slice_val (b-work, o-work) (length work) ∷ [], (slice_val (b-bytes, o-bytes) (length bytes) ∷ [], (slice_val (b-answers, o-answers) (length answers) ∷ [], (slice_val (b-clocks, o-clocks) (length clocks) ∷ [], (slice_val (b-report, o-report) (length report) ∷ [], tt))))))))))))
@@ -126,10 +126,10 @@ module _ {M : Type 1} {𝓤 : Ura M} (𝓛 : Logic 𝓤) (mem : Memory → SProp
   abbrev Post : Val → SProp 𝓤
   Post = (walk_of 𝓛 f'.ended stayed (f'.clauses 𝓛 mem run)).post bound'
 
-  exits' : (res' : ℕ) (zs-numbers : List ℕ) (zs-deques : List ℕ) (zs-frames : List Frame) (zs-memory : List ℕ) (zs-pool : List ℕ) (zs-work : List ℕ) (zs-answers : List ℕ) (zs-clocks : List ℕ) (zs-report : List ℕ) → res' < 2 ^ 32 → IsReportWith (reportRemembering two_words (parts numbers deques frames) memory workers values pool bytes (lent work answers clocks report)) zs-numbers zs-deques zs-frames zs-memory zs-pool zs-work zs-answers zs-clocks zs-report res' → length zs-numbers ≡ length numbers → length zs-deques ≡ length deques → length zs-frames ≡ length frames → length zs-memory ≡ length memory → length zs-pool ≡ length pool → length zs-work ≡ length work → length zs-answers ≡ length answers → length zs-clocks ≡ length clocks → length zs-report ≡ length report → ent 𝓤 (⋆ 𝓛 (‵ (Mine u32 κ-numbers q-numbers γ-numbers b-numbers o-numbers n-numbers zs-numbers) ∷ ‵ (Mine u32 κ-deques q-deques γ-deques b-deques o-deques n-deques zs-deques) ∷ ‵ (Mine R-Frame κ-frames q-frames γ-frames b-frames o-frames n-frames zs-frames) ∷ ‵ (Mine u32 κ-memory q-memory γ-memory b-memory o-memory n-memory zs-memory) ∷ ‵ (Yours u32 κ-values q-values γ-values b-values o-values n-values values) ∷ ‵ (Mine u32 κ-pool q-pool γ-pool b-pool o-pool n-pool zs-pool) ∷ ‵ (Mine u32 κ-work q-work γ-work b-work o-work n-work zs-work) ∷ ‵ (Yours u8 κ-bytes q-bytes γ-bytes b-bytes o-bytes n-bytes bytes) ∷ ‵ (Mine u32 κ-answers q-answers γ-answers b-answers o-answers n-answers zs-answers) ∷ ‵ (Mine u64 κ-clocks q-clocks γ-clocks b-clocks o-clocks n-clocks zs-clocks) ∷ ‵ (Mine u64 κ-report q-report γ-report b-report o-report n-report zs-report) ∷ [])) (Post (vint w32 res'))
-  exits' res' zs-numbers zs-deques zs-frames zs-memory zs-pool zs-work zs-answers zs-clocks zs-report good' e' same_numbers same-deques same-frames same_memory same-pool same-work same-answers same-clocks same-report =
+  exits' : (res' : ℕ) (zs-numbers : List ℕ) (zs-deques : List ℕ) (zs-frames : List Frame) (zs-memory : List ℕ) (zs-pool : List ℕ) (zs-work : List ℕ) (zs-answers : List ℕ) (zs-clocks : List ℕ) (zs-report : List ℕ) → res' < 2 ^ 32 → IsReportWith (report_remembering two_words (parts numbers deques frames) memory workers values pool bytes (lent work answers clocks report)) zs-numbers zs-deques zs-frames zs-memory zs-pool zs-work zs-answers zs-clocks zs-report res' → length zs-numbers ≡ length numbers → length zs-deques ≡ length deques → length zs-frames ≡ length frames → length zs-memory ≡ length memory → length zs-pool ≡ length pool → length zs-work ≡ length work → length zs-answers ≡ length answers → length zs-clocks ≡ length clocks → length zs-report ≡ length report → ent 𝓤 (⋆ 𝓛 (‵ (Mine u32 κ-numbers q-numbers γ-numbers b-numbers o-numbers n-numbers zs-numbers) ∷ ‵ (Mine u32 κ-deques q-deques γ-deques b-deques o-deques n-deques zs-deques) ∷ ‵ (Mine R-Frame κ-frames q-frames γ-frames b-frames o-frames n-frames zs-frames) ∷ ‵ (Mine u32 κ-memory q-memory γ-memory b-memory o-memory n-memory zs-memory) ∷ ‵ (Yours u32 κ-values q-values γ-values b-values o-values n-values values) ∷ ‵ (Mine u32 κ-pool q-pool γ-pool b-pool o-pool n-pool zs-pool) ∷ ‵ (Mine u32 κ-work q-work γ-work b-work o-work n-work zs-work) ∷ ‵ (Yours u8 κ-bytes q-bytes γ-bytes b-bytes o-bytes n-bytes bytes) ∷ ‵ (Mine u32 κ-answers q-answers γ-answers b-answers o-answers n-answers zs-answers) ∷ ‵ (Mine u64 κ-clocks q-clocks γ-clocks b-clocks o-clocks n-clocks zs-clocks) ∷ ‵ (Mine u64 κ-report q-report γ-report b-report o-report n-report zs-report) ∷ [])) (Post (vint w32 res'))
+  exits' res' zs-numbers zs-deques zs-frames zs-memory zs-pool zs-work zs-answers zs-clocks zs-report good' e' same_numbers same-deques same-frames same_memory same-pool same_work same-answers same_clocks same_report =
       qed 𝓛 (‵ (Mine u32 κ-numbers q-numbers γ-numbers b-numbers o-numbers n-numbers zs-numbers) ∷ ‵ (Mine u32 κ-deques q-deques γ-deques b-deques o-deques n-deques zs-deques) ∷ ‵ (Mine R-Frame κ-frames q-frames γ-frames b-frames o-frames n-frames zs-frames) ∷ ‵ (Mine u32 κ-memory q-memory γ-memory b-memory o-memory n-memory zs-memory) ∷ ‵ (Yours u32 κ-values q-values γ-values b-values o-values n-values values) ∷ ‵ (Mine u32 κ-pool q-pool γ-pool b-pool o-pool n-pool zs-pool) ∷ ‵ (Mine u32 κ-work q-work γ-work b-work o-work n-work zs-work) ∷ ‵ (Yours u8 κ-bytes q-bytes γ-bytes b-bytes o-bytes n-bytes bytes) ∷ ‵ (Mine u32 κ-answers q-answers γ-answers b-answers o-answers n-answers zs-answers) ∷ ‵ (Mine u64 κ-clocks q-clocks γ-clocks b-clocks o-clocks n-clocks zs-clocks) ∷ ‵ (Mine u64 κ-report q-report γ-report b-report o-report n-report zs-report) ∷ []) ∵
-      suffices ! _ (ends_at 𝓛 f'.ended stayed (f'.clauses 𝓛 mem run) bound' (vint w32 res') res' (zs-numbers, (zs-deques, (zs-frames, (zs-memory, (tt, (tt, (zs-pool, (zs-work, (tt, (zs-answers, (zs-clocks, (zs-report, tt)))))))))))) (same_numbers, (same-deques, (same-frames, (same_memory, (tt, (tt, (same-pool, (same-work, (tt, (same-answers, (same-clocks, (same-report, tt))))))))))))) $ says ! e' $
+      suffices ! _ (ends_at 𝓛 f'.ended stayed (f'.clauses 𝓛 mem run) bound' (vint w32 res') res' (zs-numbers, (zs-deques, (zs-frames, (zs-memory, (tt, (tt, (zs-pool, (zs-work, (tt, (zs-answers, (zs-clocks, (zs-report, tt)))))))))))) (same_numbers, (same-deques, (same-frames, (same_memory, (tt, (tt, (same-pool, (same_work, (tt, (same-answers, (same_clocks, (same_report, tt))))))))))))) $ says ! e' $
       fsplit ! $ move ! (2 ∷ []) $ fsplit ! $ move ! (4 ∷ []) $ fsplit ! $ move ! (6 ∷ []) $ fsplit ! $ move ! (8 ∷ []) $ fsplit ! $ move ! (10 ∷ []) $ fsplit ! $ move ! (12 ∷ []) $ fsplit ! $ move ! (14 ∷ []) $ fsplit ! $ move ! (16 ∷ []) $ fsplit ! $ move ! (18 ∷ []) $ fsplit ! $ move ! (20 ∷ []) $ fsplit ! $ nothing ! $ move ! (22 ∷ 20 ∷ 18 ∷ 16 ∷ 14 ∷ 12 ∷ 10 ∷ 8 ∷ 6 ∷ 4 ∷ 2 ∷ 0 ∷ []) $ group ! 12 $ frame ! $
       nothing ! $ move ! (1 ∷ 0 ∷ []) $ fjoin ! $ move ! (1 ∷ 0 ∷ []) $ fjoin ! $ move ! (1 ∷ 0 ∷ []) $ fjoin ! $ move ! (1 ∷ 0 ∷ []) $ fjoin ! $ move ! (1 ∷ 0 ∷ []) $ fjoin ! $ move ! (1 ∷ 0 ∷ []) $ fjoin ! $ move ! (1 ∷ 0 ∷ []) $ fjoin ! $ owned ! u32 (Is u32) (uint_Makes 𝓛 w32) workers _ (refl, workers-fits) $ fjoin ! $ move ! (1 ∷ 0 ∷ []) $ fjoin ! $ move ! (1 ∷ 0 ∷ []) $ fjoin ! $ move ! (1 ∷ 0 ∷ []) $ fjoin ! $ move ! (1 ∷ 0 ∷ []) $ fjoin ! $ frame ! $
       owned ! u32 (Is u32) (uint_Makes 𝓛 w32) res' _ (refl, good') $ done !
@@ -157,7 +157,7 @@ module _ {M : Type 1} {𝓤 : Ura M} (𝓛 : Logic 𝓤) (mem : Memory → SProp
         (λ ν-0 δ-0 ν-1 δ-1 ν-2 δ-2. and_then ! (load ! (from ! (stop !)) (look ! 68 refl)) (and_then ! (load ! (from ! (stop !)) (look ! 64 refl)) (and_then ! (load ! (from ! (stop !)) (look ! 60 refl)) (no_more !)))) (λ r-1 r-1-is.
         land ! (from ! (stop !)) (init ! 71 refl (tt, tt)) $
         assigns ! (un ! (load ! (from ! (stop !)) (look ! 71 refl)) tt) (from ! (stop !)) (init ! 57 refl (tt, tt)) $
-        leave-if ! (load ! (from ! (stop !)) (look ! 57 refl))
+        leave_if ! (load ! (from ! (stop !)) (look ! 57 refl))
         (λ test-2.
         -- _0 = engine::entries::unfit()
         S-unfit.step mem run ! fm known-unfit
@@ -179,7 +179,7 @@ module _ {M : Type 1} {𝓤 : Ura M} (𝓛 : Logic 𝓤) (mem : Memory → SProp
         (λ ν-0 δ-0 ν-1 δ-1. and_then ! (load ! (from ! (stop !)) (look ! 56 refl)) (and_then ! (load ! (from ! (stop !)) (look ! 52 refl)) (and_then ! (load ! (from ! (stop !)) (look ! 48 refl)) (no_more !)))) (λ r-5 r-5-is.
         land ! (from ! (stop !)) (store ! 71 refl (tt, tt)) $
         assigns ! (un ! (load ! (from ! (stop !)) (look ! 71 refl)) tt) (from ! (stop !)) (store ! 57 refl (tt, tt)) $
-        leave-if ! (load ! (from ! (stop !)) (look ! 57 refl))
+        leave_if ! (load ! (from ! (stop !)) (look ! 57 refl))
         (λ test-6.
         -- _0 = engine::entries::unfit()
         S-unfit.step mem run ! fm known-unfit
@@ -188,7 +188,7 @@ module _ {M : Type 1} {𝓤 : Ura M} (𝓛 : Logic 𝓤) (mem : Memory → SProp
         returns_within ! Post refl (look ! 97 refl) $ forget ! 47 refl $ forget ! 49 refl $ forget ! 51 refl $ forget ! 53 refl $ forget ! 55 refl $ forget ! 57 refl $ forget ! 59 refl $ forget ! 61 refl $ forget ! 63 refl $ forget ! 65 refl $ forget ! 67 refl $ forget ! 69 refl $ forget ! 71 refl $ forget ! 73 refl $ forget ! 75 refl $ forget ! 77 refl $ forget ! 79 refl $ forget ! 81 refl $ forget ! 83 refl $ forget ! 85 refl $ forget ! 87 refl $ forget ! 89 refl $ forget ! 91 refl $ forget ! 93 refl $ forget ! 95 refl $ forget ! 97 refl $
         free_all ! 11 refl $
         move ! (2 ∷ 3 ∷ 5 ∷ 4 ∷ 6 ∷ 7 ∷ 8 ∷ 9 ∷ 10 ∷ 0 ∷ 1 ∷ []) $
-        by ! (exits' r-7 numbers deques frames memory pool work answers clocks report r-7-fits (F.out-8 numbers deques frames memory workers values pool work bytes answers clocks report room-numbers.0 room-deques.0 room-frames.0 room-memory.0 workers-fits room-values.0 room-pool.0 room-work.0 room-bytes.0 room-answers.0 room-clocks.0 room-report.0 r-1 r-1-is (is_true r-1 (not-not r-1 test-2)) r-5 r-5-is (is_false r-5 test-6) r-7 r-7-fits r-7-is) (refl) (refl) (refl) (refl) (refl) (refl) (refl) (refl) (refl))))
+        by ! (exits' r-7 numbers deques frames memory pool work answers clocks report r-7-fits (F.out-8 numbers deques frames memory workers values pool work bytes answers clocks report room-numbers.0 room-deques.0 room-frames.0 room-memory.0 workers-fits room-values.0 room-pool.0 room-work.0 room-bytes.0 room-answers.0 room-clocks.0 room-report.0 r-1 r-1-is (is_true r-1 (not_not r-1 test-2)) r-5 r-5-is (is_false r-5 test-6) r-7 r-7-fits r-7-is) (refl) (refl) (refl) (refl) (refl) (refl) (refl) (refl) (refl))))
         (λ test-6.
         assigns ! (addr ! (from ! (fld ! refl (hop ! (look_in ! 95 (sub ! 0 refl (whole !))) (stop !))))) (from ! (stop !)) (init ! 45 refl (tt, tt)) $
         assigns ! (agg ! (and_then ! (load ! (from ! (stop !)) (look ! 45 refl)) (and_then ! (load ! (from ! (fld ! refl (stop !))) (look_in ! 95 (sub ! 1 refl (whole !)))) (no_more !)))) (from ! (stop !)) (init ! 43 refl (tt, (tt, (record { fits = room-numbers.0 }, tt)))) $
@@ -210,12 +210,12 @@ module _ {M : Type 1} {𝓤 : Ura M} (𝓛 : Logic 𝓤) (mem : Memory → SProp
         assigns ! (agg ! (and_then ! (load ! (from ! (stop !)) (look ! 13 refl)) (and_then ! (load ! (from ! (fld ! refl (stop !))) (look_in ! 73 (sub ! 1 refl (whole !)))) (no_more !)))) (from ! (stop !)) (init ! 11 refl (tt, (tt, (record { fits = room-report.0 }, tt)))) $
         -- _0 = engine::reporting::report_on(_27, _29, _31, _33, _5, _6, _35, _37, _9, _39, _41, _43)
         move ! (2 ∷ 3 ∷ 5 ∷ 4 ∷ 6 ∷ 7 ∷ 8 ∷ 9 ∷ 10 ∷ 0 ∷ 1 ∷ []) $
-        S-report-on.step-gg mem run ! fm known-report-on b-numbers o-numbers n-numbers numbers b-deques o-deques n-deques deques b-frames o-frames n-frames frames b-memory o-memory n-memory memory b-values o-values n-values values b-pool o-pool n-pool pool b-work o-work n-work work b-bytes o-bytes n-bytes bytes b-answers o-answers n-answers answers b-clocks o-clocks n-clocks clocks b-report o-report n-report report workers workers-fits (F.needs-9 numbers deques frames memory workers values pool work bytes answers clocks report room-numbers.0 room-deques.0 room-frames.0 room-memory.0 workers-fits room-values.0 room-pool.0 room-work.0 room-bytes.0 room-answers.0 room-clocks.0 room-report.0 r-1 r-1-is (is_true r-1 (not-not r-1 test-2)) r-5 r-5-is (is_true r-5 (not-not r-5 test-6))) (refl) room-numbers (refl) room-deques (refl) room-frames (refl) room-memory (refl) room-pool (refl) room-work (refl) room-answers (refl) room-clocks (refl) room-report
+        S-report-on.step-gg mem run ! fm known-report-on b-numbers o-numbers n-numbers numbers b-deques o-deques n-deques deques b-frames o-frames n-frames frames b-memory o-memory n-memory memory b-values o-values n-values values b-pool o-pool n-pool pool b-work o-work n-work work b-bytes o-bytes n-bytes bytes b-answers o-answers n-answers answers b-clocks o-clocks n-clocks clocks b-report o-report n-report report workers workers-fits (F.needs-9 numbers deques frames memory workers values pool work bytes answers clocks report room-numbers.0 room-deques.0 room-frames.0 room-memory.0 workers-fits room-values.0 room-pool.0 room-work.0 room-bytes.0 room-answers.0 room-clocks.0 room-report.0 r-1 r-1-is (is_true r-1 (not_not r-1 test-2)) r-5 r-5-is (is_true r-5 (not_not r-5 test-6))) (refl) room-numbers (refl) room-deques (refl) room-frames (refl) room-memory (refl) room-pool (refl) room-work (refl) room-answers (refl) room-clocks (refl) room-report
         (λ ν-0 δ-0 ν-1 δ-1 ν-2 δ-2 ν-3 δ-3 ν-4 δ-4 ν-5 δ-5 ν-6 δ-6 ν-7 δ-7 ν-8 δ-8. and_then ! (load ! (from ! (stop !)) (look ! 44 refl)) (and_then ! (load ! (from ! (stop !)) (look ! 40 refl)) (and_then ! (load ! (from ! (stop !)) (look ! 36 refl)) (and_then ! (load ! (from ! (stop !)) (look ! 32 refl)) (and_then ! (load ! (from ! (stop !)) (look ! 88 refl)) (and_then ! (load ! (from ! (stop !)) (look ! 86 refl)) (and_then ! (load ! (from ! (stop !)) (look ! 28 refl)) (and_then ! (load ! (from ! (stop !)) (look ! 24 refl)) (and_then ! (load ! (from ! (stop !)) (look ! 80 refl)) (and_then ! (load ! (from ! (stop !)) (look ! 20 refl)) (and_then ! (load ! (from ! (stop !)) (look ! 16 refl)) (and_then ! (load ! (from ! (stop !)) (look ! 12 refl)) (no_more !))))))))))))) (λ r-9 numbers-9 deques-9 frames-9 memory-9 pool-9 work-9 answers-9 clocks-9 report-9 r-9-fits r-9-is same-numbers-9 same-deques-9 same-frames-9 same-memory-9 same-pool-9 same-work-9 same-answers-9 same-clocks-9 same-report-9.
         land ! (from ! (stop !)) (init ! 97 refl (tt, record { fits = r-9-fits })) $
         returns_within ! Post refl (look ! 97 refl) $ forget ! 11 refl $ forget ! 13 refl $ forget ! 15 refl $ forget ! 17 refl $ forget ! 19 refl $ forget ! 21 refl $ forget ! 23 refl $ forget ! 25 refl $ forget ! 27 refl $ forget ! 29 refl $ forget ! 31 refl $ forget ! 33 refl $ forget ! 35 refl $ forget ! 37 refl $ forget ! 39 refl $ forget ! 41 refl $ forget ! 43 refl $ forget ! 45 refl $ forget ! 47 refl $ forget ! 49 refl $ forget ! 51 refl $ forget ! 53 refl $ forget ! 55 refl $ forget ! 57 refl $ forget ! 59 refl $ forget ! 61 refl $ forget ! 63 refl $ forget ! 65 refl $ forget ! 67 refl $ forget ! 69 refl $ forget ! 71 refl $ forget ! 73 refl $ forget ! 75 refl $ forget ! 77 refl $ forget ! 79 refl $ forget ! 81 refl $ forget ! 83 refl $ forget ! 85 refl $ forget ! 87 refl $ forget ! 89 refl $ forget ! 91 refl $ forget ! 93 refl $ forget ! 95 refl $ forget ! 97 refl $
         free_all ! 11 refl $
-        by ! (exits' r-9 numbers-9 deques-9 frames-9 memory-9 pool-9 work-9 answers-9 clocks-9 report-9 r-9-fits (F.out-10 numbers deques frames memory workers values pool work bytes answers clocks report room-numbers.0 room-deques.0 room-frames.0 room-memory.0 workers-fits room-values.0 room-pool.0 room-work.0 room-bytes.0 room-answers.0 room-clocks.0 room-report.0 r-1 r-1-is (is_true r-1 (not-not r-1 test-2)) r-5 r-5-is (is_true r-5 (not-not r-5 test-6)) r-9 numbers-9 deques-9 frames-9 memory-9 pool-9 work-9 answers-9 clocks-9 report-9 r-9-fits r-9-is same-numbers-9 same-deques-9 same-frames-9 same-memory-9 same-pool-9 same-work-9 same-answers-9 same-clocks-9 same-report-9) (same-numbers-9) (same-deques-9) (same-frames-9) (same-memory-9) (same-pool-9) (same-work-9) (same-answers-9) (same-clocks-9) (same-report-9)))))))))))))))))))))))))))))))))))))))))))))))))))
+        by ! (exits' r-9 numbers-9 deques-9 frames-9 memory-9 pool-9 work-9 answers-9 clocks-9 report-9 r-9-fits (F.out-10 numbers deques frames memory workers values pool work bytes answers clocks report room-numbers.0 room-deques.0 room-frames.0 room-memory.0 workers-fits room-values.0 room-pool.0 room-work.0 room-bytes.0 room-answers.0 room-clocks.0 room-report.0 r-1 r-1-is (is_true r-1 (not_not r-1 test-2)) r-5 r-5-is (is_true r-5 (not_not r-5 test-6)) r-9 numbers-9 deques-9 frames-9 memory-9 pool-9 work-9 answers-9 clocks-9 report-9 r-9-fits r-9-is same-numbers-9 same-deques-9 same-frames-9 same-memory-9 same-pool-9 same-work-9 same-answers-9 same-clocks-9 same-report-9) (same-numbers-9) (same-deques-9) (same-frames-9) (same-memory-9) (same-pool-9) (same-work-9) (same-answers-9) (same-clocks-9) (same-report-9)))))))))))))))))))))))))))))))))))))))))))))))))))
 
 module _ {M : Type 1} {𝓤 : Ura M} (𝓛 : Logic 𝓤) (mem : Memory → SProp 𝓤) (run : Routine → Fun 𝓤) (𝓣 : Tables 𝓤 𝓛.H) where
   open 𝓛 use {H}

@@ -39,9 +39,9 @@ use denote.Triple.Statement.{Triple}
 use denote.Triple.Table.{entered, cited}
 use denote.Triple.Walked.{says, needs, Stays, stay_slice, stay_none, stay_none_slice, walk_of, Walks, ends_at, walked, Goes-slice, Goes-none, Goes-none_slice, walk_Meets}
 use borrow.Author.Rules.{scaled_Fits}
-use Rattle.frames.proofs.Lent.{at-list, Mine, Yours, ty_at, exit-unless, exit-if, leave-if, fork, skipped, regroup, matched, matched-last, const, is_true, is_false, not-not, differ, widen, less-fits, after, turn-of, take_out, put_in, put_back, look-out, look-back, free_all}
+use Rattle.frames.proofs.Lent.{at_list, Mine, Yours, ty_at, exit_unless, exit_if, leave_if, fork, skipped, regroup, matched, matched_last, const, is_true, is_false, not_not, differ, widen, less_fits, after, turn_of_lem, take_out, put_in, put_back, look_out, look_back, free_all}
 use Rattle.semantics.specs.Promises.{parts, IsSave}
-use Rattle.semantics.specs.Remembering.{saveRemembering}
+use Rattle.semantics.specs.Remembering.{save_remembering}
 use Rattle.soundness.specs.Layout.{two_words}
 use Rattle.engine.proofs.Called.fit as S-fit
 use Rattle.engine.proofs.entries.fit.Symbol as D-fit
@@ -99,7 +99,7 @@ module _ {M : Type 1} {𝓤 : Ura M} (𝓛 : Logic 𝓤) (mem : Memory → SProp
   n-target = length target
 
   abbrev args' : Bor (List ℕ) × (Bor (List ℕ) × (Bor (List Frame) × (Bor (List ℕ) × (Bor (List ℕ) × (Bor (List ℕ) × (Bor (List ℕ) × Unit {0}))))))
-  args' = (at-list b-numbers o-numbers γ-numbers numbers, (at-list b-deques o-deques γ-deques deques, (at-list b-frames o-frames γ-frames frames, (at-list b-memory o-memory γ-memory memory, (at-list b-pool o-pool γ-pool pool, (at-list b-work o-work γ-work work, (at-list b-target o-target γ-target target, tt)))))))
+  args' = (at_list b-numbers o-numbers γ-numbers numbers, (at_list b-deques o-deques γ-deques deques, (at_list b-frames o-frames γ-frames frames, (at_list b-memory o-memory γ-memory memory, (at_list b-pool o-pool γ-pool pool, (at_list b-work o-work γ-work work, (at_list b-target o-target γ-target target, tt)))))))
 
   abbrev vals' : Vals f'.signature (κ-numbers, (κ-deques, (κ-frames, (κ-memory, (κ-pool, (κ-work, (κ-target, tt)))))))
   vals' = (slice_val (b-numbers, o-numbers) (length numbers) ∷ [], (slice_val (b-deques, o-deques) (length deques) ∷ [], (slice_val (b-frames, o-frames) (length frames) ∷ [], (slice_val (b-memory, o-memory) (length memory) ∷ [], (slice_val (b-pool, o-pool) (length pool) ∷ [], (slice_val (b-work, o-work) (length work) ∷ [], (slice_val (b-target, o-target) (length target) ∷ [], tt)))))))
@@ -110,10 +110,10 @@ module _ {M : Type 1} {𝓤 : Ura M} (𝓛 : Logic 𝓤) (mem : Memory → SProp
   abbrev Post : Val → SProp 𝓤
   Post = (walk_of 𝓛 f'.ended stayed (f'.clauses 𝓛 mem run)).post bound'
 
-  exits' : (res' : ℕ) (zs-work : List ℕ) (zs-target : List ℕ) → res' < 2 ^ 32 → IsSave (saveRemembering two_words (parts numbers deques frames) memory pool work target) zs-work zs-target res' → length zs-work ≡ length work → length zs-target ≡ length target → ent 𝓤 (⋆ 𝓛 (‵ (Yours u32 κ-numbers q-numbers γ-numbers b-numbers o-numbers n-numbers numbers) ∷ ‵ (Yours u32 κ-deques q-deques γ-deques b-deques o-deques n-deques deques) ∷ ‵ (Yours R-Frame κ-frames q-frames γ-frames b-frames o-frames n-frames frames) ∷ ‵ (Yours u32 κ-memory q-memory γ-memory b-memory o-memory n-memory memory) ∷ ‵ (Yours u32 κ-pool q-pool γ-pool b-pool o-pool n-pool pool) ∷ ‵ (Mine u32 κ-work q-work γ-work b-work o-work n-work zs-work) ∷ ‵ (Mine u8 κ-target q-target γ-target b-target o-target n-target zs-target) ∷ [])) (Post (vint w32 res'))
-  exits' res' zs-work zs-target good' e' same-work same_target =
+  exits' : (res' : ℕ) (zs-work : List ℕ) (zs-target : List ℕ) → res' < 2 ^ 32 → IsSave (save_remembering two_words (parts numbers deques frames) memory pool work target) zs-work zs-target res' → length zs-work ≡ length work → length zs-target ≡ length target → ent 𝓤 (⋆ 𝓛 (‵ (Yours u32 κ-numbers q-numbers γ-numbers b-numbers o-numbers n-numbers numbers) ∷ ‵ (Yours u32 κ-deques q-deques γ-deques b-deques o-deques n-deques deques) ∷ ‵ (Yours R-Frame κ-frames q-frames γ-frames b-frames o-frames n-frames frames) ∷ ‵ (Yours u32 κ-memory q-memory γ-memory b-memory o-memory n-memory memory) ∷ ‵ (Yours u32 κ-pool q-pool γ-pool b-pool o-pool n-pool pool) ∷ ‵ (Mine u32 κ-work q-work γ-work b-work o-work n-work zs-work) ∷ ‵ (Mine u8 κ-target q-target γ-target b-target o-target n-target zs-target) ∷ [])) (Post (vint w32 res'))
+  exits' res' zs-work zs-target good' e' same_work same_target =
       qed 𝓛 (‵ (Yours u32 κ-numbers q-numbers γ-numbers b-numbers o-numbers n-numbers numbers) ∷ ‵ (Yours u32 κ-deques q-deques γ-deques b-deques o-deques n-deques deques) ∷ ‵ (Yours R-Frame κ-frames q-frames γ-frames b-frames o-frames n-frames frames) ∷ ‵ (Yours u32 κ-memory q-memory γ-memory b-memory o-memory n-memory memory) ∷ ‵ (Yours u32 κ-pool q-pool γ-pool b-pool o-pool n-pool pool) ∷ ‵ (Mine u32 κ-work q-work γ-work b-work o-work n-work zs-work) ∷ ‵ (Mine u8 κ-target q-target γ-target b-target o-target n-target zs-target) ∷ []) ∵
-      suffices ! _ (ends_at 𝓛 f'.ended stayed (f'.clauses 𝓛 mem run) bound' (vint w32 res') res' (tt, (tt, (tt, (tt, (tt, (zs-work, (zs-target, tt))))))) (tt, (tt, (tt, (tt, (tt, (same-work, (same_target, tt)))))))) $ says ! e' $
+      suffices ! _ (ends_at 𝓛 f'.ended stayed (f'.clauses 𝓛 mem run) bound' (vint w32 res') res' (tt, (tt, (tt, (tt, (tt, (zs-work, (zs-target, tt))))))) (tt, (tt, (tt, (tt, (tt, (same_work, (same_target, tt)))))))) $ says ! e' $
       fsplit ! $ move ! (2 ∷ []) $ fsplit ! $ move ! (4 ∷ []) $ fsplit ! $ move ! (6 ∷ []) $ fsplit ! $ move ! (8 ∷ []) $ fsplit ! $ move ! (10 ∷ []) $ fsplit ! $ move ! (12 ∷ []) $ fsplit ! $ nothing ! $ move ! (14 ∷ 12 ∷ 10 ∷ 8 ∷ 6 ∷ 4 ∷ 2 ∷ 0 ∷ []) $ group ! 8 $ frame ! $
       nothing ! $ move ! (1 ∷ 0 ∷ []) $ fjoin ! $ move ! (1 ∷ 0 ∷ []) $ fjoin ! $ move ! (1 ∷ 0 ∷ []) $ fjoin ! $ move ! (1 ∷ 0 ∷ []) $ fjoin ! $ move ! (1 ∷ 0 ∷ []) $ fjoin ! $ move ! (1 ∷ 0 ∷ []) $ fjoin ! $ move ! (1 ∷ 0 ∷ []) $ fjoin ! $ frame ! $
       owned ! u32 (Is u32) (uint_Makes 𝓛 w32) res' _ (refl, good') $ done !
@@ -135,7 +135,7 @@ module _ {M : Type 1} {𝓤 : Ura M} (𝓛 : Logic 𝓤) (mem : Memory → SProp
         (and_then ! (load ! (from ! (stop !)) (look ! 32 refl)) (and_then ! (load ! (from ! (stop !)) (look ! 30 refl)) (and_then ! (load ! (from ! (stop !)) (look ! 26 refl)) (no_more !)))) (λ r-1 r-1-is.
         land ! (from ! (stop !)) (init ! 17 refl (tt, tt)) $
         assigns ! (un ! (load ! (from ! (stop !)) (look ! 17 refl)) tt) (from ! (stop !)) (init ! 15 refl (tt, tt)) $
-        leave-if ! (load ! (from ! (stop !)) (look ! 15 refl))
+        leave_if ! (load ! (from ! (stop !)) (look ! 15 refl))
         (λ test-2.
         -- _0 = engine::entries::unfit()
         S-unfit.step mem run ! fm known-unfit
@@ -152,12 +152,12 @@ module _ {M : Type 1} {𝓤 : Ura M} (𝓛 : Logic 𝓤) (mem : Memory → SProp
         assigns ! (agg ! (and_then ! (load ! (from ! (stop !)) (look ! 9 refl)) (and_then ! (load ! (from ! (fld ! refl (stop !))) (look_in ! 19 (sub ! 1 refl (whole !)))) (no_more !)))) (from ! (stop !)) (init ! 7 refl (tt, (tt, (record { fits = room-target.0 }, tt)))) $
         -- _0 = engine::images::save_on(_1, _2, _3, _4, _5, _11, _13)
         move ! (0 ∷ 1 ∷ 3 ∷ 2 ∷ 4 ∷ 5 ∷ 6 ∷ []) $
-        S-save-on.step-ggggg mem run ! fm known-save-on b-numbers o-numbers n-numbers numbers b-deques o-deques n-deques deques b-frames o-frames n-frames frames b-memory o-memory n-memory memory b-pool o-pool n-pool pool b-work o-work n-work work b-target o-target n-target target (F.needs-5 numbers deques frames memory pool work target room-numbers.0 room-deques.0 room-frames.0 room-memory.0 room-pool.0 room-work.0 room-target.0 r-1 r-1-is (is_true r-1 (not-not r-1 test-2))) (refl) room-work (refl) room-target
+        S-save-on.step-ggggg mem run ! fm known-save-on b-numbers o-numbers n-numbers numbers b-deques o-deques n-deques deques b-frames o-frames n-frames frames b-memory o-memory n-memory memory b-pool o-pool n-pool pool b-work o-work n-work work b-target o-target n-target target (F.needs-5 numbers deques frames memory pool work target room-numbers.0 room-deques.0 room-frames.0 room-memory.0 room-pool.0 room-work.0 room-target.0 r-1 r-1-is (is_true r-1 (not_not r-1 test-2))) (refl) room-work (refl) room-target
         (λ ν-0 δ-0 ν-1 δ-1. and_then ! (load ! (from ! (stop !)) (look ! 32 refl)) (and_then ! (load ! (from ! (stop !)) (look ! 30 refl)) (and_then ! (load ! (from ! (stop !)) (look ! 28 refl)) (and_then ! (load ! (from ! (stop !)) (look ! 26 refl)) (and_then ! (load ! (from ! (stop !)) (look ! 24 refl)) (and_then ! (load ! (from ! (stop !)) (look ! 12 refl)) (and_then ! (load ! (from ! (stop !)) (look ! 8 refl)) (no_more !)))))))) (λ r-5 work-5 target-5 r-5-fits r-5-is same-work-5 same-target-5.
         land ! (from ! (stop !)) (init ! 33 refl (tt, record { fits = r-5-fits })) $
         returns_within ! Post refl (look ! 33 refl) $ forget ! 7 refl $ forget ! 9 refl $ forget ! 11 refl $ forget ! 13 refl $ forget ! 15 refl $ forget ! 17 refl $ forget ! 19 refl $ forget ! 21 refl $ forget ! 23 refl $ forget ! 25 refl $ forget ! 27 refl $ forget ! 29 refl $ forget ! 31 refl $ forget ! 33 refl $
         free_all ! 7 refl $
-        by ! (exits' r-5 work-5 target-5 r-5-fits (F.out-6 numbers deques frames memory pool work target room-numbers.0 room-deques.0 room-frames.0 room-memory.0 room-pool.0 room-work.0 room-target.0 r-1 r-1-is (is_true r-1 (not-not r-1 test-2)) r-5 work-5 target-5 r-5-fits r-5-is same-work-5 same-target-5) (same-work-5) (same-target-5)))))))))))))))))))
+        by ! (exits' r-5 work-5 target-5 r-5-fits (F.out-6 numbers deques frames memory pool work target room-numbers.0 room-deques.0 room-frames.0 room-memory.0 room-pool.0 room-work.0 room-target.0 r-1 r-1-is (is_true r-1 (not_not r-1 test-2)) r-5 work-5 target-5 r-5-fits r-5-is same-work-5 same-target-5) (same-work-5) (same-target-5)))))))))))))))))))
 
 module _ {M : Type 1} {𝓤 : Ura M} (𝓛 : Logic 𝓤) (mem : Memory → SProp 𝓤) (run : Routine → Fun 𝓤) (𝓣 : Tables 𝓤 𝓛.H) where
   open 𝓛 use {H}

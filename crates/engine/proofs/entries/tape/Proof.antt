@@ -39,9 +39,9 @@ use denote.Triple.Statement.{Triple}
 use denote.Triple.Table.{entered, cited}
 use denote.Triple.Walked.{says, needs, Stays, stay_slice, stay_none, stay_none_slice, walk_of, Walks, ends_at, walked, Goes-slice, Goes-none, Goes-none_slice, walk_Meets}
 use borrow.Author.Rules.{scaled_Fits}
-use Rattle.frames.proofs.Lent.{at-list, Mine, Yours, ty_at, exit-unless, exit-if, leave-if, fork, skipped, regroup, matched, matched-last, const, is_true, is_false, not-not, differ, widen, less-fits, after, turn-of, take_out, put_in, put_back, look-out, look-back, free_all}
+use Rattle.frames.proofs.Lent.{at_list, Mine, Yours, ty_at, exit_unless, exit_if, leave_if, fork, skipped, regroup, matched, matched_last, const, is_true, is_false, not_not, differ, widen, less_fits, after, turn_of_lem, take_out, put_in, put_back, look_out, look_back, free_all}
 use Rattle.semantics.specs.Promises.{parts, IsTapeWith}
-use Rattle.semantics.specs.Remembering.{tapeRemembering}
+use Rattle.semantics.specs.Remembering.{tape_remembering}
 use Rattle.soundness.specs.Layout.{two_words}
 use Rattle.engine.proofs.Called.fit as S-fit
 use Rattle.engine.proofs.entries.fit.Symbol as D-fit
@@ -115,7 +115,7 @@ module _ {M : Type 1} {𝓤 : Ura M} (𝓛 : Logic 𝓤) (mem : Memory → SProp
   n-answers = length answers
 
   abbrev args' : Bor (List ℕ) × (Bor (List ℕ) × (Bor (List Frame) × (Bor (List ℕ) × (Bor (List ℕ) × (Bor (List ℕ) × (Bor (List ℕ) × (Bor (List ℕ) × Unit {0})))))))
-  args' = (at-list b-numbers o-numbers γ-numbers numbers, (at-list b-deques o-deques γ-deques deques, (at-list b-frames o-frames γ-frames frames, (at-list b-memory o-memory γ-memory memory, (at-list b-pool o-pool γ-pool pool, (at-list b-work o-work γ-work work, (at-list b-bytes o-bytes γ-bytes bytes, (at-list b-answers o-answers γ-answers answers, tt))))))))
+  args' = (at_list b-numbers o-numbers γ-numbers numbers, (at_list b-deques o-deques γ-deques deques, (at_list b-frames o-frames γ-frames frames, (at_list b-memory o-memory γ-memory memory, (at_list b-pool o-pool γ-pool pool, (at_list b-work o-work γ-work work, (at_list b-bytes o-bytes γ-bytes bytes, (at_list b-answers o-answers γ-answers answers, tt))))))))
 
   abbrev vals' : Vals f'.signature (κ-numbers, (κ-deques, (κ-frames, (κ-memory, (κ-pool, (κ-work, (κ-bytes, (κ-answers, tt))))))))
   vals' = (slice_val (b-numbers, o-numbers) (length numbers) ∷ [], (slice_val (b-deques, o-deques) (length deques) ∷ [], (slice_val (b-frames, o-frames) (length frames) ∷ [], (slice_val (b-memory, o-memory) (length memory) ∷ [], (slice_val (b-pool, o-pool) (length pool) ∷ [], (slice_val (b-work, o-work) (length work) ∷ [], (slice_val (b-bytes, o-bytes) (length bytes) ∷ [], (slice_val (b-answers, o-answers) (length answers) ∷ [], tt))))))))
@@ -126,10 +126,10 @@ module _ {M : Type 1} {𝓤 : Ura M} (𝓛 : Logic 𝓤) (mem : Memory → SProp
   abbrev Post : Val → SProp 𝓤
   Post = (walk_of 𝓛 f'.ended stayed (f'.clauses 𝓛 mem run)).post bound'
 
-  exits' : (res' : Taped) (zs-numbers : List ℕ) (zs-deques : List ℕ) (zs-frames : List Frame) (zs-memory : List ℕ) (zs-pool : List ℕ) (zs-work : List ℕ) (zs-answers : List ℕ) → Is R-Taped res' (val-Taped res' ∷ []) → IsTapeWith (tapeRemembering two_words (parts numbers deques frames) memory pool work bytes answers) zs-numbers zs-deques zs-frames zs-memory zs-pool zs-work zs-answers res'.result res'.visits → length zs-numbers ≡ length numbers → length zs-deques ≡ length deques → length zs-frames ≡ length frames → length zs-memory ≡ length memory → length zs-pool ≡ length pool → length zs-work ≡ length work → length zs-answers ≡ length answers → ent 𝓤 (⋆ 𝓛 (‵ (Mine u32 κ-numbers q-numbers γ-numbers b-numbers o-numbers n-numbers zs-numbers) ∷ ‵ (Mine u32 κ-deques q-deques γ-deques b-deques o-deques n-deques zs-deques) ∷ ‵ (Mine R-Frame κ-frames q-frames γ-frames b-frames o-frames n-frames zs-frames) ∷ ‵ (Mine u32 κ-memory q-memory γ-memory b-memory o-memory n-memory zs-memory) ∷ ‵ (Mine u32 κ-pool q-pool γ-pool b-pool o-pool n-pool zs-pool) ∷ ‵ (Mine u32 κ-work q-work γ-work b-work o-work n-work zs-work) ∷ ‵ (Yours u8 κ-bytes q-bytes γ-bytes b-bytes o-bytes n-bytes bytes) ∷ ‵ (Mine u32 κ-answers q-answers γ-answers b-answers o-answers n-answers zs-answers) ∷ [])) (Post (val-Taped res'))
-  exits' res' zs-numbers zs-deques zs-frames zs-memory zs-pool zs-work zs-answers good' e' same_numbers same-deques same-frames same_memory same-pool same-work same-answers =
+  exits' : (res' : Taped) (zs-numbers : List ℕ) (zs-deques : List ℕ) (zs-frames : List Frame) (zs-memory : List ℕ) (zs-pool : List ℕ) (zs-work : List ℕ) (zs-answers : List ℕ) → Is R-Taped res' (val-Taped res' ∷ []) → IsTapeWith (tape_remembering two_words (parts numbers deques frames) memory pool work bytes answers) zs-numbers zs-deques zs-frames zs-memory zs-pool zs-work zs-answers res'.result res'.visits → length zs-numbers ≡ length numbers → length zs-deques ≡ length deques → length zs-frames ≡ length frames → length zs-memory ≡ length memory → length zs-pool ≡ length pool → length zs-work ≡ length work → length zs-answers ≡ length answers → ent 𝓤 (⋆ 𝓛 (‵ (Mine u32 κ-numbers q-numbers γ-numbers b-numbers o-numbers n-numbers zs-numbers) ∷ ‵ (Mine u32 κ-deques q-deques γ-deques b-deques o-deques n-deques zs-deques) ∷ ‵ (Mine R-Frame κ-frames q-frames γ-frames b-frames o-frames n-frames zs-frames) ∷ ‵ (Mine u32 κ-memory q-memory γ-memory b-memory o-memory n-memory zs-memory) ∷ ‵ (Mine u32 κ-pool q-pool γ-pool b-pool o-pool n-pool zs-pool) ∷ ‵ (Mine u32 κ-work q-work γ-work b-work o-work n-work zs-work) ∷ ‵ (Yours u8 κ-bytes q-bytes γ-bytes b-bytes o-bytes n-bytes bytes) ∷ ‵ (Mine u32 κ-answers q-answers γ-answers b-answers o-answers n-answers zs-answers) ∷ [])) (Post (val-Taped res'))
+  exits' res' zs-numbers zs-deques zs-frames zs-memory zs-pool zs-work zs-answers good' e' same_numbers same-deques same-frames same_memory same-pool same_work same-answers =
       qed 𝓛 (‵ (Mine u32 κ-numbers q-numbers γ-numbers b-numbers o-numbers n-numbers zs-numbers) ∷ ‵ (Mine u32 κ-deques q-deques γ-deques b-deques o-deques n-deques zs-deques) ∷ ‵ (Mine R-Frame κ-frames q-frames γ-frames b-frames o-frames n-frames zs-frames) ∷ ‵ (Mine u32 κ-memory q-memory γ-memory b-memory o-memory n-memory zs-memory) ∷ ‵ (Mine u32 κ-pool q-pool γ-pool b-pool o-pool n-pool zs-pool) ∷ ‵ (Mine u32 κ-work q-work γ-work b-work o-work n-work zs-work) ∷ ‵ (Yours u8 κ-bytes q-bytes γ-bytes b-bytes o-bytes n-bytes bytes) ∷ ‵ (Mine u32 κ-answers q-answers γ-answers b-answers o-answers n-answers zs-answers) ∷ []) ∵
-      suffices ! _ (ends_at 𝓛 f'.ended stayed (f'.clauses 𝓛 mem run) bound' (val-Taped res') res' (zs-numbers, (zs-deques, (zs-frames, (zs-memory, (zs-pool, (zs-work, (tt, (zs-answers, tt)))))))) (same_numbers, (same-deques, (same-frames, (same_memory, (same-pool, (same-work, (tt, (same-answers, tt))))))))) $ says ! e' $
+      suffices ! _ (ends_at 𝓛 f'.ended stayed (f'.clauses 𝓛 mem run) bound' (val-Taped res') res' (zs-numbers, (zs-deques, (zs-frames, (zs-memory, (zs-pool, (zs-work, (tt, (zs-answers, tt)))))))) (same_numbers, (same-deques, (same-frames, (same_memory, (same-pool, (same_work, (tt, (same-answers, tt))))))))) $ says ! e' $
       fsplit ! $ move ! (2 ∷ []) $ fsplit ! $ move ! (4 ∷ []) $ fsplit ! $ move ! (6 ∷ []) $ fsplit ! $ move ! (8 ∷ []) $ fsplit ! $ move ! (10 ∷ []) $ fsplit ! $ move ! (12 ∷ []) $ fsplit ! $ move ! (14 ∷ []) $ fsplit ! $ nothing ! $ move ! (16 ∷ 14 ∷ 12 ∷ 10 ∷ 8 ∷ 6 ∷ 4 ∷ 2 ∷ 0 ∷ []) $ group ! 9 $ frame ! $
       nothing ! $ move ! (1 ∷ 0 ∷ []) $ fjoin ! $ move ! (1 ∷ 0 ∷ []) $ fjoin ! $ move ! (1 ∷ 0 ∷ []) $ fjoin ! $ move ! (1 ∷ 0 ∷ []) $ fjoin ! $ move ! (1 ∷ 0 ∷ []) $ fjoin ! $ move ! (1 ∷ 0 ∷ []) $ fjoin ! $ move ! (1 ∷ 0 ∷ []) $ fjoin ! $ move ! (1 ∷ 0 ∷ []) $ fjoin ! $ frame ! $
       owned ! R-Taped (Is R-Taped) (LL.makes M-Taped.the_type L-Taped.the_plain 𝓛) res' _ good' $ done !
@@ -157,7 +157,7 @@ module _ {M : Type 1} {𝓤 : Ura M} (𝓛 : Logic 𝓤) (mem : Memory → SProp
         (λ ν-0 δ-0 ν-1 δ-1 ν-2 δ-2. and_then ! (load ! (from ! (stop !)) (look ! 49 refl)) (and_then ! (load ! (from ! (stop !)) (look ! 45 refl)) (and_then ! (load ! (from ! (stop !)) (look ! 41 refl)) (no_more !)))) (λ r-1 r-1-is.
         land ! (from ! (stop !)) (init ! 52 refl (tt, tt)) $
         assigns ! (un ! (load ! (from ! (stop !)) (look ! 52 refl)) tt) (from ! (stop !)) (init ! 38 refl (tt, tt)) $
-        leave-if ! (load ! (from ! (stop !)) (look ! 38 refl))
+        leave_if ! (load ! (from ! (stop !)) (look ! 38 refl))
         (λ test-2.
         -- _17 = engine::entries::unfit()
         S-unfit.step mem run ! fm known-unfit
@@ -188,12 +188,12 @@ module _ {M : Type 1} {𝓤 : Ura M} (𝓛 : Logic 𝓤) (mem : Memory → SProp
         assigns ! (agg ! (and_then ! (load ! (from ! (stop !)) (look ! 10 refl)) (and_then ! (load ! (from ! (fld ! refl (stop !))) (look_in ! 54 (sub ! 1 refl (whole !)))) (no_more !)))) (from ! (stop !)) (init ! 8 refl (tt, (tt, (record { fits = room-answers.0 }, tt)))) $
         -- _0 = engine::tapes::tape_on(_19, _21, _23, _25, _27, _29, _7, _31)
         move ! (0 ∷ 1 ∷ 3 ∷ 2 ∷ 4 ∷ 5 ∷ 6 ∷ 7 ∷ []) $
-        S-tape-on.step-g mem run ! fm known-tape-on b-numbers o-numbers n-numbers numbers b-deques o-deques n-deques deques b-frames o-frames n-frames frames b-memory o-memory n-memory memory b-pool o-pool n-pool pool b-work o-work n-work work b-bytes o-bytes n-bytes bytes b-answers o-answers n-answers answers (F.needs-6 numbers deques frames memory pool work bytes answers room-numbers.0 room-deques.0 room-frames.0 room-memory.0 room-pool.0 room-work.0 room-bytes.0 room-answers.0 r-1 r-1-is (is_true r-1 (not-not r-1 test-2))) (refl) room-numbers (refl) room-deques (refl) room-frames (refl) room-memory (refl) room-pool (refl) room-work (refl) room-answers
+        S-tape-on.step-g mem run ! fm known-tape-on b-numbers o-numbers n-numbers numbers b-deques o-deques n-deques deques b-frames o-frames n-frames frames b-memory o-memory n-memory memory b-pool o-pool n-pool pool b-work o-work n-work work b-bytes o-bytes n-bytes bytes b-answers o-answers n-answers answers (F.needs-6 numbers deques frames memory pool work bytes answers room-numbers.0 room-deques.0 room-frames.0 room-memory.0 room-pool.0 room-work.0 room-bytes.0 room-answers.0 r-1 r-1-is (is_true r-1 (not_not r-1 test-2))) (refl) room-numbers (refl) room-deques (refl) room-frames (refl) room-memory (refl) room-pool (refl) room-work (refl) room-answers
         (λ ν-0 δ-0 ν-1 δ-1 ν-2 δ-2 ν-3 δ-3 ν-4 δ-4 ν-5 δ-5 ν-6 δ-6. and_then ! (load ! (from ! (stop !)) (look ! 33 refl)) (and_then ! (load ! (from ! (stop !)) (look ! 29 refl)) (and_then ! (load ! (from ! (stop !)) (look ! 25 refl)) (and_then ! (load ! (from ! (stop !)) (look ! 21 refl)) (and_then ! (load ! (from ! (stop !)) (look ! 17 refl)) (and_then ! (load ! (from ! (stop !)) (look ! 13 refl)) (and_then ! (load ! (from ! (stop !)) (look ! 57 refl)) (and_then ! (load ! (from ! (stop !)) (look ! 9 refl)) (no_more !))))))))) (λ r-6 numbers-6 deques-6 frames-6 memory-6 pool-6 work-6 answers-6 r-6-good r-6-is same-numbers-6 same-deques-6 same-frames-6 same-memory-6 same-pool-6 same-work-6 same-answers-6.
         land ! (from ! (stop !)) (init ! 70 refl ((LL.lawful M-Taped.the_type L-Taped.the_laws 𝓛).typed r-6 _ r-6-good).0) $
         returns_within ! Post refl (look ! 70 refl) $ forget ! 8 refl $ forget ! 10 refl $ forget ! 12 refl $ forget ! 14 refl $ forget ! 16 refl $ forget ! 18 refl $ forget ! 20 refl $ forget ! 22 refl $ forget ! 24 refl $ forget ! 26 refl $ forget ! 28 refl $ forget ! 30 refl $ forget ! 32 refl $ forget ! 34 refl $ forget ! 38 refl $ forget ! 40 refl $ forget ! 42 refl $ forget ! 44 refl $ forget ! 46 refl $ forget ! 48 refl $ forget ! 50 refl $ forget ! 52 refl $ forget ! 54 refl $ forget ! 56 refl $ forget ! 58 refl $ forget ! 60 refl $ forget ! 62 refl $ forget ! 64 refl $ forget ! 66 refl $ forget ! 68 refl $ forget ! 70 refl $
         free_all ! 8 refl $
-        by ! (exits' r-6 numbers-6 deques-6 frames-6 memory-6 pool-6 work-6 answers-6 r-6-good (F.out-7 numbers deques frames memory pool work bytes answers room-numbers.0 room-deques.0 room-frames.0 room-memory.0 room-pool.0 room-work.0 room-bytes.0 room-answers.0 r-1 r-1-is (is_true r-1 (not-not r-1 test-2)) r-6 numbers-6 deques-6 frames-6 memory-6 pool-6 work-6 answers-6 r-6-is same-numbers-6 same-deques-6 same-frames-6 same-memory-6 same-pool-6 same-work-6 same-answers-6) (same-numbers-6) (same-deques-6) (same-frames-6) (same-memory-6) (same-pool-6) (same-work-6) (same-answers-6)))))))))))))))))))))))))))))))))))))
+        by ! (exits' r-6 numbers-6 deques-6 frames-6 memory-6 pool-6 work-6 answers-6 r-6-good (F.out-7 numbers deques frames memory pool work bytes answers room-numbers.0 room-deques.0 room-frames.0 room-memory.0 room-pool.0 room-work.0 room-bytes.0 room-answers.0 r-1 r-1-is (is_true r-1 (not_not r-1 test-2)) r-6 numbers-6 deques-6 frames-6 memory-6 pool-6 work-6 answers-6 r-6-is same-numbers-6 same-deques-6 same-frames-6 same-memory-6 same-pool-6 same-work-6 same-answers-6) (same-numbers-6) (same-deques-6) (same-frames-6) (same-memory-6) (same-pool-6) (same-work-6) (same-answers-6)))))))))))))))))))))))))))))))))))))
 
 module _ {M : Type 1} {𝓤 : Ura M} (𝓛 : Logic 𝓤) (mem : Memory → SProp 𝓤) (run : Routine → Fun 𝓤) (𝓣 : Tables 𝓤 𝓛.H) where
   open 𝓛 use {H}

@@ -39,8 +39,8 @@ use denote.Triple.Statement.{Triple}
 use denote.Triple.Table.{entered, cited}
 use denote.Triple.Walked.{says, needs, Stays, stay_slice, stay_none, stay_none_slice, walk_of, Walks, ends_at, walked, Goes-slice, Goes-none, Goes-none_slice, walk_Meets}
 use borrow.Author.Rules.{scaled_Fits}
-use Rattle.frames.proofs.Lent.{at-list, Mine, Yours, ty_at, exit-unless, exit-if, leave-if, fork, skipped, regroup, matched, matched-last, const, is_true, is_false, not-not, differ, widen, less-fits, after, turn-of, take_out, put_in, put_back, look-out, look-back, free_all}
-use Rattle.soundness.specs.Numbers.{numbersIn}
+use Rattle.frames.proofs.Lent.{at_list, Mine, Yours, ty_at, exit_unless, exit_if, leave_if, fork, skipped, regroup, matched, matched_last, const, is_true, is_false, not_not, differ, widen, less_fits, after, turn_of_lem, take_out, put_in, put_back, look_out, look_back, free_all}
+use Rattle.soundness.specs.Numbers.{numbers_in}
 use Rattle.semantics.specs.Promises.{parts, Fits}
 use Rattle.engine.specs.Promises.{IsRechecked}
 use Rattle.engine.proofs.Called.numbers_in as S-numbers-in
@@ -128,7 +128,7 @@ module _ {M : Type 1} {𝓤 : Ura M} (𝓛 : Logic 𝓤) (mem : Memory → SProp
   n-work = length work
 
   abbrev args' : Bor (List ℕ) × (Bor (List ℕ) × (Bor (List Frame) × (Bor (List ℕ) × (Bor (List ℕ) × Unit {0}))))
-  args' = (at-list b-numbers o-numbers γ-numbers numbers, (at-list b-deques o-deques γ-deques deques, (at-list b-frames o-frames γ-frames frames, (at-list b-pool o-pool γ-pool pool, (at-list b-work o-work γ-work work, tt)))))
+  args' = (at_list b-numbers o-numbers γ-numbers numbers, (at_list b-deques o-deques γ-deques deques, (at_list b-frames o-frames γ-frames frames, (at_list b-pool o-pool γ-pool pool, (at_list b-work o-work γ-work work, tt)))))
 
   abbrev vals' : Vals f'.signature (κ-numbers, (κ-deques, (κ-frames, (κ-pool, (κ-work, tt)))))
   vals' = (slice_val (b-numbers, o-numbers) (length numbers) ∷ [], (slice_val (b-deques, o-deques) (length deques) ∷ [], (slice_val (b-frames, o-frames) (length frames) ∷ [], (slice_val (b-pool, o-pool) (length pool) ∷ [], (slice_val (b-work, o-work) (length work) ∷ [], tt)))))
@@ -140,9 +140,9 @@ module _ {M : Type 1} {𝓤 : Ura M} (𝓛 : Logic 𝓤) (mem : Memory → SProp
   Post = (walk_of 𝓛 f'.ended stayed (f'.clauses 𝓛 mem run)).post bound'
 
   exits' : (res' : ℕ) (zs-frames : List Frame) (zs-pool : List ℕ) (zs-work : List ℕ) → res' < 2 ^ 32 → IsRechecked (parts numbers deques frames) pool work zs-frames zs-pool zs-work res' → length zs-frames ≡ length frames → length zs-pool ≡ length pool → length zs-work ≡ length work → ent 𝓤 (⋆ 𝓛 (‵ (Yours u32 κ-numbers q-numbers γ-numbers b-numbers o-numbers n-numbers numbers) ∷ ‵ (Yours u32 κ-deques q-deques γ-deques b-deques o-deques n-deques deques) ∷ ‵ (Mine R-Frame κ-frames q-frames γ-frames b-frames o-frames n-frames zs-frames) ∷ ‵ (Mine u32 κ-pool q-pool γ-pool b-pool o-pool n-pool zs-pool) ∷ ‵ (Mine u32 κ-work q-work γ-work b-work o-work n-work zs-work) ∷ [])) (Post (vint w32 res'))
-  exits' res' zs-frames zs-pool zs-work good' e' same-frames same-pool same-work =
+  exits' res' zs-frames zs-pool zs-work good' e' same-frames same-pool same_work =
       qed 𝓛 (‵ (Yours u32 κ-numbers q-numbers γ-numbers b-numbers o-numbers n-numbers numbers) ∷ ‵ (Yours u32 κ-deques q-deques γ-deques b-deques o-deques n-deques deques) ∷ ‵ (Mine R-Frame κ-frames q-frames γ-frames b-frames o-frames n-frames zs-frames) ∷ ‵ (Mine u32 κ-pool q-pool γ-pool b-pool o-pool n-pool zs-pool) ∷ ‵ (Mine u32 κ-work q-work γ-work b-work o-work n-work zs-work) ∷ []) ∵
-      suffices ! _ (ends_at 𝓛 f'.ended stayed (f'.clauses 𝓛 mem run) bound' (vint w32 res') res' (tt, (tt, (zs-frames, (zs-pool, (zs-work, tt))))) (tt, (tt, (same-frames, (same-pool, (same-work, tt)))))) $ says ! e' $
+      suffices ! _ (ends_at 𝓛 f'.ended stayed (f'.clauses 𝓛 mem run) bound' (vint w32 res') res' (tt, (tt, (zs-frames, (zs-pool, (zs-work, tt))))) (tt, (tt, (same-frames, (same-pool, (same_work, tt)))))) $ says ! e' $
       fsplit ! $ move ! (2 ∷ []) $ fsplit ! $ move ! (4 ∷ []) $ fsplit ! $ move ! (6 ∷ []) $ fsplit ! $ move ! (8 ∷ []) $ fsplit ! $ nothing ! $ move ! (10 ∷ 8 ∷ 6 ∷ 4 ∷ 2 ∷ 0 ∷ []) $ group ! 6 $ frame ! $
       nothing ! $ move ! (1 ∷ 0 ∷ []) $ fjoin ! $ move ! (1 ∷ 0 ∷ []) $ fjoin ! $ move ! (1 ∷ 0 ∷ []) $ fjoin ! $ move ! (1 ∷ 0 ∷ []) $ fjoin ! $ move ! (1 ∷ 0 ∷ []) $ fjoin ! $ frame ! $
       owned ! u32 (Is u32) (uint_Makes 𝓛 w32) res' _ (refl, good') $ done !
@@ -151,7 +151,7 @@ module _ {M : Type 1} {𝓤 : Ura M} (𝓛 : Logic 𝓤) (mem : Memory → SProp
     abbrev fm : FmC 𝓤 H 𝓛.laws 𝓣.C
     fm = fm_of 𝓤 H 𝓛.laws 𝓣
 
-    walk : Fits (parts numbers deques frames) × ((numbersIn numbers).nodes ≤ length work) → ent 𝓤 (on_entry 𝓛 f'.signature (κ-numbers, (κ-deques, (κ-frames, (κ-pool, (κ-work, tt))))) (q-numbers, (q-deques, (q-frames, (q-pool, (q-work, tt))))) args' vals') (WpFn 𝓤 H 𝓣.C 𝓣.Λ code.function (slice_val (b-numbers, o-numbers) (length numbers) ∷ slice_val (b-deques, o-deques) (length deques) ∷ slice_val (b-frames, o-frames) (length frames) ∷ slice_val (b-pool, o-pool) (length pool) ∷ slice_val (b-work, o-work) (length work) ∷ []) Post)
+    walk : Fits (parts numbers deques frames) × ((numbers_in numbers).nodes ≤ length work) → ent 𝓤 (on_entry 𝓛 f'.signature (κ-numbers, (κ-deques, (κ-frames, (κ-pool, (κ-work, tt))))) (q-numbers, (q-deques, (q-frames, (q-pool, (q-work, tt))))) args' vals') (WpFn 𝓤 H 𝓣.C 𝓣.Λ code.function (slice_val (b-numbers, o-numbers) (length numbers) ∷ slice_val (b-deques, o-deques) (length deques) ∷ slice_val (b-frames, o-frames) (length frames) ∷ slice_val (b-pool, o-pool) (length pool) ∷ slice_val (b-work, o-work) (length work) ∷ []) Post)
     walk ok' =
         qed 𝓛 ((‵ (flft κ-numbers q-numbers) ⊛ ‵ (flft κ-deques q-deques) ⊛ ‵ (flft κ-frames q-frames) ⊛ ‵ (flft κ-pool q-pool) ⊛ ‵ (flft κ-work q-work) ⊛ ‵ ftrue) ∷ ‵ (owns (ShrSlice (named 0) κ-numbers u32 ∷ ShrSlice (named 1) κ-deques u32 ∷ MutSlice (named 2) κ-frames R-Frame ∷ MutSlice (named 3) κ-pool u32 ∷ MutSlice (named 4) κ-work u32 ∷ []) args' vals') ∷ []) ∵ enter ! 𝓣.C 𝓣.Λ code.function (slice_val (b-numbers, o-numbers) (length numbers) ∷ slice_val (b-deques, o-deques) (length deques) ∷ slice_val (b-frames, o-frames) (length frames) ∷ slice_val (b-pool, o-pool) (length pool) ∷ slice_val (b-work, o-work) (length work) ∷ []) _ $
         alloc1 ! (λ l₀. alloc1 ! (λ l₁. alloc1 ! (λ l₂. alloc1 ! (λ l₃. alloc1 ! (λ l₄. alloc1 ! (λ l₅. alloc1 ! (λ l₆. alloc1 ! (λ l₇. alloc1 ! (λ l₈. alloc1 ! (λ l₉. alloc1 ! (λ l₁₀. alloc1 ! (λ l₁₁. alloc1 ! (λ l₁₂. alloc1 ! (λ l₁₃. alloc1 ! (λ l₁₄. alloc1 ! (λ l₁₅. alloc1 ! (λ l₁₆. alloc1 ! (λ l₁₇. alloc1 ! (λ l₁₈. alloc1 ! (λ l₁₉. alloc1 ! (λ l₂₀. alloc1 ! (λ l₂₁. alloc1 ! (λ l₂₂. alloc1 ! (λ l₂₃. alloc1 ! (λ l₂₄. alloc0 ! $ params1 ! $
@@ -187,7 +187,7 @@ module _ {M : Type 1} {𝓤 : Ura M} (𝓛 : Logic 𝓤) (mem : Memory → SProp
         (and_then ! (load ! (from ! (stop !)) (look ! 28 refl)) (no_more !)) (λ r-4 r-4-fits r-4-is.
         land ! (from ! (stop !)) (init ! 29 refl (tt, record { fits = r-4-fits })) $
         assigns ! (bin ! (load ! (from ! (stop !)) (look ! 29 refl)) (const ! _ tt) tt) (from ! (stop !)) (init ! 13 refl (tt, tt)) $
-        leave-if ! (load ! (from ! (stop !)) (look ! 13 refl))
+        leave_if ! (load ! (from ! (stop !)) (look ! 13 refl))
         (λ test-5.
         assigns ! (addr ! (from ! (fld ! refl (hop ! (look_in ! 47 (sub ! 0 refl (whole !))) (stop !))))) (from ! (stop !)) (init ! 11 refl (tt, tt)) $
         assigns ! (agg ! (and_then ! (load ! (from ! (stop !)) (look ! 11 refl)) (and_then ! (load ! (from ! (fld ! refl (stop !))) (look_in ! 47 (sub ! 1 refl (whole !)))) (no_more !)))) (from ! (stop !)) (init ! 9 refl (tt, (tt, (record { fits = room-frames.0 }, tt)))) $
@@ -206,7 +206,7 @@ module _ {M : Type 1} {𝓤 : Ura M} (𝓛 : Logic 𝓤) (mem : Memory → SProp
         assigns ! (of_opd ! (const ! _ tt)) (from ! (stop !)) (init ! 53 refl (tt, record { fits = (lit< tt) })) $
         returns_within ! Post refl (look ! 53 refl) $ forget ! 13 refl $ forget ! 15 refl $ forget ! 17 refl $ forget ! 19 refl $ forget ! 21 refl $ forget ! 23 refl $ forget ! 25 refl $ forget ! 27 refl $ forget ! 29 refl $ forget ! 31 refl $ forget ! 33 refl $ forget ! 35 refl $ forget ! 37 refl $ forget ! 39 refl $ forget ! 41 refl $ forget ! 43 refl $ forget ! 45 refl $ forget ! 47 refl $ forget ! 49 refl $ forget ! 51 refl $ forget ! 53 refl $
         free_all ! 5 refl $
-        by ! (exits' 0 frames pool work-3 (lit< tt) (F.out-8 numbers deques frames pool work room-numbers.0 room-deques.0 room-frames.0 room-pool.0 room-work.0 ok' r-1 r-1-is tables' tables'-is r-3 work-3 r-3-is same-work-3 r-4 r-4-fits r-4-is (eqb→eq r-4 0 (not-not (eqb r-4 0) test-5))) (refl) (refl) (same-work-3))))))))))))))))))))))))))))))))
+        by ! (exits' 0 frames pool work-3 (lit< tt) (F.out-8 numbers deques frames pool work room-numbers.0 room-deques.0 room-frames.0 room-pool.0 room-work.0 ok' r-1 r-1-is tables' tables'-is r-3 work-3 r-3-is same-work-3 r-4 r-4-fits r-4-is (eqb→eq r-4 0 (not_not (eqb r-4 0) test-5))) (refl) (refl) (same-work-3))))))))))))))))))))))))))))))))
 
 module _ {M : Type 1} {𝓤 : Ura M} (𝓛 : Logic 𝓤) (mem : Memory → SProp 𝓤) (run : Routine → Fun 𝓤) (𝓣 : Tables 𝓤 𝓛.H) where
   open 𝓛 use {H}
@@ -215,7 +215,7 @@ module _ {M : Type 1} {𝓤 : Ura M} (𝓛 : Logic 𝓤) (mem : Memory → SProp
   walks known-numbers-in known-check-tables known-check-rest known-check-number known-refuse-read = walked 𝓛 f'.ended stayed (f'.clauses 𝓛 mem run) (WpFn 𝓤 H 𝓣.C 𝓣.Λ code.function)
       (λ κs. (shr_slice_vals, (shr_slice_vals, (shr_slice_vals, (shr_slice_vals, (shr_slice_vals, tt))))))
       (λ κs. (shr_slice_Tells (named 0) κs.0 u32, (shr_slice_Tells (named 1) κs.1.0 u32, (mut_slice_Tells (named 2) κs.1.1.0 R-Frame, (mut_slice_Tells (named 3) κs.1.1.1.0 u32, (mut_slice_Tells (named 4) κs.1.1.1.1.0 u32, tt))))))
-      (λ κs qs bounds a g are. needs 𝓤 (Fits (parts a.0.now a.1.0.now a.1.1.0.now) × ((numbersIn a.0.now).nodes ≤ length a.1.1.1.1.0.now)) _
+      (λ κs qs bounds a g are. needs 𝓤 (Fits (parts a.0.now a.1.0.now a.1.1.0.now) × ((numbers_in a.0.now).nodes ≤ length a.1.1.1.1.0.now)) _
       (walk 𝓛 mem run κs.0 qs.0 a.0.ref_ptr.0 a.0.ref_ptr.1 a.0.ghost_name a.0.now κs.1.0 qs.1.0 a.1.0.ref_ptr.0 a.1.0.ref_ptr.1 a.1.0.ghost_name a.1.0.now κs.1.1.0 qs.1.1.0 a.1.1.0.ref_ptr.0 a.1.1.0.ref_ptr.1 a.1.1.0.ghost_name a.1.1.0.now κs.1.1.1.0 qs.1.1.1.0 a.1.1.1.0.ref_ptr.0 a.1.1.1.0.ref_ptr.1 a.1.1.1.0.ghost_name a.1.1.1.0.now κs.1.1.1.1.0 qs.1.1.1.1.0 a.1.1.1.1.0.ref_ptr.0 a.1.1.1.1.0.ref_ptr.1 a.1.1.1.1.0.ghost_name a.1.1.1.1.0.now are.0.0.1 are.1.0.0.1 are.1.1.0.0.1 are.1.1.1.0.0.1 are.1.1.1.1.0.0.1 𝓣 known-numbers-in known-check-tables known-check-rest known-check-number known-refuse-read))
 
   meets : Triple 𝓤 (𝓣.C #numbers-in) (S-numbers-in.Asked 𝓛 mem run) → Triple 𝓤 (𝓣.C #check-tables) (S-check-tables.Asked 𝓛 mem run) → Triple 𝓤 (𝓣.C #check-rest) (S-check-rest.Asked 𝓛 mem run) → Triple 𝓤 (𝓣.C #check-number) (S-check-number.Asked 𝓛 mem run) → Triple 𝓤 (𝓣.C #refuse-read) (S-refuse-read.Asked 𝓛 mem run) → Meets 𝓛 f'.signature (WpFn 𝓤 H 𝓣.C 𝓣.Λ code.function) (f'.spec 𝓛 mem run)
@@ -229,7 +229,7 @@ check-read-spec 𝓤 𝓛 𝓜 𝓡 =
     entered 𝓤 𝓛.H (triple_of 𝓛 f'.signature (f'.spec 𝓛 𝓜.mem 𝓡.run))
     (tables 𝓤 𝓛.H 𝓜 𝓡 code.env).C (tables 𝓤 𝓛.H 𝓜 𝓡 code.env).Λ #own code.function (code.unfolded 𝓤 𝓛.H 𝓜 𝓡)
     (meets 𝓛 𝓜.mem 𝓡.run (tables_of 𝓤 𝓛.H 𝓜 (tables 𝓤 𝓛.H 𝓜 𝓡 code.env))
-    (cited 𝓤 𝓛.H (S-numbers-in.Asked 𝓛 𝓜.mem 𝓡.run) 𝓜 𝓡 code.env #numbers-in D-numbers-in.routine code.calls-engine::numbers::numbers-in (T-numbers-in.met 𝓤 𝓛 𝓜 𝓡))
+    (cited 𝓤 𝓛.H (S-numbers-in.Asked 𝓛 𝓜.mem 𝓡.run) 𝓜 𝓡 code.env #numbers-in D-numbers-in.routine code.calls-engine::numbers::numbers_in_lem (T-numbers-in.met 𝓤 𝓛 𝓜 𝓡))
     (cited 𝓤 𝓛.H (S-check-tables.Asked 𝓛 𝓜.mem 𝓡.run) 𝓜 𝓡 code.env #check-tables D-check-tables.routine code.calls-engine::checking::check-tables (T-check-tables.met 𝓤 𝓛 𝓜 𝓡))
     (cited 𝓤 𝓛.H (S-check-rest.Asked 𝓛 𝓜.mem 𝓡.run) 𝓜 𝓡 code.env #check-rest D-check-rest.routine code.calls-engine::checking::check-rest (T-check-rest.met 𝓤 𝓛 𝓜 𝓡))
     (cited 𝓤 𝓛.H (S-check-number.Asked 𝓛 𝓜.mem 𝓡.run) 𝓜 𝓡 code.env #check-number D-check-number.routine code.calls-engine::tapes::check-number (T-check-number.met 𝓤 𝓛 𝓜 𝓡))

@@ -39,11 +39,11 @@ use denote.Triple.Statement.{Triple}
 use denote.Triple.Table.{entered, cited}
 use denote.Triple.Walked.{says, needs, Stays, stay_slice, stay_none, stay_none_slice, walk_of, Walks, ends_at, walked, Goes-slice, Goes-none, Goes-none_slice, walk_Meets}
 use borrow.Author.Rules.{scaled_Fits}
-use Rattle.frames.proofs.Lent.{at-list, Mine, Yours, ty_at, exit-unless, exit-if, leave-if, fork, skipped, regroup, matched, matched-last, const, is_true, is_false, not-not, differ, widen, less-fits, after, turn-of, take_out, put_in, put_back, look-out, look-back, free_all}
+use Rattle.frames.proofs.Lent.{at_list, Mine, Yours, ty_at, exit_unless, exit_if, leave_if, fork, skipped, regroup, matched, matched_last, const, is_true, is_false, not_not, differ, widen, less_fits, after, turn_of_lem, take_out, put_in, put_back, look_out, look_back, free_all}
 use Rattle.soundness.specs.Soundness.{cleared}
 use Rattle.image.specs.declared.ImageCheck.TheVariants.{Good}
-use Rattle.image.specs.Image.{imageCheck, nodesIn}
-use Rattle.semantics.specs.Images.{loadRead}
+use Rattle.image.specs.Image.{image_check, nodes_in}
+use Rattle.semantics.specs.Images.{load_read}
 use Rattle.semantics.specs.Promises.{parts, Fits}
 use Rattle.engine.specs.Promises.{IsLoading}
 use Rattle.soundness.specs.Layout.{two_words}
@@ -112,7 +112,7 @@ module _ {M : Type 1} {𝓤 : Ura M} (𝓛 : Logic 𝓤) (mem : Memory → SProp
   n-image = length image
 
   abbrev args' : Bor (List ℕ) × (Bor (List ℕ) × (Bor (List Frame) × (Bor (List ℕ) × (Bor (List ℕ) × (Bor (List ℕ) × Unit {0})))))
-  args' = (at-list b-numbers o-numbers γ-numbers numbers, (at-list b-deques o-deques γ-deques deques, (at-list b-frames o-frames γ-frames frames, (at-list b-pool o-pool γ-pool pool, (at-list b-work o-work γ-work work, (at-list b-image o-image γ-image image, tt))))))
+  args' = (at_list b-numbers o-numbers γ-numbers numbers, (at_list b-deques o-deques γ-deques deques, (at_list b-frames o-frames γ-frames frames, (at_list b-pool o-pool γ-pool pool, (at_list b-work o-work γ-work work, (at_list b-image o-image γ-image image, tt))))))
 
   abbrev vals' : Vals f'.signature (κ-numbers, (κ-deques, (κ-frames, (κ-pool, (κ-work, (κ-image, tt))))))
   vals' = (slice_val (b-numbers, o-numbers) (length numbers) ∷ [], (slice_val (b-deques, o-deques) (length deques) ∷ [], (slice_val (b-frames, o-frames) (length frames) ∷ [], (slice_val (b-pool, o-pool) (length pool) ∷ [], (slice_val (b-work, o-work) (length work) ∷ [], (slice_val (b-image, o-image) (length image) ∷ [], tt))))))
@@ -123,10 +123,10 @@ module _ {M : Type 1} {𝓤 : Ura M} (𝓛 : Logic 𝓤) (mem : Memory → SProp
   abbrev Post : Val → SProp 𝓤
   Post = (walk_of 𝓛 f'.ended stayed (f'.clauses 𝓛 mem run)).post bound'
 
-  exits' : (res' : ℕ) (zs-numbers : List ℕ) (zs-deques : List ℕ) (zs-frames : List Frame) (zs-pool : List ℕ) (zs-work : List ℕ) → res' < 2 ^ 32 → IsLoading (loadRead two_words frames pool (cleared (nodesIn image) work) image) zs-numbers zs-deques zs-frames zs-pool zs-work res' → length zs-numbers ≡ length numbers → length zs-deques ≡ length deques → length zs-frames ≡ length frames → length zs-pool ≡ length pool → length zs-work ≡ length work → ent 𝓤 (⋆ 𝓛 (‵ (Mine u32 κ-numbers q-numbers γ-numbers b-numbers o-numbers n-numbers zs-numbers) ∷ ‵ (Mine u32 κ-deques q-deques γ-deques b-deques o-deques n-deques zs-deques) ∷ ‵ (Mine R-Frame κ-frames q-frames γ-frames b-frames o-frames n-frames zs-frames) ∷ ‵ (Mine u32 κ-pool q-pool γ-pool b-pool o-pool n-pool zs-pool) ∷ ‵ (Mine u32 κ-work q-work γ-work b-work o-work n-work zs-work) ∷ ‵ (Yours u8 κ-image q-image γ-image b-image o-image n-image image) ∷ [])) (Post (vint w32 res'))
-  exits' res' zs-numbers zs-deques zs-frames zs-pool zs-work good' e' same_numbers same-deques same-frames same-pool same-work =
+  exits' : (res' : ℕ) (zs-numbers : List ℕ) (zs-deques : List ℕ) (zs-frames : List Frame) (zs-pool : List ℕ) (zs-work : List ℕ) → res' < 2 ^ 32 → IsLoading (load_read two_words frames pool (cleared (nodes_in image) work) image) zs-numbers zs-deques zs-frames zs-pool zs-work res' → length zs-numbers ≡ length numbers → length zs-deques ≡ length deques → length zs-frames ≡ length frames → length zs-pool ≡ length pool → length zs-work ≡ length work → ent 𝓤 (⋆ 𝓛 (‵ (Mine u32 κ-numbers q-numbers γ-numbers b-numbers o-numbers n-numbers zs-numbers) ∷ ‵ (Mine u32 κ-deques q-deques γ-deques b-deques o-deques n-deques zs-deques) ∷ ‵ (Mine R-Frame κ-frames q-frames γ-frames b-frames o-frames n-frames zs-frames) ∷ ‵ (Mine u32 κ-pool q-pool γ-pool b-pool o-pool n-pool zs-pool) ∷ ‵ (Mine u32 κ-work q-work γ-work b-work o-work n-work zs-work) ∷ ‵ (Yours u8 κ-image q-image γ-image b-image o-image n-image image) ∷ [])) (Post (vint w32 res'))
+  exits' res' zs-numbers zs-deques zs-frames zs-pool zs-work good' e' same_numbers same-deques same-frames same-pool same_work =
       qed 𝓛 (‵ (Mine u32 κ-numbers q-numbers γ-numbers b-numbers o-numbers n-numbers zs-numbers) ∷ ‵ (Mine u32 κ-deques q-deques γ-deques b-deques o-deques n-deques zs-deques) ∷ ‵ (Mine R-Frame κ-frames q-frames γ-frames b-frames o-frames n-frames zs-frames) ∷ ‵ (Mine u32 κ-pool q-pool γ-pool b-pool o-pool n-pool zs-pool) ∷ ‵ (Mine u32 κ-work q-work γ-work b-work o-work n-work zs-work) ∷ ‵ (Yours u8 κ-image q-image γ-image b-image o-image n-image image) ∷ []) ∵
-      suffices ! _ (ends_at 𝓛 f'.ended stayed (f'.clauses 𝓛 mem run) bound' (vint w32 res') res' (zs-numbers, (zs-deques, (zs-frames, (zs-pool, (zs-work, (tt, tt)))))) (same_numbers, (same-deques, (same-frames, (same-pool, (same-work, (tt, tt))))))) $ says ! e' $
+      suffices ! _ (ends_at 𝓛 f'.ended stayed (f'.clauses 𝓛 mem run) bound' (vint w32 res') res' (zs-numbers, (zs-deques, (zs-frames, (zs-pool, (zs-work, (tt, tt)))))) (same_numbers, (same-deques, (same-frames, (same-pool, (same_work, (tt, tt))))))) $ says ! e' $
       fsplit ! $ move ! (2 ∷ []) $ fsplit ! $ move ! (4 ∷ []) $ fsplit ! $ move ! (6 ∷ []) $ fsplit ! $ move ! (8 ∷ []) $ fsplit ! $ move ! (10 ∷ []) $ fsplit ! $ nothing ! $ move ! (12 ∷ 10 ∷ 8 ∷ 6 ∷ 4 ∷ 2 ∷ 0 ∷ []) $ group ! 7 $ frame ! $
       nothing ! $ move ! (1 ∷ 0 ∷ []) $ fjoin ! $ move ! (1 ∷ 0 ∷ []) $ fjoin ! $ move ! (1 ∷ 0 ∷ []) $ fjoin ! $ move ! (1 ∷ 0 ∷ []) $ fjoin ! $ move ! (1 ∷ 0 ∷ []) $ fjoin ! $ move ! (1 ∷ 0 ∷ []) $ fjoin ! $ frame ! $
       owned ! u32 (Is u32) (uint_Makes 𝓛 w32) res' _ (refl, good') $ done !
@@ -135,7 +135,7 @@ module _ {M : Type 1} {𝓤 : Ura M} (𝓛 : Logic 𝓤) (mem : Memory → SProp
     abbrev fm : FmC 𝓤 H 𝓛.laws 𝓣.C
     fm = fm_of 𝓤 H 𝓛.laws 𝓣
 
-    walk : Fits (parts numbers deques frames) × (imageCheck two_words image ≡ Good) × (nodesIn image ≤ length work) → ent 𝓤 (on_entry 𝓛 f'.signature (κ-numbers, (κ-deques, (κ-frames, (κ-pool, (κ-work, (κ-image, tt)))))) (q-numbers, (q-deques, (q-frames, (q-pool, (q-work, (q-image, tt)))))) args' vals') (WpFn 𝓤 H 𝓣.C 𝓣.Λ code.function (slice_val (b-numbers, o-numbers) (length numbers) ∷ slice_val (b-deques, o-deques) (length deques) ∷ slice_val (b-frames, o-frames) (length frames) ∷ slice_val (b-pool, o-pool) (length pool) ∷ slice_val (b-work, o-work) (length work) ∷ slice_val (b-image, o-image) (length image) ∷ []) Post)
+    walk : Fits (parts numbers deques frames) × (image_check two_words image ≡ Good) × (nodes_in image ≤ length work) → ent 𝓤 (on_entry 𝓛 f'.signature (κ-numbers, (κ-deques, (κ-frames, (κ-pool, (κ-work, (κ-image, tt)))))) (q-numbers, (q-deques, (q-frames, (q-pool, (q-work, (q-image, tt)))))) args' vals') (WpFn 𝓤 H 𝓣.C 𝓣.Λ code.function (slice_val (b-numbers, o-numbers) (length numbers) ∷ slice_val (b-deques, o-deques) (length deques) ∷ slice_val (b-frames, o-frames) (length frames) ∷ slice_val (b-pool, o-pool) (length pool) ∷ slice_val (b-work, o-work) (length work) ∷ slice_val (b-image, o-image) (length image) ∷ []) Post)
     walk ok' =
         qed 𝓛 ((‵ (flft κ-numbers q-numbers) ⊛ ‵ (flft κ-deques q-deques) ⊛ ‵ (flft κ-frames q-frames) ⊛ ‵ (flft κ-pool q-pool) ⊛ ‵ (flft κ-work q-work) ⊛ ‵ (flft κ-image q-image) ⊛ ‵ ftrue) ∷ ‵ (owns (MutSlice (named 0) κ-numbers u32 ∷ MutSlice (named 1) κ-deques u32 ∷ MutSlice (named 2) κ-frames R-Frame ∷ MutSlice (named 3) κ-pool u32 ∷ MutSlice (named 4) κ-work u32 ∷ ShrSlice (named 5) κ-image u8 ∷ []) args' vals') ∷ []) ∵ enter ! 𝓣.C 𝓣.Λ code.function (slice_val (b-numbers, o-numbers) (length numbers) ∷ slice_val (b-deques, o-deques) (length deques) ∷ slice_val (b-frames, o-frames) (length frames) ∷ slice_val (b-pool, o-pool) (length pool) ∷ slice_val (b-work, o-work) (length work) ∷ slice_val (b-image, o-image) (length image) ∷ []) _ $
         alloc1 ! (λ l₀. alloc1 ! (λ l₁. alloc1 ! (λ l₂. alloc1 ! (λ l₃. alloc1 ! (λ l₄. alloc1 ! (λ l₅. alloc1 ! (λ l₆. alloc1 ! (λ l₇. alloc1 ! (λ l₈. alloc1 ! (λ l₉. alloc1 ! (λ l₁₀. alloc1 ! (λ l₁₁. alloc1 ! (λ l₁₂. alloc1 ! (λ l₁₃. alloc1 ! (λ l₁₄. alloc1 ! (λ l₁₅. alloc1 ! (λ l₁₆. alloc1 ! (λ l₁₇. alloc1 ! (λ l₁₈. alloc1 ! (λ l₁₉. alloc1 ! (λ l₂₀. alloc1 ! (λ l₂₁. alloc1 ! (λ l₂₂. alloc1 ! (λ l₂₃. alloc1 ! (λ l₂₄. alloc1 ! (λ l₂₅. alloc1 ! (λ l₂₆. alloc1 ! (λ l₂₇. alloc1 ! (λ l₂₈. alloc1 ! (λ l₂₉. alloc1 ! (λ l₃₀. alloc1 ! (λ l₃₁. alloc1 ! (λ l₃₂. alloc1 ! (λ l₃₃. alloc1 ! (λ l₃₄. alloc1 ! (λ l₃₅. alloc1 ! (λ l₃₆. alloc1 ! (λ l₃₇. alloc1 ! (λ l₃₈. alloc0 ! $ params1 ! $
@@ -151,7 +151,7 @@ module _ {M : Type 1} {𝓤 : Ura M} (𝓛 : Logic 𝓤) (mem : Memory → SProp
         (λ ν-0 δ-0. and_then ! (load ! (from ! (stop !)) (look ! 71 refl)) (and_then ! (load ! (from ! (stop !)) (look ! 67 refl)) (and_then ! (load ! (from ! (stop !)) (look ! 63 refl)) (no_more !)))) (λ r-1 r-1-is.
         land ! (from ! (stop !)) (init ! 68 refl (tt, tt)) $
         assigns ! (un ! (load ! (from ! (stop !)) (look ! 68 refl)) tt) (from ! (stop !)) (init ! 60 refl (tt, tt)) $
-        leave-if ! (load ! (from ! (stop !)) (look ! 60 refl))
+        leave_if ! (load ! (from ! (stop !)) (look ! 60 refl))
         (λ test-2.
         assigns ! (addr ! (from ! (fld ! refl (hop ! (look_in ! 72 (sub ! 0 refl (whole !))) (stop !))))) (from ! (stop !)) (init ! 56 refl (tt, tt)) $
         assigns ! (agg ! (and_then ! (load ! (from ! (stop !)) (look ! 56 refl)) (and_then ! (load ! (from ! (fld ! refl (stop !))) (look_in ! 72 (sub ! 1 refl (whole !)))) (no_more !)))) (from ! (stop !)) (init ! 54 refl (tt, (tt, (record { fits = room-work.0 }, tt)))) $
@@ -188,7 +188,7 @@ module _ {M : Type 1} {𝓤 : Ura M} (𝓛 : Logic 𝓤) (mem : Memory → SProp
         assigns ! (agg ! (and_then ! (load ! (from ! (stop !)) (look ! 28 refl)) (and_then ! (load ! (from ! (fld ! refl (stop !))) (look_in ! 74 (sub ! 1 refl (whole !)))) (no_more !)))) (from ! (stop !)) (init ! 26 refl (tt, (tt, (record { fits = room-pool.0 }, tt)))) $
         -- _20 = image::read::read_parts(_6, _22, _24, _26, _28)
         move ! (0 ∷ 2 ∷ 3 ∷ 4 ∷ 1 ∷ []) $
-        S-read-parts.step-g mem run ! fm known-read-parts b-image o-image n-image image b-numbers o-numbers n-numbers numbers b-deques o-deques n-deques deques b-frames o-frames n-frames frames b-pool o-pool n-pool pool (F.needs-7 numbers deques frames pool work image room-numbers.0 room-deques.0 room-frames.0 room-pool.0 room-work.0 room-image.0 ok' r-1 r-1-is (is_true r-1 (not-not r-1 test-2))) (refl) room-numbers (refl) room-deques (refl) room-frames (refl) room-pool
+        S-read-parts.step-g mem run ! fm known-read-parts b-image o-image n-image image b-numbers o-numbers n-numbers numbers b-deques o-deques n-deques deques b-frames o-frames n-frames frames b-pool o-pool n-pool pool (F.needs-7 numbers deques frames pool work image room-numbers.0 room-deques.0 room-frames.0 room-pool.0 room-work.0 room-image.0 ok' r-1 r-1-is (is_true r-1 (not_not r-1 test-2))) (refl) room-numbers (refl) room-deques (refl) room-frames (refl) room-pool
         (λ ν-0 δ-0 ν-1 δ-1 ν-2 δ-2 ν-3 δ-3. and_then ! (load ! (from ! (stop !)) (look ! 71 refl)) (and_then ! (load ! (from ! (stop !)) (look ! 39 refl)) (and_then ! (load ! (from ! (stop !)) (look ! 35 refl)) (and_then ! (load ! (from ! (stop !)) (look ! 31 refl)) (and_then ! (load ! (from ! (stop !)) (look ! 27 refl)) (no_more !)))))) (λ numbers-7 deques-7 frames-7 pool-7 done-7 same-numbers-7 same-deques-7 same-frames-7 same-pool-7.
         land ! (from ! (stop !)) (init ! 42 refl (tt, tt)) $
         assigns ! (addr ! (from ! (fld ! refl (hop ! (look_in ! 80 (sub ! 0 refl (whole !))) (stop !))))) (from ! (stop !)) (init ! 24 refl (tt, tt)) $
@@ -203,12 +203,12 @@ module _ {M : Type 1} {𝓤 : Ura M} (𝓛 : Logic 𝓤) (mem : Memory → SProp
         assigns ! (agg ! (and_then ! (load ! (from ! (stop !)) (look ! 8 refl)) (and_then ! (load ! (from ! (fld ! refl (stop !))) (look_in ! 72 (sub ! 1 refl (whole !)))) (no_more !)))) (from ! (stop !)) (init ! 6 refl (tt, (tt, (record { fits = room-work.0 }, tt)))) $
         -- _0 = engine::images::check_read(_30, _32, _34, _36, _38)
         move ! (1 ∷ 2 ∷ 3 ∷ 4 ∷ 5 ∷ []) $
-        S-check-read.step-ss mem run ! fm known-check-read b-numbers o-numbers n-numbers numbers-7 b-deques o-deques n-deques deques-7 b-frames o-frames n-frames frames-7 b-pool o-pool n-pool pool-7 b-work o-work n-work work (F.needs-8 numbers deques frames pool work image room-numbers.0 room-deques.0 room-frames.0 room-pool.0 room-work.0 room-image.0 ok' r-1 r-1-is (is_true r-1 (not-not r-1 test-2)) numbers-7 deques-7 frames-7 pool-7 done-7 same-numbers-7 same-deques-7 same-frames-7 same-pool-7) (same-numbers-7) room-numbers (same-deques-7) room-deques (same-frames-7) room-frames (same-pool-7) room-pool (refl) room-work
+        S-check-read.step-ss mem run ! fm known-check-read b-numbers o-numbers n-numbers numbers-7 b-deques o-deques n-deques deques-7 b-frames o-frames n-frames frames-7 b-pool o-pool n-pool pool-7 b-work o-work n-work work (F.needs-8 numbers deques frames pool work image room-numbers.0 room-deques.0 room-frames.0 room-pool.0 room-work.0 room-image.0 ok' r-1 r-1-is (is_true r-1 (not_not r-1 test-2)) numbers-7 deques-7 frames-7 pool-7 done-7 same-numbers-7 same-deques-7 same-frames-7 same-pool-7) (same-numbers-7) room-numbers (same-deques-7) room-deques (same-frames-7) room-frames (same-pool-7) room-pool (refl) room-work
         (λ ν-0 δ-0 ν-1 δ-1 ν-2 δ-2 ν-3 δ-3 ν-4 δ-4. and_then ! (load ! (from ! (stop !)) (look ! 23 refl)) (and_then ! (load ! (from ! (stop !)) (look ! 19 refl)) (and_then ! (load ! (from ! (stop !)) (look ! 15 refl)) (and_then ! (load ! (from ! (stop !)) (look ! 11 refl)) (and_then ! (load ! (from ! (stop !)) (look ! 7 refl)) (no_more !)))))) (λ r-8 frames-8 pool-8 work-8 r-8-fits r-8-is same-frames-8 same-pool-8 same-work-8.
         land ! (from ! (stop !)) (init ! 82 refl (tt, record { fits = r-8-fits })) $
         returns_within ! Post refl (look ! 82 refl) $ forget ! 6 refl $ forget ! 8 refl $ forget ! 10 refl $ forget ! 12 refl $ forget ! 14 refl $ forget ! 16 refl $ forget ! 18 refl $ forget ! 20 refl $ forget ! 22 refl $ forget ! 24 refl $ forget ! 26 refl $ forget ! 28 refl $ forget ! 30 refl $ forget ! 32 refl $ forget ! 34 refl $ forget ! 36 refl $ forget ! 38 refl $ forget ! 40 refl $ forget ! 42 refl $ forget ! 60 refl $ forget ! 62 refl $ forget ! 64 refl $ forget ! 66 refl $ forget ! 68 refl $ forget ! 70 refl $ forget ! 72 refl $ forget ! 74 refl $ forget ! 76 refl $ forget ! 78 refl $ forget ! 80 refl $ forget ! 82 refl $
         free_all ! 6 refl $
-        by ! (exits' r-8 numbers-7 deques-7 frames-8 pool-8 work-8 r-8-fits (F.out-9 numbers deques frames pool work image room-numbers.0 room-deques.0 room-frames.0 room-pool.0 room-work.0 room-image.0 ok' r-1 r-1-is (is_true r-1 (not-not r-1 test-2)) numbers-7 deques-7 frames-7 pool-7 done-7 same-numbers-7 same-deques-7 same-frames-7 same-pool-7 r-8 frames-8 pool-8 work-8 r-8-fits r-8-is same-frames-8 same-pool-8 same-work-8) (same-numbers-7) (same-deques-7) (same-frames-8 ∙ same-frames-7) (same-pool-8 ∙ same-pool-7) (same-work-8)))))))))))))))))))))))))))))))))))))))))))))
+        by ! (exits' r-8 numbers-7 deques-7 frames-8 pool-8 work-8 r-8-fits (F.out-9 numbers deques frames pool work image room-numbers.0 room-deques.0 room-frames.0 room-pool.0 room-work.0 room-image.0 ok' r-1 r-1-is (is_true r-1 (not_not r-1 test-2)) numbers-7 deques-7 frames-7 pool-7 done-7 same-numbers-7 same-deques-7 same-frames-7 same-pool-7 r-8 frames-8 pool-8 work-8 r-8-fits r-8-is same-frames-8 same-pool-8 same-work-8) (same-numbers-7) (same-deques-7) (same-frames-8 ∙ same-frames-7) (same-pool-8 ∙ same-pool-7) (same-work-8)))))))))))))))))))))))))))))))))))))))))))))
 
 module _ {M : Type 1} {𝓤 : Ura M} (𝓛 : Logic 𝓤) (mem : Memory → SProp 𝓤) (run : Routine → Fun 𝓤) (𝓣 : Tables 𝓤 𝓛.H) where
   open 𝓛 use {H}
@@ -217,7 +217,7 @@ module _ {M : Type 1} {𝓤 : Ura M} (𝓛 : Logic 𝓤) (mem : Memory → SProp
   walks known-takes known-nodes-in known-clear known-refuse-read known-read-parts known-check-read = walked 𝓛 f'.ended stayed (f'.clauses 𝓛 mem run) (WpFn 𝓤 H 𝓣.C 𝓣.Λ code.function)
       (λ κs. (shr_slice_vals, (shr_slice_vals, (shr_slice_vals, (shr_slice_vals, (shr_slice_vals, (shr_slice_vals, tt)))))))
       (λ κs. (mut_slice_Tells (named 0) κs.0 u32, (mut_slice_Tells (named 1) κs.1.0 u32, (mut_slice_Tells (named 2) κs.1.1.0 R-Frame, (mut_slice_Tells (named 3) κs.1.1.1.0 u32, (mut_slice_Tells (named 4) κs.1.1.1.1.0 u32, (shr_slice_Tells (named 5) κs.1.1.1.1.1.0 u8, tt)))))))
-      (λ κs qs bounds a g are. needs 𝓤 (Fits (parts a.0.now a.1.0.now a.1.1.0.now) × (imageCheck two_words a.1.1.1.1.1.0.now ≡ Good) × (nodesIn a.1.1.1.1.1.0.now ≤ length a.1.1.1.1.0.now)) _
+      (λ κs qs bounds a g are. needs 𝓤 (Fits (parts a.0.now a.1.0.now a.1.1.0.now) × (image_check two_words a.1.1.1.1.1.0.now ≡ Good) × (nodes_in a.1.1.1.1.1.0.now ≤ length a.1.1.1.1.0.now)) _
       (walk 𝓛 mem run κs.0 qs.0 a.0.ref_ptr.0 a.0.ref_ptr.1 a.0.ghost_name a.0.now κs.1.0 qs.1.0 a.1.0.ref_ptr.0 a.1.0.ref_ptr.1 a.1.0.ghost_name a.1.0.now κs.1.1.0 qs.1.1.0 a.1.1.0.ref_ptr.0 a.1.1.0.ref_ptr.1 a.1.1.0.ghost_name a.1.1.0.now κs.1.1.1.0 qs.1.1.1.0 a.1.1.1.0.ref_ptr.0 a.1.1.1.0.ref_ptr.1 a.1.1.1.0.ghost_name a.1.1.1.0.now κs.1.1.1.1.0 qs.1.1.1.1.0 a.1.1.1.1.0.ref_ptr.0 a.1.1.1.1.0.ref_ptr.1 a.1.1.1.1.0.ghost_name a.1.1.1.1.0.now κs.1.1.1.1.1.0 qs.1.1.1.1.1.0 a.1.1.1.1.1.0.ref_ptr.0 a.1.1.1.1.1.0.ref_ptr.1 a.1.1.1.1.1.0.ghost_name a.1.1.1.1.1.0.now are.0.0.1 are.1.0.0.1 are.1.1.0.0.1 are.1.1.1.0.0.1 are.1.1.1.1.0.0.1 are.1.1.1.1.1.0.0.1 𝓣 known-takes known-nodes-in known-clear known-refuse-read known-read-parts known-check-read))
 
   meets : Triple 𝓤 (𝓣.C #takes) (S-takes.Asked 𝓛 mem run) → Triple 𝓤 (𝓣.C #nodes-in) (S-nodes-in.Asked 𝓛 mem run) → Triple 𝓤 (𝓣.C #clear) (S-clear.Asked 𝓛 mem run) → Triple 𝓤 (𝓣.C #refuse-read) (S-refuse-read.Asked 𝓛 mem run) → Triple 𝓤 (𝓣.C #read-parts) (S-read-parts.Asked 𝓛 mem run) → Triple 𝓤 (𝓣.C #check-read) (S-check-read.Asked 𝓛 mem run) → Meets 𝓛 f'.signature (WpFn 𝓤 H 𝓣.C 𝓣.Λ code.function) (f'.spec 𝓛 mem run)

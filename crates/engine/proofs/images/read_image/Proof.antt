@@ -39,8 +39,8 @@ use denote.Triple.Statement.{Triple}
 use denote.Triple.Table.{entered, cited}
 use denote.Triple.Walked.{says, needs, Stays, stay_slice, stay_none, stay_none_slice, walk_of, Walks, ends_at, walked, Goes-slice, Goes-none, Goes-none_slice, walk_Meets}
 use borrow.Author.Rules.{scaled_Fits}
-use Rattle.frames.proofs.Lent.{at-list, Mine, Yours, ty_at, exit-unless, exit-if, leave-if, fork, skipped, regroup, matched, matched-last, const, is_true, is_false, not-not, differ, widen, less-fits, after, turn-of, take_out, put_in, put_back, look-out, look-back, free_all}
-use Rattle.semantics.specs.Images.{loadWith}
+use Rattle.frames.proofs.Lent.{at_list, Mine, Yours, ty_at, exit_unless, exit_if, leave_if, fork, skipped, regroup, matched, matched_last, const, is_true, is_false, not_not, differ, widen, less_fits, after, turn_of_lem, take_out, put_in, put_back, look_out, look_back, free_all}
+use Rattle.semantics.specs.Images.{load_with}
 use Rattle.semantics.specs.Promises.{parts, Fits}
 use Rattle.engine.specs.Promises.{IsLoading}
 use Rattle.soundness.specs.Layout.{two_words}
@@ -114,7 +114,7 @@ module _ {M : Type 1} {𝓤 : Ura M} (𝓛 : Logic 𝓤) (mem : Memory → SProp
   n-image = length image
 
   abbrev args' : Bor (List ℕ) × (Bor (List ℕ) × (Bor (List Frame) × (Bor (List ℕ) × (Bor (List ℕ) × (Bor (List ℕ) × Unit {0})))))
-  args' = (at-list b-numbers o-numbers γ-numbers numbers, (at-list b-deques o-deques γ-deques deques, (at-list b-frames o-frames γ-frames frames, (at-list b-pool o-pool γ-pool pool, (at-list b-work o-work γ-work work, (at-list b-image o-image γ-image image, tt))))))
+  args' = (at_list b-numbers o-numbers γ-numbers numbers, (at_list b-deques o-deques γ-deques deques, (at_list b-frames o-frames γ-frames frames, (at_list b-pool o-pool γ-pool pool, (at_list b-work o-work γ-work work, (at_list b-image o-image γ-image image, tt))))))
 
   abbrev vals' : Vals f'.signature (κ-numbers, (κ-deques, (κ-frames, (κ-pool, (κ-work, (κ-image, tt))))))
   vals' = (slice_val (b-numbers, o-numbers) (length numbers) ∷ [], (slice_val (b-deques, o-deques) (length deques) ∷ [], (slice_val (b-frames, o-frames) (length frames) ∷ [], (slice_val (b-pool, o-pool) (length pool) ∷ [], (slice_val (b-work, o-work) (length work) ∷ [], (slice_val (b-image, o-image) (length image) ∷ [], tt))))))
@@ -125,10 +125,10 @@ module _ {M : Type 1} {𝓤 : Ura M} (𝓛 : Logic 𝓤) (mem : Memory → SProp
   abbrev Post : Val → SProp 𝓤
   Post = (walk_of 𝓛 f'.ended stayed (f'.clauses 𝓛 mem run)).post bound'
 
-  exits' : (res' : ℕ) (zs-numbers : List ℕ) (zs-deques : List ℕ) (zs-frames : List Frame) (zs-pool : List ℕ) (zs-work : List ℕ) → res' < 2 ^ 32 → IsLoading (loadWith two_words frames pool work image) zs-numbers zs-deques zs-frames zs-pool zs-work res' → length zs-numbers ≡ length numbers → length zs-deques ≡ length deques → length zs-frames ≡ length frames → length zs-pool ≡ length pool → length zs-work ≡ length work → ent 𝓤 (⋆ 𝓛 (‵ (Mine u32 κ-numbers q-numbers γ-numbers b-numbers o-numbers n-numbers zs-numbers) ∷ ‵ (Mine u32 κ-deques q-deques γ-deques b-deques o-deques n-deques zs-deques) ∷ ‵ (Mine R-Frame κ-frames q-frames γ-frames b-frames o-frames n-frames zs-frames) ∷ ‵ (Mine u32 κ-pool q-pool γ-pool b-pool o-pool n-pool zs-pool) ∷ ‵ (Mine u32 κ-work q-work γ-work b-work o-work n-work zs-work) ∷ ‵ (Yours u8 κ-image q-image γ-image b-image o-image n-image image) ∷ [])) (Post (vint w32 res'))
-  exits' res' zs-numbers zs-deques zs-frames zs-pool zs-work good' e' same_numbers same-deques same-frames same-pool same-work =
+  exits' : (res' : ℕ) (zs-numbers : List ℕ) (zs-deques : List ℕ) (zs-frames : List Frame) (zs-pool : List ℕ) (zs-work : List ℕ) → res' < 2 ^ 32 → IsLoading (load_with two_words frames pool work image) zs-numbers zs-deques zs-frames zs-pool zs-work res' → length zs-numbers ≡ length numbers → length zs-deques ≡ length deques → length zs-frames ≡ length frames → length zs-pool ≡ length pool → length zs-work ≡ length work → ent 𝓤 (⋆ 𝓛 (‵ (Mine u32 κ-numbers q-numbers γ-numbers b-numbers o-numbers n-numbers zs-numbers) ∷ ‵ (Mine u32 κ-deques q-deques γ-deques b-deques o-deques n-deques zs-deques) ∷ ‵ (Mine R-Frame κ-frames q-frames γ-frames b-frames o-frames n-frames zs-frames) ∷ ‵ (Mine u32 κ-pool q-pool γ-pool b-pool o-pool n-pool zs-pool) ∷ ‵ (Mine u32 κ-work q-work γ-work b-work o-work n-work zs-work) ∷ ‵ (Yours u8 κ-image q-image γ-image b-image o-image n-image image) ∷ [])) (Post (vint w32 res'))
+  exits' res' zs-numbers zs-deques zs-frames zs-pool zs-work good' e' same_numbers same-deques same-frames same-pool same_work =
       qed 𝓛 (‵ (Mine u32 κ-numbers q-numbers γ-numbers b-numbers o-numbers n-numbers zs-numbers) ∷ ‵ (Mine u32 κ-deques q-deques γ-deques b-deques o-deques n-deques zs-deques) ∷ ‵ (Mine R-Frame κ-frames q-frames γ-frames b-frames o-frames n-frames zs-frames) ∷ ‵ (Mine u32 κ-pool q-pool γ-pool b-pool o-pool n-pool zs-pool) ∷ ‵ (Mine u32 κ-work q-work γ-work b-work o-work n-work zs-work) ∷ ‵ (Yours u8 κ-image q-image γ-image b-image o-image n-image image) ∷ []) ∵
-      suffices ! _ (ends_at 𝓛 f'.ended stayed (f'.clauses 𝓛 mem run) bound' (vint w32 res') res' (zs-numbers, (zs-deques, (zs-frames, (zs-pool, (zs-work, (tt, tt)))))) (same_numbers, (same-deques, (same-frames, (same-pool, (same-work, (tt, tt))))))) $ says ! e' $
+      suffices ! _ (ends_at 𝓛 f'.ended stayed (f'.clauses 𝓛 mem run) bound' (vint w32 res') res' (zs-numbers, (zs-deques, (zs-frames, (zs-pool, (zs-work, (tt, tt)))))) (same_numbers, (same-deques, (same-frames, (same-pool, (same_work, (tt, tt))))))) $ says ! e' $
       fsplit ! $ move ! (2 ∷ []) $ fsplit ! $ move ! (4 ∷ []) $ fsplit ! $ move ! (6 ∷ []) $ fsplit ! $ move ! (8 ∷ []) $ fsplit ! $ move ! (10 ∷ []) $ fsplit ! $ nothing ! $ move ! (12 ∷ 10 ∷ 8 ∷ 6 ∷ 4 ∷ 2 ∷ 0 ∷ []) $ group ! 7 $ frame ! $
       nothing ! $ move ! (1 ∷ 0 ∷ []) $ fjoin ! $ move ! (1 ∷ 0 ∷ []) $ fjoin ! $ move ! (1 ∷ 0 ∷ []) $ fjoin ! $ move ! (1 ∷ 0 ∷ []) $ fjoin ! $ move ! (1 ∷ 0 ∷ []) $ fjoin ! $ move ! (1 ∷ 0 ∷ []) $ fjoin ! $ frame ! $
       owned ! u32 (Is u32) (uint_Makes 𝓛 w32) res' _ (refl, good') $ done !
@@ -154,7 +154,7 @@ module _ {M : Type 1} {𝓤 : Ura M} (𝓛 : Logic 𝓤) (mem : Memory → SProp
         (and_then ! (load ! (from ! (stop !)) (look ! 35 refl)) (no_more !)) (λ wrong wrong-fits wrong-is.
         land ! (from ! (stop !)) (init ! 38 refl (tt, record { fits = wrong-fits })) $
         assigns ! (bin ! (load ! (from ! (stop !)) (look ! 38 refl)) (const ! _ tt) tt) (from ! (stop !)) (init ! 32 refl (tt, tt)) $
-        leave-if ! (load ! (from ! (stop !)) (look ! 32 refl))
+        leave_if ! (load ! (from ! (stop !)) (look ! 32 refl))
         (λ test-3.
         assigns ! (of_opd ! (load ! (from ! (stop !)) (look ! 38 refl))) (from ! (stop !)) (init ! 52 refl (tt, record { fits = wrong-fits })) $
         returns_within ! Post refl (look ! 52 refl) $ forget ! 32 refl $ forget ! 34 refl $ forget ! 38 refl $ forget ! 40 refl $ forget ! 42 refl $ forget ! 44 refl $ forget ! 46 refl $ forget ! 48 refl $ forget ! 50 refl $ forget ! 52 refl $
@@ -163,7 +163,7 @@ module _ {M : Type 1} {𝓤 : Ura M} (𝓛 : Logic 𝓤) (mem : Memory → SProp
         by ! (exits' wrong numbers deques frames pool work wrong-fits (F.out-4 numbers deques frames pool work image room-numbers.0 room-deques.0 room-frames.0 room-pool.0 room-work.0 room-image.0 ok' r-1 r-1-is wrong wrong-fits wrong-is (differ wrong 0 test-3)) (refl) (refl) (refl) (refl) (refl)))
         (λ test-3.
         -- _11 = image::read::nodes_in(_6)
-        S-nodes-in.step-g mem run ! fm known-nodes-in b-image o-image n-image image (F.needs-5 numbers deques frames pool work image room-numbers.0 room-deques.0 room-frames.0 room-pool.0 room-work.0 room-image.0 ok' r-1 r-1-is wrong wrong-fits wrong-is (eqb→eq wrong 0 (not-not (eqb wrong 0) test-3)))
+        S-nodes-in.step-g mem run ! fm known-nodes-in b-image o-image n-image image (F.needs-5 numbers deques frames pool work image room-numbers.0 room-deques.0 room-frames.0 room-pool.0 room-work.0 room-image.0 ok' r-1 r-1-is wrong wrong-fits wrong-is (eqb→eq wrong 0 (not_not (eqb wrong 0) test-3)))
         (and_then ! (load ! (from ! (stop !)) (look ! 41 refl)) (no_more !)) (λ r-5 r-5-fits r-5-is.
         land ! (from ! (stop !)) (init ! 30 refl (tt, record { fits = r-5-fits })) $
         assigns ! (addr ! (from ! (fld ! refl (hop ! (look_in ! 42 (sub ! 0 refl (whole !))) (stop !))))) (from ! (stop !)) (init ! 28 refl (tt, tt)) $
@@ -174,13 +174,13 @@ module _ {M : Type 1} {𝓤 : Ura M} (𝓛 : Logic 𝓤) (mem : Memory → SProp
         (λ ν-0 δ-0. and_then ! (load ! (from ! (stop !)) (look ! 31 refl)) (and_then ! (load ! (from ! (stop !)) (look ! 27 refl)) (no_more !))) (λ short short-fits short-is.
         land ! (from ! (stop !)) (init ! 36 refl (tt, record { fits = short-fits })) $
         assigns ! (bin ! (load ! (from ! (stop !)) (look ! 36 refl)) (const ! _ tt) tt) (from ! (stop !)) (store ! 32 refl (tt, tt)) $
-        leave-if ! (load ! (from ! (stop !)) (look ! 32 refl))
+        leave_if ! (load ! (from ! (stop !)) (look ! 32 refl))
         (λ test-7.
         assigns ! (of_opd ! (load ! (from ! (stop !)) (look ! 36 refl))) (from ! (stop !)) (init ! 52 refl (tt, record { fits = short-fits })) $
         returns_within ! Post refl (look ! 52 refl) $ forget ! 26 refl $ forget ! 28 refl $ forget ! 30 refl $ forget ! 32 refl $ forget ! 34 refl $ forget ! 36 refl $ forget ! 38 refl $ forget ! 40 refl $ forget ! 42 refl $ forget ! 44 refl $ forget ! 46 refl $ forget ! 48 refl $ forget ! 50 refl $ forget ! 52 refl $
         free_all ! 6 refl $
         move ! (2 ∷ 3 ∷ 4 ∷ 5 ∷ 0 ∷ 1 ∷ []) $
-        by ! (exits' short numbers deques frames pool work short-fits (F.out-8 numbers deques frames pool work image room-numbers.0 room-deques.0 room-frames.0 room-pool.0 room-work.0 room-image.0 ok' r-1 r-1-is wrong wrong-fits wrong-is (eqb→eq wrong 0 (not-not (eqb wrong 0) test-3)) r-5 r-5-fits r-5-is short short-fits short-is (differ short 0 test-7)) (refl) (refl) (refl) (refl) (refl)))
+        by ! (exits' short numbers deques frames pool work short-fits (F.out-8 numbers deques frames pool work image room-numbers.0 room-deques.0 room-frames.0 room-pool.0 room-work.0 room-image.0 ok' r-1 r-1-is wrong wrong-fits wrong-is (eqb→eq wrong 0 (not_not (eqb wrong 0) test-3)) r-5 r-5-fits r-5-is short short-fits short-is (differ short 0 test-7)) (refl) (refl) (refl) (refl) (refl)))
         (λ test-7.
         assigns ! (addr ! (from ! (fld ! refl (hop ! (look_in ! 50 (sub ! 0 refl (whole !))) (stop !))))) (from ! (stop !)) (init ! 24 refl (tt, tt)) $
         assigns ! (agg ! (and_then ! (load ! (from ! (stop !)) (look ! 24 refl)) (and_then ! (load ! (from ! (fld ! refl (stop !))) (look_in ! 50 (sub ! 1 refl (whole !)))) (no_more !)))) (from ! (stop !)) (init ! 22 refl (tt, (tt, (record { fits = room-numbers.0 }, tt)))) $
@@ -194,12 +194,12 @@ module _ {M : Type 1} {𝓤 : Ura M} (𝓛 : Logic 𝓤) (mem : Memory → SProp
         assigns ! (agg ! (and_then ! (load ! (from ! (stop !)) (look ! 8 refl)) (and_then ! (load ! (from ! (fld ! refl (stop !))) (look_in ! 42 (sub ! 1 refl (whole !)))) (no_more !)))) (from ! (stop !)) (init ! 6 refl (tt, (tt, (record { fits = room-work.0 }, tt)))) $
         -- _0 = engine::images::read_good(_15, _17, _19, _21, _23, _6)
         move ! (2 ∷ 3 ∷ 4 ∷ 5 ∷ 0 ∷ 1 ∷ []) $
-        S-read-good.step-g mem run ! fm known-read-good b-numbers o-numbers n-numbers numbers b-deques o-deques n-deques deques b-frames o-frames n-frames frames b-pool o-pool n-pool pool b-work o-work n-work work b-image o-image n-image image (F.needs-9 numbers deques frames pool work image room-numbers.0 room-deques.0 room-frames.0 room-pool.0 room-work.0 room-image.0 ok' r-1 r-1-is wrong wrong-fits wrong-is (eqb→eq wrong 0 (not-not (eqb wrong 0) test-3)) r-5 r-5-fits r-5-is short short-fits short-is (eqb→eq short 0 (not-not (eqb short 0) test-7))) (refl) room-numbers (refl) room-deques (refl) room-frames (refl) room-pool (refl) room-work
+        S-read-good.step-g mem run ! fm known-read-good b-numbers o-numbers n-numbers numbers b-deques o-deques n-deques deques b-frames o-frames n-frames frames b-pool o-pool n-pool pool b-work o-work n-work work b-image o-image n-image image (F.needs-9 numbers deques frames pool work image room-numbers.0 room-deques.0 room-frames.0 room-pool.0 room-work.0 room-image.0 ok' r-1 r-1-is wrong wrong-fits wrong-is (eqb→eq wrong 0 (not_not (eqb wrong 0) test-3)) r-5 r-5-fits r-5-is short short-fits short-is (eqb→eq short 0 (not_not (eqb short 0) test-7))) (refl) room-numbers (refl) room-deques (refl) room-frames (refl) room-pool (refl) room-work
         (λ ν-0 δ-0 ν-1 δ-1 ν-2 δ-2 ν-3 δ-3 ν-4 δ-4. and_then ! (load ! (from ! (stop !)) (look ! 23 refl)) (and_then ! (load ! (from ! (stop !)) (look ! 19 refl)) (and_then ! (load ! (from ! (stop !)) (look ! 15 refl)) (and_then ! (load ! (from ! (stop !)) (look ! 11 refl)) (and_then ! (load ! (from ! (stop !)) (look ! 7 refl)) (and_then ! (load ! (from ! (stop !)) (look ! 41 refl)) (no_more !))))))) (λ r-9 numbers-9 deques-9 frames-9 pool-9 work-9 r-9-fits r-9-is same-numbers-9 same-deques-9 same-frames-9 same-pool-9 same-work-9.
         land ! (from ! (stop !)) (init ! 52 refl (tt, record { fits = r-9-fits })) $
         returns_within ! Post refl (look ! 52 refl) $ forget ! 6 refl $ forget ! 8 refl $ forget ! 10 refl $ forget ! 12 refl $ forget ! 14 refl $ forget ! 16 refl $ forget ! 18 refl $ forget ! 20 refl $ forget ! 22 refl $ forget ! 24 refl $ forget ! 26 refl $ forget ! 28 refl $ forget ! 30 refl $ forget ! 32 refl $ forget ! 34 refl $ forget ! 36 refl $ forget ! 38 refl $ forget ! 40 refl $ forget ! 42 refl $ forget ! 44 refl $ forget ! 46 refl $ forget ! 48 refl $ forget ! 50 refl $ forget ! 52 refl $
         free_all ! 6 refl $
-        by ! (exits' r-9 numbers-9 deques-9 frames-9 pool-9 work-9 r-9-fits (F.out-10 numbers deques frames pool work image room-numbers.0 room-deques.0 room-frames.0 room-pool.0 room-work.0 room-image.0 ok' r-1 r-1-is wrong wrong-fits wrong-is (eqb→eq wrong 0 (not-not (eqb wrong 0) test-3)) r-5 r-5-fits r-5-is short short-fits short-is (eqb→eq short 0 (not-not (eqb short 0) test-7)) r-9 numbers-9 deques-9 frames-9 pool-9 work-9 r-9-fits r-9-is same-numbers-9 same-deques-9 same-frames-9 same-pool-9 same-work-9) (same-numbers-9) (same-deques-9) (same-frames-9) (same-pool-9) (same-work-9)))))))))))))))))))))))))))))))))
+        by ! (exits' r-9 numbers-9 deques-9 frames-9 pool-9 work-9 r-9-fits (F.out-10 numbers deques frames pool work image room-numbers.0 room-deques.0 room-frames.0 room-pool.0 room-work.0 room-image.0 ok' r-1 r-1-is wrong wrong-fits wrong-is (eqb→eq wrong 0 (not_not (eqb wrong 0) test-3)) r-5 r-5-fits r-5-is short short-fits short-is (eqb→eq short 0 (not_not (eqb short 0) test-7)) r-9 numbers-9 deques-9 frames-9 pool-9 work-9 r-9-fits r-9-is same-numbers-9 same-deques-9 same-frames-9 same-pool-9 same-work-9) (same-numbers-9) (same-deques-9) (same-frames-9) (same-pool-9) (same-work-9)))))))))))))))))))))))))))))))))
 
 module _ {M : Type 1} {𝓤 : Ura M} (𝓛 : Logic 𝓤) (mem : Memory → SProp 𝓤) (run : Routine → Fun 𝓤) (𝓣 : Tables 𝓤 𝓛.H) where
   open 𝓛 use {H}

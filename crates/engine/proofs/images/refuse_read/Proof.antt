@@ -39,8 +39,8 @@ use denote.Triple.Statement.{Triple}
 use denote.Triple.Table.{entered, cited}
 use denote.Triple.Walked.{says, needs, Stays, stay_slice, stay_none, stay_none_slice, walk_of, Walks, ends_at, walked, Goes-slice, Goes-none, Goes-none_slice, walk_Meets}
 use borrow.Author.Rules.{scaled_Fits}
-use Rattle.frames.proofs.Lent.{at-list, Mine, Yours, ty_at, exit-unless, exit-if, leave-if, fork, skipped, regroup, matched, matched-last, const, is_true, is_false, not-not, differ, widen, less-fits, after, turn-of, take_out, put_in, put_back, look-out, look-back, free_all}
-use Rattle.semantics.specs.Images.{recordsZero, nodesZero}
+use Rattle.frames.proofs.Lent.{at_list, Mine, Yours, ty_at, exit_unless, exit_if, leave_if, fork, skipped, regroup, matched, matched_last, const, is_true, is_false, not_not, differ, widen, less_fits, after, turn_of_lem, take_out, put_in, put_back, look_out, look_back, free_all}
+use Rattle.semantics.specs.Images.{records_zero, nodes_zero}
 use Rattle.soundness.specs.Layout.{two_words}
 use Rattle.engine.proofs.Called.clear_frames as S-clear-frames
 use Rattle.frames.proofs.clear_frames.Symbol as D-clear-frames
@@ -83,7 +83,7 @@ module _ {M : Type 1} {𝓤 : Ura M} (𝓛 : Logic 𝓤) (mem : Memory → SProp
   n-pool = length pool
 
   abbrev args' : MutBor (List Frame) × (MutBor (List ℕ) × Unit {0})
-  args' = (at-list b-frames o-frames γ-frames frames, (at-list b-pool o-pool γ-pool pool, tt))
+  args' = (at_list b-frames o-frames γ-frames frames, (at_list b-pool o-pool γ-pool pool, tt))
 
   abbrev vals' : Vals f'.signature (κ-frames, (κ-pool, tt))
   vals' = (slice_val (b-frames, o-frames) (length frames) ∷ [], (slice_val (b-pool, o-pool) (length pool) ∷ [], tt))
@@ -94,7 +94,7 @@ module _ {M : Type 1} {𝓤 : Ura M} (𝓛 : Logic 𝓤) (mem : Memory → SProp
   abbrev Post : Val → SProp 𝓤
   Post = (walk_of 𝓛 f'.ended stayed (f'.clauses 𝓛 mem run)).post bound'
 
-  exits' : (res' : ℕ) (zs-frames : List Frame) (zs-pool : List ℕ) → res' < 2 ^ 32 → (res' ≡ 6) × (zs-frames ≡ recordsZero frames) × (zs-pool ≡ nodesZero two_words pool) → length zs-frames ≡ length frames → length zs-pool ≡ length pool → ent 𝓤 (⋆ 𝓛 (‵ (Mine R-Frame κ-frames q-frames γ-frames b-frames o-frames n-frames zs-frames) ∷ ‵ (Mine u32 κ-pool q-pool γ-pool b-pool o-pool n-pool zs-pool) ∷ [])) (Post (vint w32 res'))
+  exits' : (res' : ℕ) (zs-frames : List Frame) (zs-pool : List ℕ) → res' < 2 ^ 32 → (res' ≡ 6) × (zs-frames ≡ records_zero frames) × (zs-pool ≡ nodes_zero two_words pool) → length zs-frames ≡ length frames → length zs-pool ≡ length pool → ent 𝓤 (⋆ 𝓛 (‵ (Mine R-Frame κ-frames q-frames γ-frames b-frames o-frames n-frames zs-frames) ∷ ‵ (Mine u32 κ-pool q-pool γ-pool b-pool o-pool n-pool zs-pool) ∷ [])) (Post (vint w32 res'))
   exits' res' zs-frames zs-pool good' e' same-frames same-pool =
       qed 𝓛 (‵ (Mine R-Frame κ-frames q-frames γ-frames b-frames o-frames n-frames zs-frames) ∷ ‵ (Mine u32 κ-pool q-pool γ-pool b-pool o-pool n-pool zs-pool) ∷ []) ∵
       suffices ! _ (ends_at 𝓛 f'.ended stayed (f'.clauses 𝓛 mem run) bound' (vint w32 res') res' (zs-frames, (zs-pool, tt)) (same-frames, (same-pool, tt))) $ says ! e' $

@@ -39,9 +39,9 @@ use denote.Triple.Statement.{Triple}
 use denote.Triple.Table.{entered, cited}
 use denote.Triple.Walked.{says, needs, Stays, stay_slice, stay_none, stay_none_slice, walk_of, Walks, ends_at, walked, Goes-slice, Goes-none, Goes-none_slice, walk_Meets}
 use borrow.Author.Rules.{scaled_Fits}
-use Rattle.frames.proofs.Lent.{at-list, Mine, Yours, ty_at, exit-unless, exit-if, leave-if, fork, skipped, regroup, matched, matched-last, const, is_true, is_false, not-not, differ, widen, less-fits, after, turn-of, take_out, put_in, put_back, look-out, look-back, free_all}
-use Rattle.semantics.specs.Remembering.{saveRemembering}
-use Rattle.memory.specs.Memory.{memoryWords}
+use Rattle.frames.proofs.Lent.{at_list, Mine, Yours, ty_at, exit_unless, exit_if, leave_if, fork, skipped, regroup, matched, matched_last, const, is_true, is_false, not_not, differ, widen, less_fits, after, turn_of_lem, take_out, put_in, put_back, look_out, look_back, free_all}
+use Rattle.semantics.specs.Remembering.{save_remembering}
+use Rattle.memory.specs.Memory.{memory_words}
 use Rattle.semantics.specs.Promises.{parts, Fits, IsSave}
 use Rattle.soundness.specs.Layout.{two_words}
 use Rattle.engine.proofs.Called.check_parts as S-check-parts
@@ -117,7 +117,7 @@ module _ {M : Type 1} {𝓤 : Ura M} (𝓛 : Logic 𝓤) (mem : Memory → SProp
   n-target = length target
 
   abbrev args' : Bor (List ℕ) × (Bor (List ℕ) × (Bor (List Frame) × (Bor (List ℕ) × (Bor (List ℕ) × (Bor (List ℕ) × (Bor (List ℕ) × Unit {0}))))))
-  args' = (at-list b-numbers o-numbers γ-numbers numbers, (at-list b-deques o-deques γ-deques deques, (at-list b-frames o-frames γ-frames frames, (at-list b-memory o-memory γ-memory memory, (at-list b-pool o-pool γ-pool pool, (at-list b-work o-work γ-work work, (at-list b-target o-target γ-target target, tt)))))))
+  args' = (at_list b-numbers o-numbers γ-numbers numbers, (at_list b-deques o-deques γ-deques deques, (at_list b-frames o-frames γ-frames frames, (at_list b-memory o-memory γ-memory memory, (at_list b-pool o-pool γ-pool pool, (at_list b-work o-work γ-work work, (at_list b-target o-target γ-target target, tt)))))))
 
   abbrev vals' : Vals f'.signature (κ-numbers, (κ-deques, (κ-frames, (κ-memory, (κ-pool, (κ-work, (κ-target, tt)))))))
   vals' = (slice_val (b-numbers, o-numbers) (length numbers) ∷ [], (slice_val (b-deques, o-deques) (length deques) ∷ [], (slice_val (b-frames, o-frames) (length frames) ∷ [], (slice_val (b-memory, o-memory) (length memory) ∷ [], (slice_val (b-pool, o-pool) (length pool) ∷ [], (slice_val (b-work, o-work) (length work) ∷ [], (slice_val (b-target, o-target) (length target) ∷ [], tt)))))))
@@ -128,10 +128,10 @@ module _ {M : Type 1} {𝓤 : Ura M} (𝓛 : Logic 𝓤) (mem : Memory → SProp
   abbrev Post : Val → SProp 𝓤
   Post = (walk_of 𝓛 f'.ended stayed (f'.clauses 𝓛 mem run)).post bound'
 
-  exits' : (res' : ℕ) (zs-work : List ℕ) (zs-target : List ℕ) → res' < 2 ^ 32 → IsSave (saveRemembering two_words (parts numbers deques frames) memory pool work target) zs-work zs-target res' → length zs-work ≡ length work → length zs-target ≡ length target → ent 𝓤 (⋆ 𝓛 (‵ (Yours u32 κ-numbers q-numbers γ-numbers b-numbers o-numbers n-numbers numbers) ∷ ‵ (Yours u32 κ-deques q-deques γ-deques b-deques o-deques n-deques deques) ∷ ‵ (Yours R-Frame κ-frames q-frames γ-frames b-frames o-frames n-frames frames) ∷ ‵ (Yours u32 κ-memory q-memory γ-memory b-memory o-memory n-memory memory) ∷ ‵ (Yours u32 κ-pool q-pool γ-pool b-pool o-pool n-pool pool) ∷ ‵ (Mine u32 κ-work q-work γ-work b-work o-work n-work zs-work) ∷ ‵ (Mine u8 κ-target q-target γ-target b-target o-target n-target zs-target) ∷ [])) (Post (vint w32 res'))
-  exits' res' zs-work zs-target good' e' same-work same_target =
+  exits' : (res' : ℕ) (zs-work : List ℕ) (zs-target : List ℕ) → res' < 2 ^ 32 → IsSave (save_remembering two_words (parts numbers deques frames) memory pool work target) zs-work zs-target res' → length zs-work ≡ length work → length zs-target ≡ length target → ent 𝓤 (⋆ 𝓛 (‵ (Yours u32 κ-numbers q-numbers γ-numbers b-numbers o-numbers n-numbers numbers) ∷ ‵ (Yours u32 κ-deques q-deques γ-deques b-deques o-deques n-deques deques) ∷ ‵ (Yours R-Frame κ-frames q-frames γ-frames b-frames o-frames n-frames frames) ∷ ‵ (Yours u32 κ-memory q-memory γ-memory b-memory o-memory n-memory memory) ∷ ‵ (Yours u32 κ-pool q-pool γ-pool b-pool o-pool n-pool pool) ∷ ‵ (Mine u32 κ-work q-work γ-work b-work o-work n-work zs-work) ∷ ‵ (Mine u8 κ-target q-target γ-target b-target o-target n-target zs-target) ∷ [])) (Post (vint w32 res'))
+  exits' res' zs-work zs-target good' e' same_work same_target =
       qed 𝓛 (‵ (Yours u32 κ-numbers q-numbers γ-numbers b-numbers o-numbers n-numbers numbers) ∷ ‵ (Yours u32 κ-deques q-deques γ-deques b-deques o-deques n-deques deques) ∷ ‵ (Yours R-Frame κ-frames q-frames γ-frames b-frames o-frames n-frames frames) ∷ ‵ (Yours u32 κ-memory q-memory γ-memory b-memory o-memory n-memory memory) ∷ ‵ (Yours u32 κ-pool q-pool γ-pool b-pool o-pool n-pool pool) ∷ ‵ (Mine u32 κ-work q-work γ-work b-work o-work n-work zs-work) ∷ ‵ (Mine u8 κ-target q-target γ-target b-target o-target n-target zs-target) ∷ []) ∵
-      suffices ! _ (ends_at 𝓛 f'.ended stayed (f'.clauses 𝓛 mem run) bound' (vint w32 res') res' (tt, (tt, (tt, (tt, (tt, (zs-work, (zs-target, tt))))))) (tt, (tt, (tt, (tt, (tt, (same-work, (same_target, tt)))))))) $ says ! e' $
+      suffices ! _ (ends_at 𝓛 f'.ended stayed (f'.clauses 𝓛 mem run) bound' (vint w32 res') res' (tt, (tt, (tt, (tt, (tt, (zs-work, (zs-target, tt))))))) (tt, (tt, (tt, (tt, (tt, (same_work, (same_target, tt)))))))) $ says ! e' $
       fsplit ! $ move ! (2 ∷ []) $ fsplit ! $ move ! (4 ∷ []) $ fsplit ! $ move ! (6 ∷ []) $ fsplit ! $ move ! (8 ∷ []) $ fsplit ! $ move ! (10 ∷ []) $ fsplit ! $ move ! (12 ∷ []) $ fsplit ! $ nothing ! $ move ! (14 ∷ 12 ∷ 10 ∷ 8 ∷ 6 ∷ 4 ∷ 2 ∷ 0 ∷ []) $ group ! 8 $ frame ! $
       nothing ! $ move ! (1 ∷ 0 ∷ []) $ fjoin ! $ move ! (1 ∷ 0 ∷ []) $ fjoin ! $ move ! (1 ∷ 0 ∷ []) $ fjoin ! $ move ! (1 ∷ 0 ∷ []) $ fjoin ! $ move ! (1 ∷ 0 ∷ []) $ fjoin ! $ move ! (1 ∷ 0 ∷ []) $ fjoin ! $ move ! (1 ∷ 0 ∷ []) $ fjoin ! $ frame ! $
       owned ! u32 (Is u32) (uint_Makes 𝓛 w32) res' _ (refl, good') $ done !
@@ -140,7 +140,7 @@ module _ {M : Type 1} {𝓤 : Ura M} (𝓛 : Logic 𝓤) (mem : Memory → SProp
     abbrev fm : FmC 𝓤 H 𝓛.laws 𝓣.C
     fm = fm_of 𝓤 H 𝓛.laws 𝓣
 
-    walk : Fits (parts numbers deques frames) × (length memory ≡ memoryWords) → ent 𝓤 (on_entry 𝓛 f'.signature (κ-numbers, (κ-deques, (κ-frames, (κ-memory, (κ-pool, (κ-work, (κ-target, tt))))))) (q-numbers, (q-deques, (q-frames, (q-memory, (q-pool, (q-work, (q-target, tt))))))) args' vals') (WpFn 𝓤 H 𝓣.C 𝓣.Λ code.function (slice_val (b-numbers, o-numbers) (length numbers) ∷ slice_val (b-deques, o-deques) (length deques) ∷ slice_val (b-frames, o-frames) (length frames) ∷ slice_val (b-memory, o-memory) (length memory) ∷ slice_val (b-pool, o-pool) (length pool) ∷ slice_val (b-work, o-work) (length work) ∷ slice_val (b-target, o-target) (length target) ∷ []) Post)
+    walk : Fits (parts numbers deques frames) × (length memory ≡ memory_words) → ent 𝓤 (on_entry 𝓛 f'.signature (κ-numbers, (κ-deques, (κ-frames, (κ-memory, (κ-pool, (κ-work, (κ-target, tt))))))) (q-numbers, (q-deques, (q-frames, (q-memory, (q-pool, (q-work, (q-target, tt))))))) args' vals') (WpFn 𝓤 H 𝓣.C 𝓣.Λ code.function (slice_val (b-numbers, o-numbers) (length numbers) ∷ slice_val (b-deques, o-deques) (length deques) ∷ slice_val (b-frames, o-frames) (length frames) ∷ slice_val (b-memory, o-memory) (length memory) ∷ slice_val (b-pool, o-pool) (length pool) ∷ slice_val (b-work, o-work) (length work) ∷ slice_val (b-target, o-target) (length target) ∷ []) Post)
     walk ok' =
         qed 𝓛 ((‵ (flft κ-numbers q-numbers) ⊛ ‵ (flft κ-deques q-deques) ⊛ ‵ (flft κ-frames q-frames) ⊛ ‵ (flft κ-memory q-memory) ⊛ ‵ (flft κ-pool q-pool) ⊛ ‵ (flft κ-work q-work) ⊛ ‵ (flft κ-target q-target) ⊛ ‵ ftrue) ∷ ‵ (owns (ShrSlice (named 0) κ-numbers u32 ∷ ShrSlice (named 1) κ-deques u32 ∷ ShrSlice (named 2) κ-frames R-Frame ∷ ShrSlice (named 3) κ-memory u32 ∷ ShrSlice (named 4) κ-pool u32 ∷ MutSlice (named 5) κ-work u32 ∷ MutSlice (named 6) κ-target u8 ∷ []) args' vals') ∷ []) ∵ enter ! 𝓣.C 𝓣.Λ code.function (slice_val (b-numbers, o-numbers) (length numbers) ∷ slice_val (b-deques, o-deques) (length deques) ∷ slice_val (b-frames, o-frames) (length frames) ∷ slice_val (b-memory, o-memory) (length memory) ∷ slice_val (b-pool, o-pool) (length pool) ∷ slice_val (b-work, o-work) (length work) ∷ slice_val (b-target, o-target) (length target) ∷ []) _ $
         alloc1 ! (λ l₀. alloc1 ! (λ l₁. alloc1 ! (λ l₂. alloc1 ! (λ l₃. alloc1 ! (λ l₄. alloc1 ! (λ l₅. alloc1 ! (λ l₆. alloc1 ! (λ l₇. alloc1 ! (λ l₈. alloc1 ! (λ l₉. alloc1 ! (λ l₁₀. alloc1 ! (λ l₁₁. alloc1 ! (λ l₁₂. alloc1 ! (λ l₁₃. alloc1 ! (λ l₁₄. alloc1 ! (λ l₁₅. alloc1 ! (λ l₁₆. alloc1 ! (λ l₁₇. alloc1 ! (λ l₁₈. alloc1 ! (λ l₁₉. alloc0 ! $ params1 ! $
@@ -164,7 +164,7 @@ module _ {M : Type 1} {𝓤 : Ura M} (𝓛 : Logic 𝓤) (mem : Memory → SProp
         (and_then ! (load ! (from ! (stop !)) (look ! 20 refl)) (no_more !)) (λ refused refused-fits refused-is.
         land ! (from ! (stop !)) (init ! 27 refl (tt, record { fits = refused-fits })) $
         assigns ! (bin ! (load ! (from ! (stop !)) (look ! 27 refl)) (const ! _ tt) tt) (from ! (stop !)) (init ! 17 refl (tt, tt)) $
-        leave-if ! (load ! (from ! (stop !)) (look ! 17 refl))
+        leave_if ! (load ! (from ! (stop !)) (look ! 17 refl))
         (λ test-4.
         assigns ! (of_opd ! (load ! (from ! (stop !)) (look ! 27 refl))) (from ! (stop !)) (init ! 45 refl (tt, record { fits = refused-fits })) $
         returns_within ! Post refl (look ! 45 refl) $ forget ! 17 refl $ forget ! 19 refl $ forget ! 21 refl $ forget ! 23 refl $ forget ! 27 refl $ forget ! 29 refl $ forget ! 31 refl $ forget ! 33 refl $ forget ! 35 refl $ forget ! 37 refl $ forget ! 39 refl $ forget ! 41 refl $ forget ! 43 refl $ forget ! 45 refl $
@@ -175,30 +175,30 @@ module _ {M : Type 1} {𝓤 : Ura M} (𝓛 : Logic 𝓤) (mem : Memory → SProp
         assigns ! (agg ! (and_then ! (load ! (from ! (stop !)) (look ! 15 refl)) (and_then ! (load ! (from ! (fld ! refl (stop !))) (look_in ! 31 (sub ! 1 refl (whole !)))) (no_more !)))) (from ! (stop !)) (init ! 13 refl (tt, (tt, (record { fits = room-target.0 }, tt)))) $
         -- _10 = engine::images::target_number(_1, _16)
         move ! (0 ∷ 6 ∷ []) $
-        S-target-number.step-gs mem run ! fm known-target-number b-numbers o-numbers n-numbers numbers b-target o-target n-target target (F.needs-6 numbers deques frames memory pool work target room-numbers.0 room-deques.0 room-frames.0 room-memory.0 room-pool.0 room-work.0 room-target.0 ok' checked work-1 checked-is same-work-1 r-2 r-2-is refused refused-fits refused-is (eqb→eq refused 0 (not-not (eqb refused 0) test-4))) (refl) room-target
+        S-target-number.step-gs mem run ! fm known-target-number b-numbers o-numbers n-numbers numbers b-target o-target n-target target (F.needs-6 numbers deques frames memory pool work target room-numbers.0 room-deques.0 room-frames.0 room-memory.0 room-pool.0 room-work.0 room-target.0 ok' checked work-1 checked-is same-work-1 r-2 r-2-is refused refused-fits refused-is (eqb→eq refused 0 (not_not (eqb refused 0) test-4))) (refl) room-target
         (λ ν-0 δ-0. and_then ! (load ! (from ! (stop !)) (look ! 44 refl)) (and_then ! (load ! (from ! (stop !)) (look ! 14 refl)) (no_more !))) (λ short short-fits short-is.
         land ! (from ! (stop !)) (init ! 25 refl (tt, record { fits = short-fits })) $
         assigns ! (bin ! (load ! (from ! (stop !)) (look ! 25 refl)) (const ! _ tt) tt) (from ! (stop !)) (store ! 17 refl (tt, tt)) $
-        leave-if ! (load ! (from ! (stop !)) (look ! 17 refl))
+        leave_if ! (load ! (from ! (stop !)) (look ! 17 refl))
         (λ test-7.
         assigns ! (of_opd ! (load ! (from ! (stop !)) (look ! 25 refl))) (from ! (stop !)) (init ! 45 refl (tt, record { fits = short-fits })) $
         returns_within ! Post refl (look ! 45 refl) $ forget ! 13 refl $ forget ! 15 refl $ forget ! 17 refl $ forget ! 19 refl $ forget ! 21 refl $ forget ! 23 refl $ forget ! 25 refl $ forget ! 27 refl $ forget ! 29 refl $ forget ! 31 refl $ forget ! 33 refl $ forget ! 35 refl $ forget ! 37 refl $ forget ! 39 refl $ forget ! 41 refl $ forget ! 43 refl $ forget ! 45 refl $
         free_all ! 7 refl $
         move ! (0 ∷ 2 ∷ 3 ∷ 4 ∷ 5 ∷ 6 ∷ 1 ∷ []) $
-        by ! (exits' short work-1 target short-fits (F.out-8 numbers deques frames memory pool work target room-numbers.0 room-deques.0 room-frames.0 room-memory.0 room-pool.0 room-work.0 room-target.0 ok' checked work-1 checked-is same-work-1 r-2 r-2-is refused refused-fits refused-is (eqb→eq refused 0 (not-not (eqb refused 0) test-4)) short short-fits short-is (differ short 0 test-7)) (same-work-1) (refl)))
+        by ! (exits' short work-1 target short-fits (F.out-8 numbers deques frames memory pool work target room-numbers.0 room-deques.0 room-frames.0 room-memory.0 room-pool.0 room-work.0 room-target.0 ok' checked work-1 checked-is same-work-1 r-2 r-2-is refused refused-fits refused-is (eqb→eq refused 0 (not_not (eqb refused 0) test-4)) short short-fits short-is (differ short 0 test-7)) (same-work-1) (refl)))
         (λ test-7.
         assigns ! (addr ! (from ! (fld ! refl (hop ! (look_in ! 31 (sub ! 0 refl (whole !))) (stop !))))) (from ! (stop !)) (init ! 9 refl (tt, tt)) $
         assigns ! (agg ! (and_then ! (load ! (from ! (stop !)) (look ! 9 refl)) (and_then ! (load ! (from ! (fld ! refl (stop !))) (look_in ! 31 (sub ! 1 refl (whole !)))) (no_more !)))) (from ! (stop !)) (init ! 7 refl (tt, (tt, (record { fits = room-target.0 }, tt)))) $
         -- _17 = image::write::write_image(_1, _2, _3, _5, _19)
         move ! (0 ∷ 2 ∷ 3 ∷ 5 ∷ 1 ∷ []) $
-        S-write-image.step-gggg mem run ! fm known-write-image b-numbers o-numbers n-numbers numbers b-deques o-deques n-deques deques b-frames o-frames n-frames frames b-pool o-pool n-pool pool b-target o-target n-target target (F.needs-9 numbers deques frames memory pool work target room-numbers.0 room-deques.0 room-frames.0 room-memory.0 room-pool.0 room-work.0 room-target.0 ok' checked work-1 checked-is same-work-1 r-2 r-2-is refused refused-fits refused-is (eqb→eq refused 0 (not-not (eqb refused 0) test-4)) short short-fits short-is (eqb→eq short 0 (not-not (eqb short 0) test-7))) (refl) room-target
+        S-write-image.step-gggg mem run ! fm known-write-image b-numbers o-numbers n-numbers numbers b-deques o-deques n-deques deques b-frames o-frames n-frames frames b-pool o-pool n-pool pool b-target o-target n-target target (F.needs-9 numbers deques frames memory pool work target room-numbers.0 room-deques.0 room-frames.0 room-memory.0 room-pool.0 room-work.0 room-target.0 ok' checked work-1 checked-is same-work-1 r-2 r-2-is refused refused-fits refused-is (eqb→eq refused 0 (not_not (eqb refused 0) test-4)) short short-fits short-is (eqb→eq short 0 (not_not (eqb short 0) test-7))) (refl) room-target
         (λ ν-0 δ-0. and_then ! (load ! (from ! (stop !)) (look ! 44 refl)) (and_then ! (load ! (from ! (stop !)) (look ! 42 refl)) (and_then ! (load ! (from ! (stop !)) (look ! 40 refl)) (and_then ! (load ! (from ! (stop !)) (look ! 36 refl)) (and_then ! (load ! (from ! (stop !)) (look ! 8 refl)) (no_more !)))))) (λ target-9 done-9 same-target-9.
         land ! (from ! (stop !)) (init ! 11 refl (tt, tt)) $
         assigns ! (of_opd ! (const ! _ tt)) (from ! (stop !)) (init ! 45 refl (tt, record { fits = (lit< tt) })) $
         returns_within ! Post refl (look ! 45 refl) $ forget ! 7 refl $ forget ! 9 refl $ forget ! 11 refl $ forget ! 13 refl $ forget ! 15 refl $ forget ! 17 refl $ forget ! 19 refl $ forget ! 21 refl $ forget ! 23 refl $ forget ! 25 refl $ forget ! 27 refl $ forget ! 29 refl $ forget ! 31 refl $ forget ! 33 refl $ forget ! 35 refl $ forget ! 37 refl $ forget ! 39 refl $ forget ! 41 refl $ forget ! 43 refl $ forget ! 45 refl $
         free_all ! 7 refl $
         move ! (0 ∷ 1 ∷ 2 ∷ 5 ∷ 3 ∷ 6 ∷ 4 ∷ []) $
-        by ! (exits' 0 work-1 target-9 (lit< tt) (F.out-10 numbers deques frames memory pool work target room-numbers.0 room-deques.0 room-frames.0 room-memory.0 room-pool.0 room-work.0 room-target.0 ok' checked work-1 checked-is same-work-1 r-2 r-2-is refused refused-fits refused-is (eqb→eq refused 0 (not-not (eqb refused 0) test-4)) short short-fits short-is (eqb→eq short 0 (not-not (eqb short 0) test-7)) target-9 done-9 same-target-9) (same-work-1) (same-target-9)))))))))))))))))))))))))))))
+        by ! (exits' 0 work-1 target-9 (lit< tt) (F.out-10 numbers deques frames memory pool work target room-numbers.0 room-deques.0 room-frames.0 room-memory.0 room-pool.0 room-work.0 room-target.0 ok' checked work-1 checked-is same-work-1 r-2 r-2-is refused refused-fits refused-is (eqb→eq refused 0 (not_not (eqb refused 0) test-4)) short short-fits short-is (eqb→eq short 0 (not_not (eqb short 0) test-7)) target-9 done-9 same-target-9) (same-work-1) (same-target-9)))))))))))))))))))))))))))))
 
 module _ {M : Type 1} {𝓤 : Ura M} (𝓛 : Logic 𝓤) (mem : Memory → SProp 𝓤) (run : Routine → Fun 𝓤) (𝓣 : Tables 𝓤 𝓛.H) where
   open 𝓛 use {H}
@@ -207,7 +207,7 @@ module _ {M : Type 1} {𝓤 : Ura M} (𝓛 : Logic 𝓤) (mem : Memory → SProp
   walks known-check-parts known-check-leaves known-check-number known-target-number known-write-image = walked 𝓛 f'.ended stayed (f'.clauses 𝓛 mem run) (WpFn 𝓤 H 𝓣.C 𝓣.Λ code.function)
       (λ κs. (shr_slice_vals, (shr_slice_vals, (shr_slice_vals, (shr_slice_vals, (shr_slice_vals, (shr_slice_vals, (shr_slice_vals, tt))))))))
       (λ κs. (shr_slice_Tells (named 0) κs.0 u32, (shr_slice_Tells (named 1) κs.1.0 u32, (shr_slice_Tells (named 2) κs.1.1.0 R-Frame, (shr_slice_Tells (named 3) κs.1.1.1.0 u32, (shr_slice_Tells (named 4) κs.1.1.1.1.0 u32, (mut_slice_Tells (named 5) κs.1.1.1.1.1.0 u32, (mut_slice_Tells (named 6) κs.1.1.1.1.1.1.0 u8, tt))))))))
-      (λ κs qs bounds a g are. needs 𝓤 (Fits (parts a.0.now a.1.0.now a.1.1.0.now) × (length a.1.1.1.0.now ≡ memoryWords)) _
+      (λ κs qs bounds a g are. needs 𝓤 (Fits (parts a.0.now a.1.0.now a.1.1.0.now) × (length a.1.1.1.0.now ≡ memory_words)) _
       (walk 𝓛 mem run κs.0 qs.0 a.0.ref_ptr.0 a.0.ref_ptr.1 a.0.ghost_name a.0.now κs.1.0 qs.1.0 a.1.0.ref_ptr.0 a.1.0.ref_ptr.1 a.1.0.ghost_name a.1.0.now κs.1.1.0 qs.1.1.0 a.1.1.0.ref_ptr.0 a.1.1.0.ref_ptr.1 a.1.1.0.ghost_name a.1.1.0.now κs.1.1.1.0 qs.1.1.1.0 a.1.1.1.0.ref_ptr.0 a.1.1.1.0.ref_ptr.1 a.1.1.1.0.ghost_name a.1.1.1.0.now κs.1.1.1.1.0 qs.1.1.1.1.0 a.1.1.1.1.0.ref_ptr.0 a.1.1.1.1.0.ref_ptr.1 a.1.1.1.1.0.ghost_name a.1.1.1.1.0.now κs.1.1.1.1.1.0 qs.1.1.1.1.1.0 a.1.1.1.1.1.0.ref_ptr.0 a.1.1.1.1.1.0.ref_ptr.1 a.1.1.1.1.1.0.ghost_name a.1.1.1.1.1.0.now κs.1.1.1.1.1.1.0 qs.1.1.1.1.1.1.0 a.1.1.1.1.1.1.0.ref_ptr.0 a.1.1.1.1.1.1.0.ref_ptr.1 a.1.1.1.1.1.1.0.ghost_name a.1.1.1.1.1.1.0.now are.0.0.1 are.1.0.0.1 are.1.1.0.0.1 are.1.1.1.0.0.1 are.1.1.1.1.0.0.1 are.1.1.1.1.1.0.0.1 are.1.1.1.1.1.1.0.0.1 𝓣 known-check-parts known-check-leaves known-check-number known-target-number known-write-image))
 
   meets : Triple 𝓤 (𝓣.C #check-parts) (S-check-parts.Asked 𝓛 mem run) → Triple 𝓤 (𝓣.C #check-leaves) (S-check-leaves.Asked 𝓛 mem run) → Triple 𝓤 (𝓣.C #check-number) (S-check-number.Asked 𝓛 mem run) → Triple 𝓤 (𝓣.C #target-number) (S-target-number.Asked 𝓛 mem run) → Triple 𝓤 (𝓣.C #write-image) (S-write-image.Asked 𝓛 mem run) → Meets 𝓛 f'.signature (WpFn 𝓤 H 𝓣.C 𝓣.Λ code.function) (f'.spec 𝓛 mem run)

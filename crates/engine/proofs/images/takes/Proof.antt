@@ -4,7 +4,7 @@ use Rattle.engine.proofs.images.takes.Statement.{statement}
 use Rattle.engine.proofs.images.takes.Tie as tie
 
 returns : tie.Need-returns
-returns c = rw (c.nodes-in.ensures, c.before.places-in.ensures)
+returns c = rw (c.nodes-in.ensures, c.before.places_in_lem.ensures)
 
 pub takes-spec : {M : Type 1} → statement M
 takes-spec =

@@ -39,10 +39,10 @@ use denote.Triple.Statement.{Triple}
 use denote.Triple.Table.{entered, cited}
 use denote.Triple.Walked.{says, needs, Stays, stay_slice, stay_none, stay_none_slice, walk_of, Walks, ends_at, walked, Goes-slice, Goes-none, Goes-none_slice, walk_Meets}
 use borrow.Author.Rules.{scaled_Fits}
-use Rattle.frames.proofs.Lent.{at-list, Mine, Yours, ty_at, exit-unless, exit-if, leave-if, fork, skipped, regroup, matched, matched-last, const, is_true, is_false, not-not, differ, widen, less-fits, after, turn-of, take_out, put_in, put_back, look-out, look-back, free_all}
+use Rattle.frames.proofs.Lent.{at_list, Mine, Yours, ty_at, exit_unless, exit_if, leave_if, fork, skipped, regroup, matched, matched_last, const, is_true, is_false, not_not, differ, widen, less_fits, after, turn_of_lem, take_out, put_in, put_back, look_out, look_back, free_all}
 use Rattle.model.specs.declared.Step.TheVariants.{Fold}
 use Rattle.semantics.specs.Ranges.{Ready}
-use Rattle.engine.specs.Promises.{core, LeavesOthers, kindOn, ActsAt}
+use Rattle.engine.specs.Promises.{core, LeavesOthers, kind_on, ActsAt}
 use Rattle.engine.proofs.Called.no_reducer as S-no-reducer
 use Rattle.engine.proofs.kinds.no_reducer.Symbol as D-no-reducer
 use Rattle.engine.proofs.kinds.no_reducer.Symbol.{name as #no-reducer}
@@ -105,7 +105,7 @@ module _ {M : Type 1} {𝓤 : Ura M} (𝓛 : Logic 𝓤) (mem : Memory → SProp
   n-pool = length pool
 
   abbrev args' : Head × (MutBor (List ℕ) × (MutBor (List Frame) × (MutBor (List ℕ) × (ℕ × (ℕ × (ℕ × (ℕ × (ℕ × Unit {0}))))))))
-  args' = (h, (at-list b-deques o-deques γ-deques deques, (at-list b-frames o-frames γ-frames frames, (at-list b-pool o-pool γ-pool pool, (w, (n, (p, (reducer, (v, tt)))))))))
+  args' = (h, (at_list b-deques o-deques γ-deques deques, (at_list b-frames o-frames γ-frames frames, (at_list b-pool o-pool γ-pool pool, (w, (n, (p, (reducer, (v, tt)))))))))
 
   abbrev vals' : Vals f'.signature (κ-deques, (κ-frames, (κ-pool, tt)))
   vals' = (val-Head h ∷ [], (slice_val (b-deques, o-deques) (length deques) ∷ [], (slice_val (b-frames, o-frames) (length frames) ∷ [], (slice_val (b-pool, o-pool) (length pool) ∷ [], (vint w32 w ∷ [], (vint w32 n ∷ [], (vint w32 p ∷ [], (vint w32 reducer ∷ [], (vint w32 v ∷ [], tt)))))))))
@@ -116,7 +116,7 @@ module _ {M : Type 1} {𝓤 : Ura M} (𝓛 : Logic 𝓤) (mem : Memory → SProp
   abbrev Post : Val → SProp 𝓤
   Post = (walk_of 𝓛 f'.ended stayed (f'.clauses 𝓛 mem run)).post bound'
 
-  exits' : (res' : Out) (zs-deques : List ℕ) (zs-frames : List Frame) (zs-pool : List ℕ) → Is R-Out res' (val-Out res' ∷ []) → LeavesOthers h res' deques frames pool zs-deques zs-frames zs-pool (λ c. kindOn c (Fold w reducer v)) → length zs-deques ≡ length deques → length zs-frames ≡ length frames → length zs-pool ≡ length pool → ent 𝓤 (⋆ 𝓛 (‵ (Mine u32 κ-deques q-deques γ-deques b-deques o-deques n-deques zs-deques) ∷ ‵ (Mine R-Frame κ-frames q-frames γ-frames b-frames o-frames n-frames zs-frames) ∷ ‵ (Mine u32 κ-pool q-pool γ-pool b-pool o-pool n-pool zs-pool) ∷ [])) (Post (val-Out res'))
+  exits' : (res' : Out) (zs-deques : List ℕ) (zs-frames : List Frame) (zs-pool : List ℕ) → Is R-Out res' (val-Out res' ∷ []) → LeavesOthers h res' deques frames pool zs-deques zs-frames zs-pool (λ c. kind_on c (Fold w reducer v)) → length zs-deques ≡ length deques → length zs-frames ≡ length frames → length zs-pool ≡ length pool → ent 𝓤 (⋆ 𝓛 (‵ (Mine u32 κ-deques q-deques γ-deques b-deques o-deques n-deques zs-deques) ∷ ‵ (Mine R-Frame κ-frames q-frames γ-frames b-frames o-frames n-frames zs-frames) ∷ ‵ (Mine u32 κ-pool q-pool γ-pool b-pool o-pool n-pool zs-pool) ∷ [])) (Post (val-Out res'))
   exits' res' zs-deques zs-frames zs-pool good' e' same-deques same-frames same-pool =
       qed 𝓛 (‵ (Mine u32 κ-deques q-deques γ-deques b-deques o-deques n-deques zs-deques) ∷ ‵ (Mine R-Frame κ-frames q-frames γ-frames b-frames o-frames n-frames zs-frames) ∷ ‵ (Mine u32 κ-pool q-pool γ-pool b-pool o-pool n-pool zs-pool) ∷ []) ∵
       suffices ! _ (ends_at 𝓛 f'.ended stayed (f'.clauses 𝓛 mem run) bound' (val-Out res') res' (tt, (zs-deques, (zs-frames, (zs-pool, (tt, (tt, (tt, (tt, (tt, tt))))))))) (tt, (same-deques, (same-frames, (same-pool, (tt, (tt, (tt, (tt, (tt, tt)))))))))) $ says ! e' $
@@ -136,7 +136,7 @@ module _ {M : Type 1} {𝓤 : Ura M} (𝓛 : Logic 𝓤) (mem : Memory → SProp
         move ! (29 ∷ []) $ fsplit ! $ drop ! $ fsplit ! $ move ! (1 ∷ []) $ fsplit ! $ move ! (1 ∷ []) $ fsplit ! $ move ! (1 ∷ []) $ fsplit ! $ drop ! $ fsplit ! $ drop ! $ fsplit ! $ drop ! $ fsplit ! $ drop ! $ fsplit ! $ drop ! $ drop ! $ move ! (31 ∷ []) $ split ! $ move ! (1 ∷ []) $ split ! $ move ! (1 ∷ []) $ split ! $ move ! (1 ∷ []) $ drop ! $ move ! (3 ∷ 0 ∷ []) $ fjoin ! $ move ! (3 ∷ 1 ∷ []) $ fjoin ! $ move ! (3 ∷ 2 ∷ []) $ fjoin ! $
         -- [deques; frames; pool; the locals]
         assigns ! (bin ! (const ! _ tt) (load ! (from ! (stop !)) (look ! 13 refl)) tt) (from ! (stop !)) (init ! 9 refl (tt, tt)) $
-        leave-if ! (load ! (from ! (stop !)) (look ! 9 refl))
+        leave_if ! (load ! (from ! (stop !)) (look ! 9 refl))
         (λ test-1.
         -- _0 = engine::kinds::no_reducer(_1)
         S-no-reducer.step mem run ! fm known-no-reducer h h-good
@@ -183,6 +183,6 @@ fold-in-spec 𝓤 𝓛 𝓜 𝓡 =
     entered 𝓤 𝓛.H (triple_of 𝓛 f'.signature (f'.spec 𝓛 𝓜.mem 𝓡.run))
     (tables 𝓤 𝓛.H 𝓜 𝓡 code.env).C (tables 𝓤 𝓛.H 𝓜 𝓡 code.env).Λ #own code.function (code.unfolded 𝓤 𝓛.H 𝓜 𝓡)
     (meets 𝓛 𝓜.mem 𝓡.run (tables_of 𝓤 𝓛.H 𝓜 (tables 𝓤 𝓛.H 𝓜 𝓡 code.env))
-    (cited 𝓤 𝓛.H (S-no-reducer.Asked 𝓛 𝓜.mem 𝓡.run) 𝓜 𝓡 code.env #no-reducer D-no-reducer.routine code.calls-engine::kinds::no-reducer (T-no-reducer.met 𝓤 𝓛 𝓜 𝓡))
+    (cited 𝓤 𝓛.H (S-no-reducer.Asked 𝓛 𝓜.mem 𝓡.run) 𝓜 𝓡 code.env #no-reducer D-no-reducer.routine code.calls-engine::kinds::no_reducer (T-no-reducer.met 𝓤 𝓛 𝓜 𝓡))
     (cited 𝓤 𝓛.H (S-fold-at.Asked 𝓛 𝓜.mem 𝓡.run) 𝓜 𝓡 code.env #fold-at D-fold-at.routine code.calls-frames::fold-at (T-fold-at.met 𝓤 𝓛 𝓜 𝓡))
     (cited 𝓤 𝓛.H (S-unchanged.Asked 𝓛 𝓜.mem 𝓡.run) 𝓜 𝓡 code.env #unchanged D-unchanged.routine code.calls-engine::kinds::unchanged (T-unchanged.met 𝓤 𝓛 𝓜 𝓡)))

@@ -39,9 +39,9 @@ use denote.Triple.Statement.{Triple}
 use denote.Triple.Table.{entered, cited}
 use denote.Triple.Walked.{says, needs, Stays, stay_slice, stay_none, stay_none_slice, walk_of, Walks, ends_at, walked, Goes-slice, Goes-none, Goes-none_slice, walk_Meets}
 use borrow.Author.Rules.{scaled_Fits}
-use Rattle.frames.proofs.Lent.{at-list, Mine, Yours, ty_at, exit-unless, exit-if, leave-if, fork, skipped, regroup, matched, matched-last, const, is_true, is_false, not-not, differ, widen, less-fits, after, turn-of, take_out, put_in, put_back, look-out, look-back, free_all}
+use Rattle.frames.proofs.Lent.{at_list, Mine, Yours, ty_at, exit_unless, exit_if, leave_if, fork, skipped, regroup, matched, matched_last, const, is_true, is_false, not_not, differ, widen, less_fits, after, turn_of_lem, take_out, put_in, put_back, look_out, look_back, free_all}
 use Rattle.model.specs.declared.Step.TheVariants.{Read}
-use Rattle.semantics.specs.Core.{stepOn}
+use Rattle.semantics.specs.Core.{step_on}
 use Rattle.semantics.specs.Ranges.{Ready, Recalls}
 use Rattle.engine.specs.Promises.{core, LeavesVisited}
 use Rattle.soundness.specs.Layout.{two_words}
@@ -132,7 +132,7 @@ module _ {M : Type 1} {𝓤 : Ura M} (𝓛 : Logic 𝓤) (mem : Memory → SProp
   n-memory = length memory
 
   abbrev args' : Head × (MutBor (List ℕ) × (MutBor (List Frame) × (MutBor (List ℕ) × (MutBor (List ℕ) × (ℕ × (ℕ × Unit {0}))))))
-  args' = (h, (at-list b-deques o-deques γ-deques deques, (at-list b-frames o-frames γ-frames frames, (at-list b-pool o-pool γ-pool pool, (at-list b-memory o-memory γ-memory memory, (w, (x, tt)))))))
+  args' = (h, (at_list b-deques o-deques γ-deques deques, (at_list b-frames o-frames γ-frames frames, (at_list b-pool o-pool γ-pool pool, (at_list b-memory o-memory γ-memory memory, (w, (x, tt)))))))
 
   abbrev vals' : Vals f'.signature (κ-deques, (κ-frames, (κ-pool, (κ-memory, tt))))
   vals' = (val-Head h ∷ [], (slice_val (b-deques, o-deques) (length deques) ∷ [], (slice_val (b-frames, o-frames) (length frames) ∷ [], (slice_val (b-pool, o-pool) (length pool) ∷ [], (slice_val (b-memory, o-memory) (length memory) ∷ [], (vint w32 w ∷ [], (vint w32 x ∷ [], tt)))))))
@@ -143,7 +143,7 @@ module _ {M : Type 1} {𝓤 : Ura M} (𝓛 : Logic 𝓤) (mem : Memory → SProp
   abbrev Post : Val → SProp 𝓤
   Post = (walk_of 𝓛 f'.ended stayed (f'.clauses 𝓛 mem run)).post bound'
 
-  exits' : (res' : Visited) (zs-deques : List ℕ) (zs-frames : List Frame) (zs-pool : List ℕ) (zs-memory : List ℕ) → Is R-Visited res' (val-Visited res' ∷ []) → LeavesVisited (stepOn two_words) (Read w x) h res' deques frames pool memory zs-deques zs-frames zs-pool zs-memory → length zs-deques ≡ length deques → length zs-frames ≡ length frames → length zs-pool ≡ length pool → length zs-memory ≡ length memory → ent 𝓤 (⋆ 𝓛 (‵ (Mine u32 κ-deques q-deques γ-deques b-deques o-deques n-deques zs-deques) ∷ ‵ (Mine R-Frame κ-frames q-frames γ-frames b-frames o-frames n-frames zs-frames) ∷ ‵ (Mine u32 κ-pool q-pool γ-pool b-pool o-pool n-pool zs-pool) ∷ ‵ (Mine u32 κ-memory q-memory γ-memory b-memory o-memory n-memory zs-memory) ∷ [])) (Post (val-Visited res'))
+  exits' : (res' : Visited) (zs-deques : List ℕ) (zs-frames : List Frame) (zs-pool : List ℕ) (zs-memory : List ℕ) → Is R-Visited res' (val-Visited res' ∷ []) → LeavesVisited (step_on two_words) (Read w x) h res' deques frames pool memory zs-deques zs-frames zs-pool zs-memory → length zs-deques ≡ length deques → length zs-frames ≡ length frames → length zs-pool ≡ length pool → length zs-memory ≡ length memory → ent 𝓤 (⋆ 𝓛 (‵ (Mine u32 κ-deques q-deques γ-deques b-deques o-deques n-deques zs-deques) ∷ ‵ (Mine R-Frame κ-frames q-frames γ-frames b-frames o-frames n-frames zs-frames) ∷ ‵ (Mine u32 κ-pool q-pool γ-pool b-pool o-pool n-pool zs-pool) ∷ ‵ (Mine u32 κ-memory q-memory γ-memory b-memory o-memory n-memory zs-memory) ∷ [])) (Post (val-Visited res'))
   exits' res' zs-deques zs-frames zs-pool zs-memory good' e' same-deques same-frames same-pool same_memory =
       qed 𝓛 (‵ (Mine u32 κ-deques q-deques γ-deques b-deques o-deques n-deques zs-deques) ∷ ‵ (Mine R-Frame κ-frames q-frames γ-frames b-frames o-frames n-frames zs-frames) ∷ ‵ (Mine u32 κ-pool q-pool γ-pool b-pool o-pool n-pool zs-pool) ∷ ‵ (Mine u32 κ-memory q-memory γ-memory b-memory o-memory n-memory zs-memory) ∷ []) ∵
       suffices ! _ (ends_at 𝓛 f'.ended stayed (f'.clauses 𝓛 mem run) bound' (val-Visited res') res' (tt, (zs-deques, (zs-frames, (zs-pool, (zs-memory, (tt, (tt, tt))))))) (tt, (same-deques, (same-frames, (same-pool, (same_memory, (tt, (tt, tt)))))))) $ says ! e' $
@@ -169,7 +169,7 @@ module _ {M : Type 1} {𝓤 : Ura M} (𝓛 : Logic 𝓤) (mem : Memory → SProp
         (λ ν-0 δ-0. and_then ! (load ! (from ! (stop !)) (look ! 43 refl)) (and_then ! (load ! (from ! (stop !)) (look ! 25 refl)) (and_then ! (load ! (from ! (stop !)) (look ! 33 refl)) (no_more !)))) (λ a a-good a-is.
         land ! (from ! (stop !)) (init ! 28 refl ((LL.lawful M-Acting.the_type L-Acting.the_laws 𝓛).typed a _ a-good).0) $
         assigns ! (of_opd ! (load ! (from ! (fld ! refl (stop !))) (look_in ! 28 (sub ! 0 refl (whole !))))) (from ! (stop !)) (init ! 22 refl (tt, tt)) $
-        leave-if ! (load ! (from ! (stop !)) (look ! 22 refl))
+        leave_if ! (load ! (from ! (stop !)) (look ! 22 refl))
         (λ test-2.
         -- _12 = engine::kinds::refused_by(_1, _8.1)
         S-refused-by.step mem run ! fm known-refused-by h a.refusal h-good (LL.owed M-Acting.the_type L-Acting.the_laws a _ a-good).1.0.1
@@ -221,6 +221,6 @@ step-read-spec 𝓤 𝓛 𝓜 𝓡 =
     (tables 𝓤 𝓛.H 𝓜 𝓡 code.env).C (tables 𝓤 𝓛.H 𝓜 𝓡 code.env).Λ #own code.function (code.unfolded 𝓤 𝓛.H 𝓜 𝓡)
     (meets 𝓛 𝓜.mem 𝓡.run (tables_of 𝓤 𝓛.H 𝓜 (tables 𝓤 𝓛.H 𝓜 𝓡 code.env))
     (cited 𝓤 𝓛.H (S-acting.Asked 𝓛 𝓜.mem 𝓡.run) 𝓜 𝓡 code.env #acting D-acting.routine code.calls-engine::refusals::acting (T-acting.met 𝓤 𝓛 𝓜 𝓡))
-    (cited 𝓤 𝓛.H (S-refused-by.Asked 𝓛 𝓜.mem 𝓡.run) 𝓜 𝓡 code.env #refused-by D-refused-by.routine code.calls-engine::kinds::refused-by (T-refused-by.met 𝓤 𝓛 𝓜 𝓡))
+    (cited 𝓤 𝓛.H (S-refused-by.Asked 𝓛 𝓜.mem 𝓡.run) 𝓜 𝓡 code.env #refused-by D-refused-by.routine code.calls-engine::kinds::refused_by_lem (T-refused-by.met 𝓤 𝓛 𝓜 𝓡))
     (cited 𝓤 𝓛.H (S-visited.Asked 𝓛 𝓜.mem 𝓡.run) 𝓜 𝓡 code.env #visited D-visited.routine code.calls-engine::kinds::visited (T-visited.met 𝓤 𝓛 𝓜 𝓡))
     (cited 𝓤 𝓛.H (S-value-at.Asked 𝓛 𝓜.mem 𝓡.run) 𝓜 𝓡 code.env #value-at D-value-at.routine code.calls-engine::kinds::value-at (T-value-at.met 𝓤 𝓛 𝓜 𝓡)))

@@ -39,9 +39,9 @@ use denote.Triple.Statement.{Triple}
 use denote.Triple.Table.{entered, cited}
 use denote.Triple.Walked.{says, needs, Stays, stay_slice, stay_none, stay_none_slice, walk_of, Walks, ends_at, walked, Goes-slice, Goes-none, Goes-none_slice, walk_Meets}
 use borrow.Author.Rules.{scaled_Fits}
-use Rattle.frames.proofs.Lent.{at-list, Mine, Yours, ty_at, exit-unless, exit-if, leave-if, fork, skipped, regroup, matched, matched-last, const, is_true, is_false, not-not, differ, widen, less-fits, after, turn-of, take_out, put_in, put_back, look-out, look-back, free_all}
+use Rattle.frames.proofs.Lent.{at_list, Mine, Yours, ty_at, exit_unless, exit_if, leave_if, fork, skipped, regroup, matched, matched_last, const, is_true, is_false, not_not, differ, widen, less_fits, after, turn_of_lem, take_out, put_in, put_back, look_out, look_back, free_all}
 use Rattle.model.specs.declared.Step.TheVariants.{Spawn}
-use Rattle.semantics.specs.Core.{stepOn}
+use Rattle.semantics.specs.Core.{step_on}
 use Rattle.semantics.specs.Ranges.{Ready}
 use Rattle.engine.specs.Promises.{core, LeavesOthers}
 use Rattle.soundness.specs.Layout.{two_words}
@@ -116,7 +116,7 @@ module _ {M : Type 1} {𝓤 : Ura M} (𝓛 : Logic 𝓤) (mem : Memory → SProp
   n-pool = length pool
 
   abbrev args' : Head × (MutBor (List ℕ) × (MutBor (List Frame) × (MutBor (List ℕ) × (ℕ × Unit {0}))))
-  args' = (h, (at-list b-deques o-deques γ-deques deques, (at-list b-frames o-frames γ-frames frames, (at-list b-pool o-pool γ-pool pool, (w, tt)))))
+  args' = (h, (at_list b-deques o-deques γ-deques deques, (at_list b-frames o-frames γ-frames frames, (at_list b-pool o-pool γ-pool pool, (w, tt)))))
 
   abbrev vals' : Vals f'.signature (κ-deques, (κ-frames, (κ-pool, tt)))
   vals' = (val-Head h ∷ [], (slice_val (b-deques, o-deques) (length deques) ∷ [], (slice_val (b-frames, o-frames) (length frames) ∷ [], (slice_val (b-pool, o-pool) (length pool) ∷ [], (vint w32 w ∷ [], tt)))))
@@ -127,7 +127,7 @@ module _ {M : Type 1} {𝓤 : Ura M} (𝓛 : Logic 𝓤) (mem : Memory → SProp
   abbrev Post : Val → SProp 𝓤
   Post = (walk_of 𝓛 f'.ended stayed (f'.clauses 𝓛 mem run)).post bound'
 
-  exits' : (res' : Out) (zs-deques : List ℕ) (zs-frames : List Frame) (zs-pool : List ℕ) → Is R-Out res' (val-Out res' ∷ []) → LeavesOthers h res' deques frames pool zs-deques zs-frames zs-pool (λ c. stepOn two_words c (Spawn w)) → length zs-deques ≡ length deques → length zs-frames ≡ length frames → length zs-pool ≡ length pool → ent 𝓤 (⋆ 𝓛 (‵ (Mine u32 κ-deques q-deques γ-deques b-deques o-deques n-deques zs-deques) ∷ ‵ (Mine R-Frame κ-frames q-frames γ-frames b-frames o-frames n-frames zs-frames) ∷ ‵ (Mine u32 κ-pool q-pool γ-pool b-pool o-pool n-pool zs-pool) ∷ [])) (Post (val-Out res'))
+  exits' : (res' : Out) (zs-deques : List ℕ) (zs-frames : List Frame) (zs-pool : List ℕ) → Is R-Out res' (val-Out res' ∷ []) → LeavesOthers h res' deques frames pool zs-deques zs-frames zs-pool (λ c. step_on two_words c (Spawn w)) → length zs-deques ≡ length deques → length zs-frames ≡ length frames → length zs-pool ≡ length pool → ent 𝓤 (⋆ 𝓛 (‵ (Mine u32 κ-deques q-deques γ-deques b-deques o-deques n-deques zs-deques) ∷ ‵ (Mine R-Frame κ-frames q-frames γ-frames b-frames o-frames n-frames zs-frames) ∷ ‵ (Mine u32 κ-pool q-pool γ-pool b-pool o-pool n-pool zs-pool) ∷ [])) (Post (val-Out res'))
   exits' res' zs-deques zs-frames zs-pool good' e' same-deques same-frames same-pool =
       qed 𝓛 (‵ (Mine u32 κ-deques q-deques γ-deques b-deques o-deques n-deques zs-deques) ∷ ‵ (Mine R-Frame κ-frames q-frames γ-frames b-frames o-frames n-frames zs-frames) ∷ ‵ (Mine u32 κ-pool q-pool γ-pool b-pool o-pool n-pool zs-pool) ∷ []) ∵
       suffices ! _ (ends_at 𝓛 f'.ended stayed (f'.clauses 𝓛 mem run) bound' (val-Out res') res' (tt, (zs-deques, (zs-frames, (zs-pool, (tt, tt))))) (tt, (same-deques, (same-frames, (same-pool, (tt, tt)))))) $ says ! e' $
@@ -153,7 +153,7 @@ module _ {M : Type 1} {𝓤 : Ura M} (𝓛 : Logic 𝓤) (mem : Memory → SProp
         (λ ν-0 δ-0. and_then ! (load ! (from ! (stop !)) (look ! 32 refl)) (and_then ! (load ! (from ! (stop !)) (look ! 18 refl)) (and_then ! (load ! (from ! (stop !)) (look ! 24 refl)) (no_more !)))) (λ a a-good a-is.
         land ! (from ! (stop !)) (init ! 21 refl ((LL.lawful M-Acting.the_type L-Acting.the_laws 𝓛).typed a _ a-good).0) $
         assigns ! (of_opd ! (load ! (from ! (fld ! refl (stop !))) (look_in ! 21 (sub ! 0 refl (whole !))))) (from ! (stop !)) (init ! 15 refl (tt, tt)) $
-        leave-if ! (load ! (from ! (stop !)) (look ! 15 refl))
+        leave_if ! (load ! (from ! (stop !)) (look ! 15 refl))
         (λ test-2.
         -- _0 = engine::kinds::refused_by(_1, _6.1)
         S-refused-by.step mem run ! fm known-refused-by h a.refusal h-good (LL.owed M-Acting.the_type L-Acting.the_laws a _ a-good).1.0.1
@@ -199,5 +199,5 @@ step-spawn-spec 𝓤 𝓛 𝓜 𝓡 =
     (tables 𝓤 𝓛.H 𝓜 𝓡 code.env).C (tables 𝓤 𝓛.H 𝓜 𝓡 code.env).Λ #own code.function (code.unfolded 𝓤 𝓛.H 𝓜 𝓡)
     (meets 𝓛 𝓜.mem 𝓡.run (tables_of 𝓤 𝓛.H 𝓜 (tables 𝓤 𝓛.H 𝓜 𝓡 code.env))
     (cited 𝓤 𝓛.H (S-acting.Asked 𝓛 𝓜.mem 𝓡.run) 𝓜 𝓡 code.env #acting D-acting.routine code.calls-engine::refusals::acting (T-acting.met 𝓤 𝓛 𝓜 𝓡))
-    (cited 𝓤 𝓛.H (S-refused-by.Asked 𝓛 𝓜.mem 𝓡.run) 𝓜 𝓡 code.env #refused-by D-refused-by.routine code.calls-engine::kinds::refused-by (T-refused-by.met 𝓤 𝓛 𝓜 𝓡))
-    (cited 𝓤 𝓛.H (S-spawn-at.Asked 𝓛 𝓜.mem 𝓡.run) 𝓜 𝓡 code.env #spawn-at D-spawn-at.routine code.calls-engine::kinds::spawn-at (T-spawn-at.met 𝓤 𝓛 𝓜 𝓡)))
+    (cited 𝓤 𝓛.H (S-refused-by.Asked 𝓛 𝓜.mem 𝓡.run) 𝓜 𝓡 code.env #refused-by D-refused-by.routine code.calls-engine::kinds::refused_by_lem (T-refused-by.met 𝓤 𝓛 𝓜 𝓡))
+    (cited 𝓤 𝓛.H (S-spawn-at.Asked 𝓛 𝓜.mem 𝓡.run) 𝓜 𝓡 code.env #spawn-at D-spawn-at.routine code.calls-engine::kinds::spawn_at (T-spawn-at.met 𝓤 𝓛 𝓜 𝓡)))

@@ -39,9 +39,9 @@ use denote.Triple.Statement.{Triple}
 use denote.Triple.Table.{entered, cited}
 use denote.Triple.Walked.{says, needs, Stays, stay_slice, stay_none, stay_none_slice, walk_of, Walks, ends_at, walked, Goes-slice, Goes-none, Goes-none_slice, walk_Meets}
 use borrow.Author.Rules.{scaled_Fits}
-use Rattle.frames.proofs.Lent.{at-list, Mine, Yours, ty_at, exit-unless, exit-if, leave-if, fork, skipped, regroup, matched, matched-last, const, is_true, is_false, not-not, differ, widen, less-fits, after, turn-of, take_out, put_in, put_back, look-out, look-back, free_all}
+use Rattle.frames.proofs.Lent.{at_list, Mine, Yours, ty_at, exit_unless, exit_if, leave_if, fork, skipped, regroup, matched, matched_last, const, is_true, is_false, not_not, differ, widen, less_fits, after, turn_of_lem, take_out, put_in, put_back, look_out, look_back, free_all}
 use Rattle.model.specs.declared.Step.TheVariants.{Steal}
-use Rattle.semantics.specs.Core.{stepOn}
+use Rattle.semantics.specs.Core.{step_on}
 use Rattle.semantics.specs.Ranges.{Ready}
 use Rattle.engine.specs.Promises.{core, LeavesOthers}
 use Rattle.soundness.specs.Layout.{two_words}
@@ -128,7 +128,7 @@ module _ {M : Type 1} {𝓤 : Ura M} (𝓛 : Logic 𝓤) (mem : Memory → SProp
   n-pool = length pool
 
   abbrev args' : Head × (MutBor (List ℕ) × (MutBor (List Frame) × (MutBor (List ℕ) × (ℕ × (ℕ × Unit {0})))))
-  args' = (h, (at-list b-deques o-deques γ-deques deques, (at-list b-frames o-frames γ-frames frames, (at-list b-pool o-pool γ-pool pool, (w, (v, tt))))))
+  args' = (h, (at_list b-deques o-deques γ-deques deques, (at_list b-frames o-frames γ-frames frames, (at_list b-pool o-pool γ-pool pool, (w, (v, tt))))))
 
   abbrev vals' : Vals f'.signature (κ-deques, (κ-frames, (κ-pool, tt)))
   vals' = (val-Head h ∷ [], (slice_val (b-deques, o-deques) (length deques) ∷ [], (slice_val (b-frames, o-frames) (length frames) ∷ [], (slice_val (b-pool, o-pool) (length pool) ∷ [], (vint w32 w ∷ [], (vint w32 v ∷ [], tt))))))
@@ -139,7 +139,7 @@ module _ {M : Type 1} {𝓤 : Ura M} (𝓛 : Logic 𝓤) (mem : Memory → SProp
   abbrev Post : Val → SProp 𝓤
   Post = (walk_of 𝓛 f'.ended stayed (f'.clauses 𝓛 mem run)).post bound'
 
-  exits' : (res' : Out) (zs-deques : List ℕ) (zs-frames : List Frame) (zs-pool : List ℕ) → Is R-Out res' (val-Out res' ∷ []) → LeavesOthers h res' deques frames pool zs-deques zs-frames zs-pool (λ c. stepOn two_words c (Steal w v)) → length zs-deques ≡ length deques → length zs-frames ≡ length frames → length zs-pool ≡ length pool → ent 𝓤 (⋆ 𝓛 (‵ (Mine u32 κ-deques q-deques γ-deques b-deques o-deques n-deques zs-deques) ∷ ‵ (Mine R-Frame κ-frames q-frames γ-frames b-frames o-frames n-frames zs-frames) ∷ ‵ (Mine u32 κ-pool q-pool γ-pool b-pool o-pool n-pool zs-pool) ∷ [])) (Post (val-Out res'))
+  exits' : (res' : Out) (zs-deques : List ℕ) (zs-frames : List Frame) (zs-pool : List ℕ) → Is R-Out res' (val-Out res' ∷ []) → LeavesOthers h res' deques frames pool zs-deques zs-frames zs-pool (λ c. step_on two_words c (Steal w v)) → length zs-deques ≡ length deques → length zs-frames ≡ length frames → length zs-pool ≡ length pool → ent 𝓤 (⋆ 𝓛 (‵ (Mine u32 κ-deques q-deques γ-deques b-deques o-deques n-deques zs-deques) ∷ ‵ (Mine R-Frame κ-frames q-frames γ-frames b-frames o-frames n-frames zs-frames) ∷ ‵ (Mine u32 κ-pool q-pool γ-pool b-pool o-pool n-pool zs-pool) ∷ [])) (Post (val-Out res'))
   exits' res' zs-deques zs-frames zs-pool good' e' same-deques same-frames same-pool =
       qed 𝓛 (‵ (Mine u32 κ-deques q-deques γ-deques b-deques o-deques n-deques zs-deques) ∷ ‵ (Mine R-Frame κ-frames q-frames γ-frames b-frames o-frames n-frames zs-frames) ∷ ‵ (Mine u32 κ-pool q-pool γ-pool b-pool o-pool n-pool zs-pool) ∷ []) ∵
       suffices ! _ (ends_at 𝓛 f'.ended stayed (f'.clauses 𝓛 mem run) bound' (val-Out res') res' (tt, (zs-deques, (zs-frames, (zs-pool, (tt, (tt, tt)))))) (tt, (same-deques, (same-frames, (same-pool, (tt, (tt, tt))))))) $ says ! e' $
@@ -165,7 +165,7 @@ module _ {M : Type 1} {𝓤 : Ura M} (𝓛 : Logic 𝓤) (mem : Memory → SProp
         (λ ν-0 δ-0. and_then ! (load ! (from ! (stop !)) (look ! 40 refl)) (and_then ! (load ! (from ! (stop !)) (look ! 20 refl)) (and_then ! (load ! (from ! (stop !)) (look ! 32 refl)) (and_then ! (load ! (from ! (stop !)) (look ! 30 refl)) (no_more !))))) (λ refusal refusal-fits refusal_is.
         land ! (from ! (stop !)) (init ! 27 refl (tt, record { fits = refusal-fits })) $
         assigns ! (bin ! (load ! (from ! (stop !)) (look ! 27 refl)) (const ! _ tt) tt) (from ! (stop !)) (init ! 17 refl (tt, tt)) $
-        leave-if ! (load ! (from ! (stop !)) (look ! 17 refl))
+        leave_if ! (load ! (from ! (stop !)) (look ! 17 refl))
         (λ test-2.
         -- _0 = engine::kinds::refused_by(_1, _7)
         S-refused-by.step mem run ! fm known-refused-by h refusal h-good refusal-fits
@@ -178,21 +178,21 @@ module _ {M : Type 1} {𝓤 : Ura M} (𝓛 : Logic 𝓤) (mem : Memory → SProp
         assigns ! (addr ! (from ! (fld ! refl (hop ! (look_in ! 37 (sub ! 0 refl (whole !))) (stop !))))) (from ! (stop !)) (init ! 15 refl (tt, tt)) $
         assigns ! (agg ! (and_then ! (load ! (from ! (stop !)) (look ! 15 refl)) (and_then ! (load ! (from ! (fld ! refl (stop !))) (look_in ! 37 (sub ! 1 refl (whole !)))) (no_more !)))) (from ! (stop !)) (init ! 13 refl (tt, (tt, (record { fits = room-deques.0 }, tt)))) $
         -- _8 = frames::deques::top_at(_14, _6)
-        S-top-at.step-s mem run ! fm known-top-at b-deques o-deques n-deques deques v v-fits (F.needs-5 h deques frames pool w v room-deques.0 room-frames.0 room-pool.0 w_Fits v-fits ok' refusal refusal-fits refusal_is (eqb→eq refusal 0 (not-not (eqb refusal 0) test-2))) (refl) room-deques
+        S-top-at.step-s mem run ! fm known-top-at b-deques o-deques n-deques deques v v-fits (F.needs-5 h deques frames pool w v room-deques.0 room-frames.0 room-pool.0 w_Fits v-fits ok' refusal refusal-fits refusal_is (eqb→eq refusal 0 (not_not (eqb refusal 0) test-2))) (refl) room-deques
         (λ ν-0 δ-0. and_then ! (load ! (from ! (stop !)) (look ! 14 refl)) (and_then ! (load ! (from ! (stop !)) (look ! 30 refl)) (no_more !))) (λ p p-fits p-is.
         land ! (from ! (stop !)) (init ! 25 refl (tt, record { fits = p-fits })) $
         assigns ! (addr ! (from ! (fld ! refl (hop ! (look_in ! 35 (sub ! 0 refl (whole !))) (stop !))))) (from ! (stop !)) (init ! 11 refl (tt, tt)) $
         assigns ! (agg ! (and_then ! (load ! (from ! (stop !)) (look ! 11 refl)) (and_then ! (load ! (from ! (fld ! refl (stop !))) (look_in ! 35 (sub ! 1 refl (whole !)))) (no_more !)))) (from ! (stop !)) (init ! 9 refl (tt, (tt, (record { fits = room-frames.0 }, tt)))) $
         -- _9 = frames::table::frame_at(_16, _8)
         move ! (1 ∷ []) $
-        S-frame-at.step-s mem run ! fm known-frame-at b-frames o-frames n-frames frames p p-fits (F.needs-6 h deques frames pool w v room-deques.0 room-frames.0 room-pool.0 w_Fits v-fits ok' refusal refusal-fits refusal_is (eqb→eq refusal 0 (not-not (eqb refusal 0) test-2)) p p-fits p-is) (refl) room-frames
+        S-frame-at.step-s mem run ! fm known-frame-at b-frames o-frames n-frames frames p p-fits (F.needs-6 h deques frames pool w v room-deques.0 room-frames.0 room-pool.0 w_Fits v-fits ok' refusal refusal-fits refusal_is (eqb→eq refusal 0 (not_not (eqb refusal 0) test-2)) p p-fits p-is) (refl) room-frames
         (λ ν-0 δ-0. and_then ! (load ! (from ! (stop !)) (look ! 10 refl)) (and_then ! (load ! (from ! (stop !)) (look ! 26 refl)) (no_more !))) (λ f f-good f-is.
         land ! (from ! (stop !)) (init ! 23 refl ((LL.lawful M-Frame.the_type L-Frame.the_laws 𝓛).typed f _ f-good).0) $
         assigns ! (addr ! (from ! (fld ! refl (hop ! (look_in ! 37 (sub ! 0 refl (whole !))) (stop !))))) (from ! (stop !)) (init ! 5 refl (tt, tt)) $
         assigns ! (agg ! (and_then ! (load ! (from ! (stop !)) (look ! 5 refl)) (and_then ! (load ! (from ! (fld ! refl (stop !))) (look_in ! 37 (sub ! 1 refl (whole !)))) (no_more !)))) (from ! (stop !)) (init ! 3 refl (tt, (tt, (record { fits = room-deques.0 }, tt)))) $
         -- _17 = frames::steps::steal_frame(_19, _5, _6)
         move ! (1 ∷ []) $
-        S-steal-frame.step mem run ! fm known-steal-frame b-deques o-deques n-deques deques w v w_Fits v-fits (F.needs-7 h deques frames pool w v room-deques.0 room-frames.0 room-pool.0 w_Fits v-fits ok' refusal refusal-fits refusal_is (eqb→eq refusal 0 (not-not (eqb refusal 0) test-2)) p p-fits p-is f f-is) (refl) room-deques
+        S-steal-frame.step mem run ! fm known-steal-frame b-deques o-deques n-deques deques w v w_Fits v-fits (F.needs-7 h deques frames pool w v room-deques.0 room-frames.0 room-pool.0 w_Fits v-fits ok' refusal refusal-fits refusal_is (eqb→eq refusal 0 (not_not (eqb refusal 0) test-2)) p p-fits p-is f f-is) (refl) room-deques
         (λ ν-0 δ-0. and_then ! (load ! (from ! (stop !)) (look ! 4 refl)) (and_then ! (load ! (from ! (stop !)) (look ! 32 refl)) (and_then ! (load ! (from ! (stop !)) (look ! 30 refl)) (no_more !)))) (λ deques-7 done-7 same-deques-7.
         land ! (from ! (stop !)) (init ! 7 refl (tt, tt)) $
         -- _0 = engine::kinds::unchanged(_1, 103, _9.2)
@@ -201,7 +201,7 @@ module _ {M : Type 1} {𝓤 : Ura M} (𝓛 : Logic 𝓤) (mem : Memory → SProp
         land ! (from ! (stop !)) (init ! 41 refl ((LL.lawful M-Out.the_type L-Out.the_laws 𝓛).typed r-8 _ r-8-good).0) $
         returns_within ! Post refl (look ! 41 refl) $ forget ! 3 refl $ forget ! 5 refl $ forget ! 7 refl $ forget ! 9 refl $ forget ! 11 refl $ forget ! 13 refl $ forget ! 15 refl $ forget ! 17 refl $ forget ! 19 refl $ forget ! 21 refl $ forget ! 23 refl $ forget ! 25 refl $ forget ! 27 refl $ forget ! 29 refl $ forget ! 31 refl $ forget ! 33 refl $ forget ! 35 refl $ forget ! 37 refl $ forget ! 39 refl $ forget ! 41 refl $
         free_all ! 3 refl $
-        by ! (exits' r-8 deques-7 frames pool r-8-good (F.out-9 h deques frames pool w v room-deques.0 room-frames.0 room-pool.0 w_Fits v-fits ok' refusal refusal-fits refusal_is (eqb→eq refusal 0 (not-not (eqb refusal 0) test-2)) p p-fits p-is f f-is deques-7 done-7 same-deques-7 r-8 r-8-is) (same-deques-7) (refl) (refl))))))))))))))))))))))))))))
+        by ! (exits' r-8 deques-7 frames pool r-8-good (F.out-9 h deques frames pool w v room-deques.0 room-frames.0 room-pool.0 w_Fits v-fits ok' refusal refusal-fits refusal_is (eqb→eq refusal 0 (not_not (eqb refusal 0) test-2)) p p-fits p-is f f-is deques-7 done-7 same-deques-7 r-8 r-8-is) (same-deques-7) (refl) (refl))))))))))))))))))))))))))))
 
 module _ {M : Type 1} {𝓤 : Ura M} (𝓛 : Logic 𝓤) (mem : Memory → SProp 𝓤) (run : Routine → Fun 𝓤) (𝓣 : Tables 𝓤 𝓛.H) where
   open 𝓛 use {H}
@@ -225,7 +225,7 @@ step-steal-spec 𝓤 𝓛 𝓜 𝓡 =
     (tables 𝓤 𝓛.H 𝓜 𝓡 code.env).C (tables 𝓤 𝓛.H 𝓜 𝓡 code.env).Λ #own code.function (code.unfolded 𝓤 𝓛.H 𝓜 𝓡)
     (meets 𝓛 𝓜.mem 𝓡.run (tables_of 𝓤 𝓛.H 𝓜 (tables 𝓤 𝓛.H 𝓜 𝓡 code.env))
     (cited 𝓤 𝓛.H (S-steal-refusal.Asked 𝓛 𝓜.mem 𝓡.run) 𝓜 𝓡 code.env #steal-refusal D-steal-refusal.routine code.calls-engine::refusals::steal-refusal (T-steal-refusal.met 𝓤 𝓛 𝓜 𝓡))
-    (cited 𝓤 𝓛.H (S-refused-by.Asked 𝓛 𝓜.mem 𝓡.run) 𝓜 𝓡 code.env #refused-by D-refused-by.routine code.calls-engine::kinds::refused-by (T-refused-by.met 𝓤 𝓛 𝓜 𝓡))
+    (cited 𝓤 𝓛.H (S-refused-by.Asked 𝓛 𝓜.mem 𝓡.run) 𝓜 𝓡 code.env #refused-by D-refused-by.routine code.calls-engine::kinds::refused_by_lem (T-refused-by.met 𝓤 𝓛 𝓜 𝓡))
     (cited 𝓤 𝓛.H (S-top-at.Asked 𝓛 𝓜.mem 𝓡.run) 𝓜 𝓡 code.env #top-at D-top-at.routine code.calls-frames::top-at (T-top-at.met 𝓤 𝓛 𝓜 𝓡))
     (cited 𝓤 𝓛.H (S-frame-at.Asked 𝓛 𝓜.mem 𝓡.run) 𝓜 𝓡 code.env #frame-at D-frame-at.routine code.calls-frames::frame-at (T-frame-at.met 𝓤 𝓛 𝓜 𝓡))
     (cited 𝓤 𝓛.H (S-steal-frame.Asked 𝓛 𝓜.mem 𝓡.run) 𝓜 𝓡 code.env #steal-frame D-steal-frame.routine code.calls-frames::steal-frame (T-steal-frame.met 𝓤 𝓛 𝓜 𝓡))

@@ -39,10 +39,10 @@ use denote.Triple.Statement.{Triple}
 use denote.Triple.Table.{entered, cited}
 use denote.Triple.Walked.{says, needs, Stays, stay_slice, stay_none, stay_none_slice, walk_of, Walks, ends_at, walked, Goes-slice, Goes-none, Goes-none_slice, walk_Meets}
 use borrow.Author.Rules.{scaled_Fits}
-use Rattle.frames.proofs.Lent.{at-list, Mine, Yours, ty_at, exit-unless, exit-if, leave-if, fork, skipped, regroup, matched, matched-last, const, is_true, is_false, not-not, differ, widen, less-fits, after, turn-of, take_out, put_in, put_back, look-out, look-back, free_all}
+use Rattle.frames.proofs.Lent.{at_list, Mine, Yours, ty_at, exit_unless, exit_if, leave_if, fork, skipped, regroup, matched, matched_last, const, is_true, is_false, not_not, differ, widen, less_fits, after, turn_of_lem, take_out, put_in, put_back, look_out, look_back, free_all}
 use Rattle.model.specs.declared.Step.TheVariants.{Sync}
 use Rattle.semantics.specs.Ranges.{Ready}
-use Rattle.engine.specs.Promises.{core, LeavesOthers, kindOn, ActsAt}
+use Rattle.engine.specs.Promises.{core, LeavesOthers, kind_on, ActsAt}
 use Rattle.engine.proofs.Called.frame_at as S-frame-at
 use Rattle.frames.proofs.frame_at.Symbol as D-frame-at
 use Rattle.frames.proofs.frame_at.Symbol.{name as #frame-at}
@@ -114,7 +114,7 @@ module _ {M : Type 1} {𝓤 : Ura M} (𝓛 : Logic 𝓤) (mem : Memory → SProp
   n-pool = length pool
 
   abbrev args' : Head × (MutBor (List ℕ) × (MutBor (List Frame) × (MutBor (List ℕ) × (ℕ × (ℕ × (ℕ × Unit {0}))))))
-  args' = (h, (at-list b-deques o-deques γ-deques deques, (at-list b-frames o-frames γ-frames frames, (at-list b-pool o-pool γ-pool pool, (w, (n, (p, tt)))))))
+  args' = (h, (at_list b-deques o-deques γ-deques deques, (at_list b-frames o-frames γ-frames frames, (at_list b-pool o-pool γ-pool pool, (w, (n, (p, tt)))))))
 
   abbrev vals' : Vals f'.signature (κ-deques, (κ-frames, (κ-pool, tt)))
   vals' = (val-Head h ∷ [], (slice_val (b-deques, o-deques) (length deques) ∷ [], (slice_val (b-frames, o-frames) (length frames) ∷ [], (slice_val (b-pool, o-pool) (length pool) ∷ [], (vint w32 w ∷ [], (vint w32 n ∷ [], (vint w32 p ∷ [], tt)))))))
@@ -125,7 +125,7 @@ module _ {M : Type 1} {𝓤 : Ura M} (𝓛 : Logic 𝓤) (mem : Memory → SProp
   abbrev Post : Val → SProp 𝓤
   Post = (walk_of 𝓛 f'.ended stayed (f'.clauses 𝓛 mem run)).post bound'
 
-  exits' : (res' : Out) (zs-deques : List ℕ) (zs-frames : List Frame) (zs-pool : List ℕ) → Is R-Out res' (val-Out res' ∷ []) → LeavesOthers h res' deques frames pool zs-deques zs-frames zs-pool (λ c. kindOn c (Sync w)) → length zs-deques ≡ length deques → length zs-frames ≡ length frames → length zs-pool ≡ length pool → ent 𝓤 (⋆ 𝓛 (‵ (Mine u32 κ-deques q-deques γ-deques b-deques o-deques n-deques zs-deques) ∷ ‵ (Mine R-Frame κ-frames q-frames γ-frames b-frames o-frames n-frames zs-frames) ∷ ‵ (Mine u32 κ-pool q-pool γ-pool b-pool o-pool n-pool zs-pool) ∷ [])) (Post (val-Out res'))
+  exits' : (res' : Out) (zs-deques : List ℕ) (zs-frames : List Frame) (zs-pool : List ℕ) → Is R-Out res' (val-Out res' ∷ []) → LeavesOthers h res' deques frames pool zs-deques zs-frames zs-pool (λ c. kind_on c (Sync w)) → length zs-deques ≡ length deques → length zs-frames ≡ length frames → length zs-pool ≡ length pool → ent 𝓤 (⋆ 𝓛 (‵ (Mine u32 κ-deques q-deques γ-deques b-deques o-deques n-deques zs-deques) ∷ ‵ (Mine R-Frame κ-frames q-frames γ-frames b-frames o-frames n-frames zs-frames) ∷ ‵ (Mine u32 κ-pool q-pool γ-pool b-pool o-pool n-pool zs-pool) ∷ [])) (Post (val-Out res'))
   exits' res' zs-deques zs-frames zs-pool good' e' same-deques same-frames same-pool =
       qed 𝓛 (‵ (Mine u32 κ-deques q-deques γ-deques b-deques o-deques n-deques zs-deques) ∷ ‵ (Mine R-Frame κ-frames q-frames γ-frames b-frames o-frames n-frames zs-frames) ∷ ‵ (Mine u32 κ-pool q-pool γ-pool b-pool o-pool n-pool zs-pool) ∷ []) ∵
       suffices ! _ (ends_at 𝓛 f'.ended stayed (f'.clauses 𝓛 mem run) bound' (val-Out res') res' (tt, (zs-deques, (zs-frames, (zs-pool, (tt, (tt, (tt, tt))))))) (tt, (same-deques, (same-frames, (same-pool, (tt, (tt, (tt, tt)))))))) $ says ! e' $

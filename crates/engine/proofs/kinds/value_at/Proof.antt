@@ -39,10 +39,10 @@ use denote.Triple.Statement.{Triple}
 use denote.Triple.Table.{entered, cited}
 use denote.Triple.Walked.{says, needs, Stays, stay_slice, stay_none, stay_none_slice, walk_of, Walks, ends_at, walked, Goes-slice, Goes-none, Goes-none_slice, walk_Meets}
 use borrow.Author.Rules.{scaled_Fits}
-use Rattle.frames.proofs.Lent.{at-list, Mine, Yours, ty_at, exit-unless, exit-if, leave-if, fork, skipped, regroup, matched, matched-last, const, is_true, is_false, not-not, differ, widen, less-fits, after, turn-of, take_out, put_in, put_back, look-out, look-back, free_all}
+use Rattle.frames.proofs.Lent.{at_list, Mine, Yours, ty_at, exit_unless, exit_if, leave_if, fork, skipped, regroup, matched, matched_last, const, is_true, is_false, not_not, differ, widen, less_fits, after, turn_of_lem, take_out, put_in, put_back, look_out, look_back, free_all}
 use Rattle.model.specs.declared.Step.TheVariants.{Read}
 use Rattle.semantics.specs.Ranges.{Ready, Recalls}
-use Rattle.engine.specs.Promises.{core, kindOn, ActsAt, LeavesVisited}
+use Rattle.engine.specs.Promises.{core, kind_on, ActsAt, LeavesVisited}
 use Rattle.engine.proofs.Called.no_splitter as S-no-splitter
 use Rattle.engine.proofs.kinds.no_splitter.Symbol as D-no-splitter
 use Rattle.engine.proofs.kinds.no_splitter.Symbol.{name as #no-splitter}
@@ -164,7 +164,7 @@ module _ {M : Type 1} {𝓤 : Ura M} (𝓛 : Logic 𝓤) (mem : Memory → SProp
   n-memory = length memory
 
   abbrev args' : Head × (MutBor (List ℕ) × (MutBor (List Frame) × (MutBor (List ℕ) × (MutBor (List ℕ) × (ℕ × (ℕ × (ℕ × (ℕ × Unit {0}))))))))
-  args' = (h, (at-list b-deques o-deques γ-deques deques, (at-list b-frames o-frames γ-frames frames, (at-list b-pool o-pool γ-pool pool, (at-list b-memory o-memory γ-memory memory, (w, (n, (p, (x, tt)))))))))
+  args' = (h, (at_list b-deques o-deques γ-deques deques, (at_list b-frames o-frames γ-frames frames, (at_list b-pool o-pool γ-pool pool, (at_list b-memory o-memory γ-memory memory, (w, (n, (p, (x, tt)))))))))
 
   abbrev vals' : Vals f'.signature (κ-deques, (κ-frames, (κ-pool, (κ-memory, tt))))
   vals' = (val-Head h ∷ [], (slice_val (b-deques, o-deques) (length deques) ∷ [], (slice_val (b-frames, o-frames) (length frames) ∷ [], (slice_val (b-pool, o-pool) (length pool) ∷ [], (slice_val (b-memory, o-memory) (length memory) ∷ [], (vint w32 w ∷ [], (vint w32 n ∷ [], (vint w32 p ∷ [], (vint w32 x ∷ [], tt)))))))))
@@ -175,7 +175,7 @@ module _ {M : Type 1} {𝓤 : Ura M} (𝓛 : Logic 𝓤) (mem : Memory → SProp
   abbrev Post : Val → SProp 𝓤
   Post = (walk_of 𝓛 f'.ended stayed (f'.clauses 𝓛 mem run)).post bound'
 
-  exits' : (res' : Visited) (zs-deques : List ℕ) (zs-frames : List Frame) (zs-pool : List ℕ) (zs-memory : List ℕ) → Is R-Visited res' (val-Visited res' ∷ []) → LeavesVisited kindOn (Read w x) h res' deques frames pool memory zs-deques zs-frames zs-pool zs-memory → length zs-deques ≡ length deques → length zs-frames ≡ length frames → length zs-pool ≡ length pool → length zs-memory ≡ length memory → ent 𝓤 (⋆ 𝓛 (‵ (Mine u32 κ-deques q-deques γ-deques b-deques o-deques n-deques zs-deques) ∷ ‵ (Mine R-Frame κ-frames q-frames γ-frames b-frames o-frames n-frames zs-frames) ∷ ‵ (Mine u32 κ-pool q-pool γ-pool b-pool o-pool n-pool zs-pool) ∷ ‵ (Mine u32 κ-memory q-memory γ-memory b-memory o-memory n-memory zs-memory) ∷ [])) (Post (val-Visited res'))
+  exits' : (res' : Visited) (zs-deques : List ℕ) (zs-frames : List Frame) (zs-pool : List ℕ) (zs-memory : List ℕ) → Is R-Visited res' (val-Visited res' ∷ []) → LeavesVisited kind_on (Read w x) h res' deques frames pool memory zs-deques zs-frames zs-pool zs-memory → length zs-deques ≡ length deques → length zs-frames ≡ length frames → length zs-pool ≡ length pool → length zs-memory ≡ length memory → ent 𝓤 (⋆ 𝓛 (‵ (Mine u32 κ-deques q-deques γ-deques b-deques o-deques n-deques zs-deques) ∷ ‵ (Mine R-Frame κ-frames q-frames γ-frames b-frames o-frames n-frames zs-frames) ∷ ‵ (Mine u32 κ-pool q-pool γ-pool b-pool o-pool n-pool zs-pool) ∷ ‵ (Mine u32 κ-memory q-memory γ-memory b-memory o-memory n-memory zs-memory) ∷ [])) (Post (val-Visited res'))
   exits' res' zs-deques zs-frames zs-pool zs-memory good' e' same-deques same-frames same-pool same_memory =
       qed 𝓛 (‵ (Mine u32 κ-deques q-deques γ-deques b-deques o-deques n-deques zs-deques) ∷ ‵ (Mine R-Frame κ-frames q-frames γ-frames b-frames o-frames n-frames zs-frames) ∷ ‵ (Mine u32 κ-pool q-pool γ-pool b-pool o-pool n-pool zs-pool) ∷ ‵ (Mine u32 κ-memory q-memory γ-memory b-memory o-memory n-memory zs-memory) ∷ []) ∵
       suffices ! _ (ends_at 𝓛 f'.ended stayed (f'.clauses 𝓛 mem run) bound' (val-Visited res') res' (tt, (zs-deques, (zs-frames, (zs-pool, (zs-memory, (tt, (tt, (tt, (tt, tt))))))))) (tt, (same-deques, (same-frames, (same-pool, (same_memory, (tt, (tt, (tt, (tt, tt)))))))))) $ says ! e' $
@@ -195,7 +195,7 @@ module _ {M : Type 1} {𝓤 : Ura M} (𝓛 : Logic 𝓤) (mem : Memory → SProp
         move ! (69 ∷ []) $ fsplit ! $ drop ! $ fsplit ! $ move ! (1 ∷ []) $ fsplit ! $ move ! (1 ∷ []) $ fsplit ! $ move ! (1 ∷ []) $ fsplit ! $ move ! (1 ∷ []) $ fsplit ! $ drop ! $ fsplit ! $ drop ! $ fsplit ! $ drop ! $ fsplit ! $ drop ! $ drop ! $ move ! (72 ∷ []) $ split ! $ move ! (1 ∷ []) $ split ! $ move ! (1 ∷ []) $ split ! $ move ! (1 ∷ []) $ split ! $ move ! (1 ∷ []) $ drop ! $ move ! (4 ∷ 0 ∷ []) $ fjoin ! $ move ! (4 ∷ 1 ∷ []) $ fjoin ! $ move ! (4 ∷ 2 ∷ []) $ fjoin ! $ move ! (4 ∷ 3 ∷ []) $ fjoin ! $
         -- [deques; frames; pool; memory; the locals]
         assigns ! (bin ! (load ! (from ! (fld ! refl (fld ! refl (stop !)))) (look_in ! 68 (sub ! 1 refl (sub ! 0 refl (whole !))))) (load ! (from ! (stop !)) (look ! 52 refl)) tt) (from ! (stop !)) (init ! 40 refl (tt, tt)) $
-        leave-if ! (load ! (from ! (stop !)) (look ! 40 refl))
+        leave_if ! (load ! (from ! (stop !)) (look ! 40 refl))
         (λ test-1.
         -- _16 = engine::kinds::no_splitter(_1)
         S-no-splitter.step mem run ! fm known-no-splitter h h-good
@@ -217,14 +217,14 @@ module _ {M : Type 1} {𝓤 : Ura M} (𝓛 : Logic 𝓤) (mem : Memory → SProp
         (λ ν-0 δ-0. and_then ! (load ! (from ! (stop !)) (look ! 35 refl)) (and_then ! (load ! (from ! (stop !)) (look ! 59 refl)) (and_then ! (load ! (from ! (stop !)) (look ! 53 refl)) (no_more !)))) (λ known known-fits Known-is.
         land ! (from ! (stop !)) (init ! 50 refl (tt, record { fits = known-fits })) $
         assigns ! (bin ! (load ! (from ! (stop !)) (look ! 50 refl)) (const ! _ tt) tt) (from ! (stop !)) (store ! 40 refl (tt, tt)) $
-        leave-if ! (load ! (from ! (stop !)) (look ! 40 refl))
+        leave_if ! (load ! (from ! (stop !)) (look ! 40 refl))
         (λ test-6.
         assigns ! (addr ! (from ! (fld ! refl (hop ! (look_in ! 62 (sub ! 0 refl (whole !))) (stop !))))) (from ! (stop !)) (init ! 32 refl (tt, tt)) $
         assigns ! (agg ! (and_then ! (load ! (from ! (stop !)) (look ! 32 refl)) (and_then ! (load ! (from ! (fld ! refl (stop !))) (look_in ! 62 (sub ! 1 refl (whole !)))) (no_more !)))) (from ! (stop !)) (init ! 30 refl (tt, (tt, (record { fits = room-pool.0 }, tt)))) $
-        assigns ! (bin ! (load ! (from ! (stop !)) (look ! 50 refl)) (const ! _ tt) (F.small-7 h deques frames pool memory w n p x room-deques.0 room-frames.0 room-pool.0 room-memory.0 w_Fits n-fits p-fits x_Fits ok' (nleb→lt h.numbers.splitters x test-1) known known-fits Known-is (differ known 0 test-6))) (from ! (stop !)) (init ! 28 refl (tt, record { fits = (less-fits known 1 (2 ^ 32) known-fits) })) $
+        assigns ! (bin ! (load ! (from ! (stop !)) (look ! 50 refl)) (const ! _ tt) (F.small-7 h deques frames pool memory w n p x room-deques.0 room-frames.0 room-pool.0 room-memory.0 w_Fits n-fits p-fits x_Fits ok' (nleb→lt h.numbers.splitters x test-1) known known-fits Known-is (differ known 0 test-6))) (from ! (stop !)) (init ! 28 refl (tt, record { fits = (less_fits known 1 (2 ^ 32) known-fits) })) $
         -- _11 = packed::tree::leaf_value(_20, _1.0.2, _21)
         move ! (3 ∷ []) $
-        S-leaf-value.step-s mem run ! fm known-leaf-value b-pool o-pool n-pool pool h.numbers.nodes (known - 1) (LL.owed M-Numbers.the_type L-Numbers.the_laws h.numbers _ (LL.owed M-Head.the_type L-Head.the_laws h _ h-good).0).1.1.0.1 (less-fits known 1 (2 ^ 32) known-fits) (F.needs-8 h deques frames pool memory w n p x room-deques.0 room-frames.0 room-pool.0 room-memory.0 w_Fits n-fits p-fits x_Fits ok' (nleb→lt h.numbers.splitters x test-1) known known-fits Known-is (differ known 0 test-6)) (refl) room-pool
+        S-leaf-value.step-s mem run ! fm known-leaf-value b-pool o-pool n-pool pool h.numbers.nodes (known - 1) (LL.owed M-Numbers.the_type L-Numbers.the_laws h.numbers _ (LL.owed M-Head.the_type L-Head.the_laws h _ h-good).0).1.1.0.1 (less_fits known 1 (2 ^ 32) known-fits) (F.needs-8 h deques frames pool memory w n p x room-deques.0 room-frames.0 room-pool.0 room-memory.0 w_Fits n-fits p-fits x_Fits ok' (nleb→lt h.numbers.splitters x test-1) known known-fits Known-is (differ known 0 test-6)) (refl) room-pool
         (λ ν-0 δ-0. and_then ! (load ! (from ! (stop !)) (look ! 31 refl)) (and_then ! (load ! (from ! (fld ! refl (fld ! refl (stop !)))) (look_in ! 69 (sub ! 2 refl (sub ! 0 refl (whole !))))) (and_then ! (load ! (from ! (stop !)) (look ! 29 refl)) (no_more !)))) (λ held held_Fits held-is.
         land ! (from ! (stop !)) (init ! 48 refl (tt, record { fits = held_Fits })) $
         -- _22 = engine::kinds::unchanged(_1, 105, _11)
@@ -244,7 +244,7 @@ module _ {M : Type 1} {𝓤 : Ura M} (𝓛 : Logic 𝓤) (mem : Memory → SProp
         assigns ! (agg ! (and_then ! (load ! (from ! (stop !)) (look ! 22 refl)) (and_then ! (load ! (from ! (fld ! refl (stop !))) (look_in ! 64 (sub ! 1 refl (whole !)))) (no_more !)))) (from ! (stop !)) (init ! 20 refl (tt, (tt, (record { fits = room-frames.0 }, tt)))) $
         -- _23 = frames::table::frame_at(_25, _8)
         move ! (2 ∷ []) $
-        S-frame-at.step-s mem run ! fm known-frame-at b-frames o-frames n-frames frames p p-fits (F.needs-12 h deques frames pool memory w n p x room-deques.0 room-frames.0 room-pool.0 room-memory.0 w_Fits n-fits p-fits x_Fits ok' (nleb→lt h.numbers.splitters x test-1) known known-fits Known-is (eqb→eq known 0 (not-not (eqb known 0) test-6))) (refl) room-frames
+        S-frame-at.step-s mem run ! fm known-frame-at b-frames o-frames n-frames frames p p-fits (F.needs-12 h deques frames pool memory w n p x room-deques.0 room-frames.0 room-pool.0 room-memory.0 w_Fits n-fits p-fits x_Fits ok' (nleb→lt h.numbers.splitters x test-1) known known-fits Known-is (eqb→eq known 0 (not_not (eqb known 0) test-6))) (refl) room-frames
         (λ ν-0 δ-0. and_then ! (load ! (from ! (stop !)) (look ! 21 refl)) (and_then ! (load ! (from ! (stop !)) (look ! 55 refl)) (no_more !))) (λ r-12 r-12-good r-12-is.
         land ! (from ! (stop !)) (init ! 24 refl ((LL.lawful M-Frame.the_type L-Frame.the_laws 𝓛).typed r-12 _ r-12-good).0) $
         assigns ! (of_opd ! (load ! (from ! (fld ! refl (stop !))) (look_in ! 24 (sub ! 5 refl (whole !))))) (from ! (stop !)) (init ! 46 refl (tt, record { fits = (LL.owed M-Frame.the_type L-Frame.the_laws r-12 _ r-12-good).1.1.1.1.1.0.1 })) $
@@ -252,21 +252,21 @@ module _ {M : Type 1} {𝓤 : Ura M} (𝓛 : Logic 𝓤) (mem : Memory → SProp
         assigns ! (agg ! (and_then ! (load ! (from ! (stop !)) (look ! 18 refl)) (and_then ! (load ! (from ! (fld ! refl (stop !))) (look_in ! 62 (sub ! 1 refl (whole !)))) (no_more !)))) (from ! (stop !)) (init ! 16 refl (tt, (tt, (record { fits = room-pool.0 }, tt)))) $
         -- _13 = packed::tree::find_leaf(_27, _1.0.2, _1.1, _12, _9)
         move ! (3 ∷ []) $
-        S-find-leaf.step-s mem run ! fm known-find-leaf b-pool o-pool n-pool pool h.numbers.nodes h.height r-12.root x (LL.owed M-Numbers.the_type L-Numbers.the_laws h.numbers _ (LL.owed M-Head.the_type L-Head.the_laws h _ h-good).0).1.1.0.1 (LL.owed M-Head.the_type L-Head.the_laws h _ h-good).1.0.1 (LL.owed M-Frame.the_type L-Frame.the_laws r-12 _ r-12-good).1.1.1.1.1.0.1 x_Fits (F.needs-13 h deques frames pool memory w n p x room-deques.0 room-frames.0 room-pool.0 room-memory.0 w_Fits n-fits p-fits x_Fits ok' (nleb→lt h.numbers.splitters x test-1) known known-fits Known-is (eqb→eq known 0 (not-not (eqb known 0) test-6)) r-12 r-12-is) (refl) room-pool
-        (λ ν-0 δ-0. and_then ! (load ! (from ! (stop !)) (look ! 17 refl)) (and_then ! (load ! (from ! (fld ! refl (fld ! refl (stop !)))) (look_in ! 69 (sub ! 2 refl (sub ! 0 refl (whole !))))) (and_then ! (load ! (from ! (fld ! refl (stop !))) (look_in ! 69 (sub ! 1 refl (whole !)))) (and_then ! (load ! (from ! (stop !)) (look ! 47 refl)) (and_then ! (load ! (from ! (stop !)) (look ! 53 refl)) (no_more !)))))) (λ leaf leaf-good leaf-is.
+        S-find-leaf.step-s mem run ! fm known-find-leaf b-pool o-pool n-pool pool h.numbers.nodes h.height r-12.root x (LL.owed M-Numbers.the_type L-Numbers.the_laws h.numbers _ (LL.owed M-Head.the_type L-Head.the_laws h _ h-good).0).1.1.0.1 (LL.owed M-Head.the_type L-Head.the_laws h _ h-good).1.0.1 (LL.owed M-Frame.the_type L-Frame.the_laws r-12 _ r-12-good).1.1.1.1.1.0.1 x_Fits (F.needs-13 h deques frames pool memory w n p x room-deques.0 room-frames.0 room-pool.0 room-memory.0 w_Fits n-fits p-fits x_Fits ok' (nleb→lt h.numbers.splitters x test-1) known known-fits Known-is (eqb→eq known 0 (not_not (eqb known 0) test-6)) r-12 r-12-is) (refl) room-pool
+        (λ ν-0 δ-0. and_then ! (load ! (from ! (stop !)) (look ! 17 refl)) (and_then ! (load ! (from ! (fld ! refl (fld ! refl (stop !)))) (look_in ! 69 (sub ! 2 refl (sub ! 0 refl (whole !))))) (and_then ! (load ! (from ! (fld ! refl (stop !))) (look_in ! 69 (sub ! 1 refl (whole !)))) (and_then ! (load ! (from ! (stop !)) (look ! 47 refl)) (and_then ! (load ! (from ! (stop !)) (look ! 53 refl)) (no_more !)))))) (λ leaf leaf-good leaf_is.
         land ! (from ! (stop !)) (init ! 44 refl ((LL.lawful M-Leaf.the_type L-Leaf.the_laws 𝓛).typed leaf _ leaf-good).0) $
         assigns ! (addr ! (from ! (fld ! refl (hop ! (look_in ! 60 (sub ! 0 refl (whole !))) (stop !))))) (from ! (stop !)) (init ! 12 refl (tt, tt)) $
         assigns ! (agg ! (and_then ! (load ! (from ! (stop !)) (look ! 12 refl)) (and_then ! (load ! (from ! (fld ! refl (stop !))) (look_in ! 60 (sub ! 1 refl (whole !)))) (no_more !)))) (from ! (stop !)) (init ! 10 refl (tt, (tt, (record { fits = room-memory.0 }, tt)))) $
         -- _28 = memory::remember(_30, _6, _9, _13.0)
         move ! (2 ∷ []) $
-        S-remember.step mem run ! fm known-remember b-memory o-memory n-memory memory w x leaf.node w_Fits x_Fits (LL.owed M-Leaf.the_type L-Leaf.the_laws leaf _ leaf-good).0.1 (F.needs-14 h deques frames pool memory w n p x room-deques.0 room-frames.0 room-pool.0 room-memory.0 w_Fits n-fits p-fits x_Fits ok' (nleb→lt h.numbers.splitters x test-1) known known-fits Known-is (eqb→eq known 0 (not-not (eqb known 0) test-6)) r-12 r-12-is leaf leaf-is) (refl) room-memory
+        S-remember.step mem run ! fm known-remember b-memory o-memory n-memory memory w x leaf.node w_Fits x_Fits (LL.owed M-Leaf.the_type L-Leaf.the_laws leaf _ leaf-good).0.1 (F.needs-14 h deques frames pool memory w n p x room-deques.0 room-frames.0 room-pool.0 room-memory.0 w_Fits n-fits p-fits x_Fits ok' (nleb→lt h.numbers.splitters x test-1) known known-fits Known-is (eqb→eq known 0 (not_not (eqb known 0) test-6)) r-12 r-12-is leaf leaf_is) (refl) room-memory
         (λ ν-0 δ-0. and_then ! (load ! (from ! (stop !)) (look ! 11 refl)) (and_then ! (load ! (from ! (stop !)) (look ! 59 refl)) (and_then ! (load ! (from ! (stop !)) (look ! 53 refl)) (and_then ! (load ! (from ! (fld ! refl (stop !))) (look_in ! 45 (sub ! 0 refl (whole !)))) (no_more !))))) (λ memory-14 done-14 same-memory-14.
         land ! (from ! (stop !)) (init ! 14 refl (tt, tt)) $
         assigns ! (addr ! (from ! (fld ! refl (hop ! (look_in ! 62 (sub ! 0 refl (whole !))) (stop !))))) (from ! (stop !)) (init ! 8 refl (tt, tt)) $
         assigns ! (agg ! (and_then ! (load ! (from ! (stop !)) (look ! 8 refl)) (and_then ! (load ! (from ! (fld ! refl (stop !))) (look_in ! 62 (sub ! 1 refl (whole !)))) (no_more !)))) (from ! (stop !)) (init ! 6 refl (tt, (tt, (record { fits = room-pool.0 }, tt)))) $
         -- _14 = packed::tree::leaf_value(_32, _1.0.2, _13.0)
         move ! (1 ∷ []) $
-        S-leaf-value.step-s mem run ! fm known-leaf-value b-pool o-pool n-pool pool h.numbers.nodes leaf.node (LL.owed M-Numbers.the_type L-Numbers.the_laws h.numbers _ (LL.owed M-Head.the_type L-Head.the_laws h _ h-good).0).1.1.0.1 (LL.owed M-Leaf.the_type L-Leaf.the_laws leaf _ leaf-good).0.1 (F.needs-15 h deques frames pool memory w n p x room-deques.0 room-frames.0 room-pool.0 room-memory.0 w_Fits n-fits p-fits x_Fits ok' (nleb→lt h.numbers.splitters x test-1) known known-fits Known-is (eqb→eq known 0 (not-not (eqb known 0) test-6)) r-12 r-12-is leaf leaf-is memory-14 done-14 same-memory-14) (refl) room-pool
+        S-leaf-value.step-s mem run ! fm known-leaf-value b-pool o-pool n-pool pool h.numbers.nodes leaf.node (LL.owed M-Numbers.the_type L-Numbers.the_laws h.numbers _ (LL.owed M-Head.the_type L-Head.the_laws h _ h-good).0).1.1.0.1 (LL.owed M-Leaf.the_type L-Leaf.the_laws leaf _ leaf-good).0.1 (F.needs-15 h deques frames pool memory w n p x room-deques.0 room-frames.0 room-pool.0 room-memory.0 w_Fits n-fits p-fits x_Fits ok' (nleb→lt h.numbers.splitters x test-1) known known-fits Known-is (eqb→eq known 0 (not_not (eqb known 0) test-6)) r-12 r-12-is leaf leaf_is memory-14 done-14 same-memory-14) (refl) room-pool
         (λ ν-0 δ-0. and_then ! (load ! (from ! (stop !)) (look ! 7 refl)) (and_then ! (load ! (from ! (fld ! refl (fld ! refl (stop !)))) (look_in ! 69 (sub ! 2 refl (sub ! 0 refl (whole !))))) (and_then ! (load ! (from ! (fld ! refl (stop !))) (look_in ! 45 (sub ! 0 refl (whole !)))) (no_more !)))) (λ held held_Fits held-is.
         land ! (from ! (stop !)) (init ! 42 refl (tt, record { fits = held_Fits })) $
         -- _33 = engine::kinds::unchanged(_1, 105, _14)
@@ -280,7 +280,7 @@ module _ {M : Type 1} {𝓤 : Ura M} (𝓛 : Logic 𝓤) (mem : Memory → SProp
         returns_within ! Post refl (look ! 70 refl) $ forget ! 4 refl $ forget ! 6 refl $ forget ! 8 refl $ forget ! 10 refl $ forget ! 12 refl $ forget ! 14 refl $ forget ! 16 refl $ forget ! 18 refl $ forget ! 20 refl $ forget ! 22 refl $ forget ! 24 refl $ forget ! 34 refl $ forget ! 36 refl $ forget ! 40 refl $ forget ! 42 refl $ forget ! 44 refl $ forget ! 46 refl $ forget ! 50 refl $ forget ! 52 refl $ forget ! 54 refl $ forget ! 56 refl $ forget ! 58 refl $ forget ! 60 refl $ forget ! 62 refl $ forget ! 64 refl $ forget ! 66 refl $ forget ! 68 refl $ forget ! 70 refl $
         free_all ! 4 refl $
         move ! (3 ∷ 2 ∷ 0 ∷ 1 ∷ []) $
-        by ! (exits' r-17 deques frames pool memory-14 r-17-good (F.out-18 h deques frames pool memory w n p x room-deques.0 room-frames.0 room-pool.0 room-memory.0 w_Fits n-fits p-fits x_Fits ok' (nleb→lt h.numbers.splitters x test-1) known known-fits Known-is (eqb→eq known 0 (not-not (eqb known 0) test-6)) r-12 r-12-is leaf leaf-is memory-14 done-14 same-memory-14 held held_Fits held-is r-16 r-16-is r-17 r-17-is) (refl) (refl) (refl) (same-memory-14)))))))))))))))))))))))))))))))))))))))))))))
+        by ! (exits' r-17 deques frames pool memory-14 r-17-good (F.out-18 h deques frames pool memory w n p x room-deques.0 room-frames.0 room-pool.0 room-memory.0 w_Fits n-fits p-fits x_Fits ok' (nleb→lt h.numbers.splitters x test-1) known known-fits Known-is (eqb→eq known 0 (not_not (eqb known 0) test-6)) r-12 r-12-is leaf leaf_is memory-14 done-14 same-memory-14 held held_Fits held-is r-16 r-16-is r-17 r-17-is) (refl) (refl) (refl) (same-memory-14)))))))))))))))))))))))))))))))))))))))))))))
 
 module _ {M : Type 1} {𝓤 : Ura M} (𝓛 : Logic 𝓤) (mem : Memory → SProp 𝓤) (run : Routine → Fun 𝓤) (𝓣 : Tables 𝓤 𝓛.H) where
   open 𝓛 use {H}

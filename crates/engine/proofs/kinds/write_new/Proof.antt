@@ -39,13 +39,13 @@ use denote.Triple.Statement.{Triple}
 use denote.Triple.Table.{entered, cited}
 use denote.Triple.Walked.{says, needs, Stays, stay_slice, stay_none, stay_none_slice, walk_of, Walks, ends_at, walked, Goes-slice, Goes-none, Goes-none_slice, walk_Meets}
 use borrow.Author.Rules.{scaled_Fits}
-use Rattle.frames.proofs.Lent.{at-list, Mine, Yours, ty_at, exit-unless, exit-if, leave-if, fork, skipped, regroup, matched, matched-last, const, is_true, is_false, not-not, differ, widen, less-fits, after, turn-of, take_out, put_in, put_back, look-out, look-back, free_all}
+use Rattle.frames.proofs.Lent.{at_list, Mine, Yours, ty_at, exit_unless, exit_if, leave_if, fork, skipped, regroup, matched, matched_last, const, is_true, is_false, not_not, differ, widen, less_fits, after, turn_of_lem, take_out, put_in, put_back, look_out, look_back, free_all}
 use Rattle.packed.specs.Links.{IsShared}
-use Rattle.packed.specs.Pool.{firstShared}
-use Rattle.frames.specs.Frames.{frameAt}
+use Rattle.packed.specs.Pool.{first_shared}
+use Rattle.frames.specs.Frames.{frame_at}
 use Rattle.model.specs.declared.Step.TheVariants.{Write}
 use Rattle.semantics.specs.Ranges.{Ready, Recalls}
-use Rattle.engine.specs.Promises.{core, kindOn, ActsAt, LeavesVisited}
+use Rattle.engine.specs.Promises.{core, kind_on, ActsAt, LeavesVisited}
 use Rattle.engine.proofs.Called.pool_full as S-pool-full
 use Rattle.engine.proofs.kinds.pool_full.Symbol as D-pool-full
 use Rattle.engine.proofs.kinds.pool_full.Symbol.{name as #pool-full}
@@ -167,7 +167,7 @@ module _ {M : Type 1} {𝓤 : Ura M} (𝓛 : Logic 𝓤) (mem : Memory → SProp
   n-memory = length memory
 
   abbrev args' : Head × (MutBor (List ℕ) × (MutBor (List Frame) × (MutBor (List ℕ) × (MutBor (List ℕ) × (ℕ × (ℕ × (ℕ × (ℕ × (ℕ × (ℕ × (FirstShared × Unit {0})))))))))))
-  args' = (h, (at-list b-deques o-deques γ-deques deques, (at-list b-frames o-frames γ-frames frames, (at-list b-pool o-pool γ-pool pool, (at-list b-memory o-memory γ-memory memory, (w, (n, (p, (x, (v, (root, (found, tt))))))))))))
+  args' = (h, (at_list b-deques o-deques γ-deques deques, (at_list b-frames o-frames γ-frames frames, (at_list b-pool o-pool γ-pool pool, (at_list b-memory o-memory γ-memory memory, (w, (n, (p, (x, (v, (root, (found, tt))))))))))))
 
   abbrev vals' : Vals f'.signature (κ-deques, (κ-frames, (κ-pool, (κ-memory, tt))))
   vals' = (val-Head h ∷ [], (slice_val (b-deques, o-deques) (length deques) ∷ [], (slice_val (b-frames, o-frames) (length frames) ∷ [], (slice_val (b-pool, o-pool) (length pool) ∷ [], (slice_val (b-memory, o-memory) (length memory) ∷ [], (vint w32 w ∷ [], (vint w32 n ∷ [], (vint w32 p ∷ [], (vint w32 x ∷ [], (vint w32 v ∷ [], (vint w32 root ∷ [], (val-FirstShared found ∷ [], tt))))))))))))
@@ -178,7 +178,7 @@ module _ {M : Type 1} {𝓤 : Ura M} (𝓛 : Logic 𝓤) (mem : Memory → SProp
   abbrev Post : Val → SProp 𝓤
   Post = (walk_of 𝓛 f'.ended stayed (f'.clauses 𝓛 mem run)).post bound'
 
-  exits' : (res' : Visited) (zs-deques : List ℕ) (zs-frames : List Frame) (zs-pool : List ℕ) (zs-memory : List ℕ) → Is R-Visited res' (val-Visited res' ∷ []) → LeavesVisited kindOn (Write w x v) h res' deques frames pool memory zs-deques zs-frames zs-pool zs-memory → length zs-deques ≡ length deques → length zs-frames ≡ length frames → length zs-pool ≡ length pool → length zs-memory ≡ length memory → ent 𝓤 (⋆ 𝓛 (‵ (Mine u32 κ-deques q-deques γ-deques b-deques o-deques n-deques zs-deques) ∷ ‵ (Mine R-Frame κ-frames q-frames γ-frames b-frames o-frames n-frames zs-frames) ∷ ‵ (Mine u32 κ-pool q-pool γ-pool b-pool o-pool n-pool zs-pool) ∷ ‵ (Mine u32 κ-memory q-memory γ-memory b-memory o-memory n-memory zs-memory) ∷ [])) (Post (val-Visited res'))
+  exits' : (res' : Visited) (zs-deques : List ℕ) (zs-frames : List Frame) (zs-pool : List ℕ) (zs-memory : List ℕ) → Is R-Visited res' (val-Visited res' ∷ []) → LeavesVisited kind_on (Write w x v) h res' deques frames pool memory zs-deques zs-frames zs-pool zs-memory → length zs-deques ≡ length deques → length zs-frames ≡ length frames → length zs-pool ≡ length pool → length zs-memory ≡ length memory → ent 𝓤 (⋆ 𝓛 (‵ (Mine u32 κ-deques q-deques γ-deques b-deques o-deques n-deques zs-deques) ∷ ‵ (Mine R-Frame κ-frames q-frames γ-frames b-frames o-frames n-frames zs-frames) ∷ ‵ (Mine u32 κ-pool q-pool γ-pool b-pool o-pool n-pool zs-pool) ∷ ‵ (Mine u32 κ-memory q-memory γ-memory b-memory o-memory n-memory zs-memory) ∷ [])) (Post (val-Visited res'))
   exits' res' zs-deques zs-frames zs-pool zs-memory good' e' same-deques same-frames same-pool same_memory =
       qed 𝓛 (‵ (Mine u32 κ-deques q-deques γ-deques b-deques o-deques n-deques zs-deques) ∷ ‵ (Mine R-Frame κ-frames q-frames γ-frames b-frames o-frames n-frames zs-frames) ∷ ‵ (Mine u32 κ-pool q-pool γ-pool b-pool o-pool n-pool zs-pool) ∷ ‵ (Mine u32 κ-memory q-memory γ-memory b-memory o-memory n-memory zs-memory) ∷ []) ∵
       suffices ! _ (ends_at 𝓛 f'.ended stayed (f'.clauses 𝓛 mem run) bound' (val-Visited res') res' (tt, (zs-deques, (zs-frames, (zs-pool, (zs-memory, (tt, (tt, (tt, (tt, (tt, (tt, (tt, tt)))))))))))) (tt, (same-deques, (same-frames, (same-pool, (same_memory, (tt, (tt, (tt, (tt, (tt, (tt, (tt, tt))))))))))))) $ says ! e' $
@@ -190,7 +190,7 @@ module _ {M : Type 1} {𝓤 : Ura M} (𝓛 : Logic 𝓤) (mem : Memory → SProp
     abbrev fm : FmC 𝓤 H 𝓛.laws 𝓣.C
     fm = fm_of 𝓤 H 𝓛.laws 𝓣
 
-    walk : Ready (core h [] deques frames pool) × Recalls (core h [] deques frames pool) memory × ActsAt (core h [] deques frames pool) w n p × (x < h.numbers.splitters) × (root ≡ (frameAt frames p).root) × (found.shared ≡ true) × IsShared h.height found.shared found.level found.node found.above (firstShared h.height pool root root x) × (found.visits ≡ suc (h.height - found.level)) → ent 𝓤 (on_entry 𝓛 f'.signature (κ-deques, (κ-frames, (κ-pool, (κ-memory, tt)))) (q-deques, (q-frames, (q-pool, (q-memory, tt)))) args' vals') (WpFn 𝓤 H 𝓣.C 𝓣.Λ code.function (val-Head h ∷ slice_val (b-deques, o-deques) (length deques) ∷ slice_val (b-frames, o-frames) (length frames) ∷ slice_val (b-pool, o-pool) (length pool) ∷ slice_val (b-memory, o-memory) (length memory) ∷ vint w32 w ∷ vint w32 n ∷ vint w32 p ∷ vint w32 x ∷ vint w32 v ∷ vint w32 root ∷ val-FirstShared found ∷ []) Post)
+    walk : Ready (core h [] deques frames pool) × Recalls (core h [] deques frames pool) memory × ActsAt (core h [] deques frames pool) w n p × (x < h.numbers.splitters) × (root ≡ (frame_at frames p).root) × (found.shared ≡ true) × IsShared h.height found.shared found.level found.node found.above (first_shared h.height pool root root x) × (found.visits ≡ suc (h.height - found.level)) → ent 𝓤 (on_entry 𝓛 f'.signature (κ-deques, (κ-frames, (κ-pool, (κ-memory, tt)))) (q-deques, (q-frames, (q-pool, (q-memory, tt)))) args' vals') (WpFn 𝓤 H 𝓣.C 𝓣.Λ code.function (val-Head h ∷ slice_val (b-deques, o-deques) (length deques) ∷ slice_val (b-frames, o-frames) (length frames) ∷ slice_val (b-pool, o-pool) (length pool) ∷ slice_val (b-memory, o-memory) (length memory) ∷ vint w32 w ∷ vint w32 n ∷ vint w32 p ∷ vint w32 x ∷ vint w32 v ∷ vint w32 root ∷ val-FirstShared found ∷ []) Post)
     walk ok' =
         qed 𝓛 ((‵ (flft κ-deques q-deques) ⊛ ‵ (flft κ-frames q-frames) ⊛ ‵ (flft κ-pool q-pool) ⊛ ‵ (flft κ-memory q-memory) ⊛ ‵ ftrue) ∷ ‵ (owns (R-Head ∷ MutSlice (named 0) κ-deques u32 ∷ MutSlice (named 1) κ-frames R-Frame ∷ MutSlice (named 2) κ-pool u32 ∷ MutSlice (named 3) κ-memory u32 ∷ u32 ∷ u32 ∷ u32 ∷ u32 ∷ u32 ∷ u32 ∷ R-FirstShared ∷ []) args' vals') ∷ []) ∵ enter ! 𝓣.C 𝓣.Λ code.function (val-Head h ∷ slice_val (b-deques, o-deques) (length deques) ∷ slice_val (b-frames, o-frames) (length frames) ∷ slice_val (b-pool, o-pool) (length pool) ∷ slice_val (b-memory, o-memory) (length memory) ∷ vint w32 w ∷ vint w32 n ∷ vint w32 p ∷ vint w32 x ∷ vint w32 v ∷ vint w32 root ∷ val-FirstShared found ∷ []) _ $
         alloc1 ! (λ l₀. alloc1 ! (λ l₁. alloc1 ! (λ l₂. alloc1 ! (λ l₃. alloc1 ! (λ l₄. alloc1 ! (λ l₅. alloc1 ! (λ l₆. alloc1 ! (λ l₇. alloc1 ! (λ l₈. alloc1 ! (λ l₉. alloc1 ! (λ l₁₀. alloc1 ! (λ l₁₁. alloc1 ! (λ l₁₂. alloc1 ! (λ l₁₃. alloc1 ! (λ l₁₄. alloc1 ! (λ l₁₅. alloc1 ! (λ l₁₆. alloc1 ! (λ l₁₇. alloc1 ! (λ l₁₈. alloc1 ! (λ l₁₉. alloc1 ! (λ l₂₀. alloc1 ! (λ l₂₁. alloc1 ! (λ l₂₂. alloc1 ! (λ l₂₃. alloc1 ! (λ l₂₄. alloc1 ! (λ l₂₅. alloc1 ! (λ l₂₆. alloc1 ! (λ l₂₇. alloc1 ! (λ l₂₈. alloc0 ! $ params1 ! $
@@ -198,7 +198,7 @@ module _ {M : Type 1} {𝓤 : Ura M} (𝓛 : Logic 𝓤) (mem : Memory → SProp
         move ! (59 ∷ []) $ fsplit ! $ drop ! $ fsplit ! $ move ! (1 ∷ []) $ fsplit ! $ move ! (1 ∷ []) $ fsplit ! $ move ! (1 ∷ []) $ fsplit ! $ move ! (1 ∷ []) $ fsplit ! $ drop ! $ fsplit ! $ drop ! $ fsplit ! $ drop ! $ fsplit ! $ drop ! $ fsplit ! $ drop ! $ fsplit ! $ drop ! $ fsplit ! $ drop ! $ drop ! $ move ! (62 ∷ []) $ split ! $ move ! (1 ∷ []) $ split ! $ move ! (1 ∷ []) $ split ! $ move ! (1 ∷ []) $ split ! $ move ! (1 ∷ []) $ drop ! $ move ! (4 ∷ 0 ∷ []) $ fjoin ! $ move ! (4 ∷ 1 ∷ []) $ fjoin ! $ move ! (4 ∷ 2 ∷ []) $ fjoin ! $ move ! (4 ∷ 3 ∷ []) $ fjoin ! $
         -- [deques; frames; pool; memory; the locals]
         assigns ! (bin ! (load ! (from ! (fld ! refl (stop !))) (look_in ! 58 (sub ! 2 refl (whole !)))) (load ! (from ! (fld ! refl (stop !))) (look_in ! 36 (sub ! 1 refl (whole !)))) tt) (from ! (stop !)) (init ! 30 refl (tt, tt)) $
-        leave-if ! (load ! (from ! (stop !)) (look ! 30 refl))
+        leave_if ! (load ! (from ! (stop !)) (look ! 30 refl))
         (λ test-1.
         -- _16 = engine::kinds::pool_full(_1)
         S-pool-full.step mem run ! fm known-pool-full h h-good
@@ -264,7 +264,7 @@ module _ {M : Type 1} {𝓤 : Ura M} (𝓛 : Logic 𝓤) (mem : Memory → SProp
   walks known-pool-full known-visited known-write-shared known-frame-at known-with-root known-put-frame known-remember known_written = walked 𝓛 f'.ended stayed (f'.clauses 𝓛 mem run) (WpFn 𝓤 H 𝓣.C 𝓣.Λ code.function)
       (λ κs. (LL.vals M-Head.the_type L-Head.the_laws, (mut_slice_vals, (mut_slice_vals, (mut_slice_vals, (mut_slice_vals, (uint_vals w32, (uint_vals w32, (uint_vals w32, (uint_vals w32, (uint_vals w32, (uint_vals w32, (LL.vals M-FirstShared.the_type L-FirstShared.the_laws, tt)))))))))))))
       (λ κs. (LL.tells M-Head.the_type L-Head.the_laws, (mut_slice_Tells (named 0) κs.0 u32, (mut_slice_Tells (named 1) κs.1.0 R-Frame, (mut_slice_Tells (named 2) κs.1.1.0 u32, (mut_slice_Tells (named 3) κs.1.1.1.0 u32, (uint_Tells w32, (uint_Tells w32, (uint_Tells w32, (uint_Tells w32, (uint_Tells w32, (uint_Tells w32, (LL.tells M-FirstShared.the_type L-FirstShared.the_laws, tt)))))))))))))
-      (λ κs qs bounds a g are. needs 𝓤 (Ready (core a.0 [] a.1.0.now a.1.1.0.now a.1.1.1.0.now) × Recalls (core a.0 [] a.1.0.now a.1.1.0.now a.1.1.1.0.now) a.1.1.1.1.0.now × ActsAt (core a.0 [] a.1.0.now a.1.1.0.now a.1.1.1.0.now) a.1.1.1.1.1.0 a.1.1.1.1.1.1.0 a.1.1.1.1.1.1.1.0 × (a.1.1.1.1.1.1.1.1.0 < a.0.numbers.splitters) × (a.1.1.1.1.1.1.1.1.1.1.0 ≡ (frameAt a.1.1.0.now a.1.1.1.1.1.1.1.0).root) × (a.1.1.1.1.1.1.1.1.1.1.1.0.shared ≡ true) × IsShared a.0.height a.1.1.1.1.1.1.1.1.1.1.1.0.shared a.1.1.1.1.1.1.1.1.1.1.1.0.level a.1.1.1.1.1.1.1.1.1.1.1.0.node a.1.1.1.1.1.1.1.1.1.1.1.0.above (firstShared a.0.height a.1.1.1.0.now a.1.1.1.1.1.1.1.1.1.1.0 a.1.1.1.1.1.1.1.1.1.1.0 a.1.1.1.1.1.1.1.1.0) × (a.1.1.1.1.1.1.1.1.1.1.1.0.visits ≡ suc (a.0.height - a.1.1.1.1.1.1.1.1.1.1.1.0.level))) _
+      (λ κs qs bounds a g are. needs 𝓤 (Ready (core a.0 [] a.1.0.now a.1.1.0.now a.1.1.1.0.now) × Recalls (core a.0 [] a.1.0.now a.1.1.0.now a.1.1.1.0.now) a.1.1.1.1.0.now × ActsAt (core a.0 [] a.1.0.now a.1.1.0.now a.1.1.1.0.now) a.1.1.1.1.1.0 a.1.1.1.1.1.1.0 a.1.1.1.1.1.1.1.0 × (a.1.1.1.1.1.1.1.1.0 < a.0.numbers.splitters) × (a.1.1.1.1.1.1.1.1.1.1.0 ≡ (frame_at a.1.1.0.now a.1.1.1.1.1.1.1.0).root) × (a.1.1.1.1.1.1.1.1.1.1.1.0.shared ≡ true) × IsShared a.0.height a.1.1.1.1.1.1.1.1.1.1.1.0.shared a.1.1.1.1.1.1.1.1.1.1.1.0.level a.1.1.1.1.1.1.1.1.1.1.1.0.node a.1.1.1.1.1.1.1.1.1.1.1.0.above (first_shared a.0.height a.1.1.1.0.now a.1.1.1.1.1.1.1.1.1.1.0 a.1.1.1.1.1.1.1.1.1.1.0 a.1.1.1.1.1.1.1.1.0) × (a.1.1.1.1.1.1.1.1.1.1.1.0.visits ≡ suc (a.0.height - a.1.1.1.1.1.1.1.1.1.1.1.0.level))) _
       (walk 𝓛 mem run κs.0 qs.0 a.1.0.ref_ptr.0 a.1.0.ref_ptr.1 a.1.0.ghost_name a.1.0.now κs.1.0 qs.1.0 a.1.1.0.ref_ptr.0 a.1.1.0.ref_ptr.1 a.1.1.0.ghost_name a.1.1.0.now κs.1.1.0 qs.1.1.0 a.1.1.1.0.ref_ptr.0 a.1.1.1.0.ref_ptr.1 a.1.1.1.0.ghost_name a.1.1.1.0.now κs.1.1.1.0 qs.1.1.1.0 a.1.1.1.1.0.ref_ptr.0 a.1.1.1.1.0.ref_ptr.1 a.1.1.1.1.0.ghost_name a.1.1.1.1.0.now a.0 are.0 a.1.1.1.1.1.0 are.1.1.1.1.1.0.1 a.1.1.1.1.1.1.0 are.1.1.1.1.1.1.0.1 a.1.1.1.1.1.1.1.0 are.1.1.1.1.1.1.1.0.1 a.1.1.1.1.1.1.1.1.0 are.1.1.1.1.1.1.1.1.0.1 a.1.1.1.1.1.1.1.1.1.0 are.1.1.1.1.1.1.1.1.1.0.1 a.1.1.1.1.1.1.1.1.1.1.0 are.1.1.1.1.1.1.1.1.1.1.0.1 a.1.1.1.1.1.1.1.1.1.1.1.0 are.1.1.1.1.1.1.1.1.1.1.1.0 are.1.0.0.1 are.1.1.0.0.1 are.1.1.1.0.0.1 are.1.1.1.1.0.0.1 𝓣 known-pool-full known-visited known-write-shared known-frame-at known-with-root known-put-frame known-remember known_written))
 
   meets : Triple 𝓤 (𝓣.C #pool-full) (S-pool-full.Asked 𝓛 mem run) → Triple 𝓤 (𝓣.C #visited) (S-visited.Asked 𝓛 mem run) → Triple 𝓤 (𝓣.C #write-shared) (S-write-shared.Asked 𝓛 mem run) → Triple 𝓤 (𝓣.C #frame-at) (S-frame-at.Asked 𝓛 mem run) → Triple 𝓤 (𝓣.C #with-root) (S-with-root.Asked 𝓛 mem run) → Triple 𝓤 (𝓣.C #put-frame) (S-put-frame.Asked 𝓛 mem run) → Triple 𝓤 (𝓣.C #remember) (S-remember.Asked 𝓛 mem run) → Triple 𝓤 (𝓣.C #written) (S-written.Asked 𝓛 mem run) → Meets 𝓛 f'.signature (WpFn 𝓤 H 𝓣.C 𝓣.Λ code.function) (f'.spec 𝓛 mem run)

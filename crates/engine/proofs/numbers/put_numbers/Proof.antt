@@ -1,11 +1,11 @@
 -- Ten stores into ten words.
 use Rattle.std.proofs.Common.{arith, length-set, rules}
-use Rattle.engine.proofs.NumberWords.{ten-words}
+use Rattle.engine.proofs.NumberWords.{ten_words}
 use Rattle.engine.proofs.numbers.put_numbers.Statement.{statement}
 use Rattle.engine.proofs.numbers.put_numbers.Tie as tie
 
 returns : tie.Need-returns
-returns c = ten-words c.args.numbers.now _ _ _ _ _ _ c.requires
+returns c = ten_words c.args.numbers.now _ _ _ _ _ _ c.requires
 
 pub put-numbers-spec : {M : Type 1} → statement M
 put-numbers-spec =

@@ -1,11 +1,11 @@
 -- Four stores into ten words.
 use Rattle.std.proofs.Common.{arith, length-set, rules}
-use Rattle.engine.proofs.NumberWords.{totals-stored}
+use Rattle.engine.proofs.NumberWords.{totals_stored}
 use Rattle.engine.proofs.numbers.put_totals.Statement.{statement}
 use Rattle.engine.proofs.numbers.put_totals.Tie as tie
 
 returns : tie.Need-returns
-returns c = totals-stored c.args.numbers.now _ _ _ _ c.requires
+returns c = totals_stored c.args.numbers.now _ _ _ _ c.requires
 
 pub put-totals-spec : {M : Type 1} → statement M
 put-totals-spec =

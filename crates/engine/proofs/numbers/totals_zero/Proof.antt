@@ -1,5 +1,5 @@
 -- Word by word.
-use Rattle.engine.proofs.NumberWords.{zero-totals}
+use Rattle.engine.proofs.NumberWords.{zero_totals_lem}
 use Rattle.std.proofs.Common.{rules}
 use Rattle.engine.proofs.numbers.totals_zero.Statement.{statement}
 use Rattle.engine.proofs.numbers.totals_zero.Tie as tie
@@ -17,7 +17,7 @@ shared-slice-read-result-4 : tie.Need-shared-slice-read-result-4
 shared-slice-read-result-4 c = search rules
 
 returns : tie.Need-returns
-returns c = zero-totals c.before.before.before.before.args.numbers.now c.before.before.before.before.requires
+returns c = zero_totals_lem c.before.before.before.before.args.numbers.now c.before.before.before.before.requires
 
 pub totals-zero-spec : {M : Type 1} → statement M
 totals-zero-spec =

@@ -39,11 +39,11 @@ use denote.Triple.Statement.{Triple}
 use denote.Triple.Table.{entered, cited}
 use denote.Triple.Walked.{says, needs, Stays, stay_slice, stay_none, stay_none_slice, walk_of, Walks, ends_at, walked, Goes-slice, Goes-none, Goes-none_slice, walk_Meets}
 use borrow.Author.Rules.{scaled_Fits}
-use Rattle.frames.proofs.Lent.{at-list, Mine, Yours, ty_at, exit-unless, exit-if, leave-if, fork, skipped, regroup, matched, matched-last, const, is_true, is_false, not-not, differ, widen, less-fits, after, turn-of, take_out, put_in, put_back, look-out, look-back, free_all}
-use Rattle.soundness.specs.Numbers.{numbersIn, totalsIn, numberCount}
-use Rattle.semantics.specs.Core.{stepOn}
+use Rattle.frames.proofs.Lent.{at_list, Mine, Yours, ty_at, exit_unless, exit_if, leave_if, fork, skipped, regroup, matched, matched_last, const, is_true, is_false, not_not, differ, widen, less_fits, after, turn_of_lem, take_out, put_in, put_back, look_out, look_back, free_all}
+use Rattle.soundness.specs.Numbers.{numbers_in, totals_in, number_count}
+use Rattle.semantics.specs.Core.{step_on}
 use Rattle.semantics.specs.Ranges.{Ready}
-use Rattle.engine.specs.Promises.{core, Leaves, stepBy}
+use Rattle.engine.specs.Promises.{core, Leaves, step_by}
 use Rattle.soundness.specs.Layout.{two_words}
 use Rattle.engine.proofs.Called.step_spawn as S-step-spawn
 use Rattle.engine.proofs.kinds.step_spawn.Symbol as D-step-spawn
@@ -127,7 +127,7 @@ module _ {M : Type 1} {𝓤 : Ura M} (𝓛 : Logic 𝓤) (mem : Memory → SProp
   n-pool = length pool
 
   abbrev args' : Head × (MutBor (List ℕ) × (MutBor (List ℕ) × (MutBor (List Frame) × (MutBor (List ℕ) × (Fields × Unit {0})))))
-  args' = (h, (at-list b-numbers o-numbers γ-numbers numbers, (at-list b-deques o-deques γ-deques deques, (at-list b-frames o-frames γ-frames frames, (at-list b-pool o-pool γ-pool pool, (r, tt))))))
+  args' = (h, (at_list b-numbers o-numbers γ-numbers numbers, (at_list b-deques o-deques γ-deques deques, (at_list b-frames o-frames γ-frames frames, (at_list b-pool o-pool γ-pool pool, (r, tt))))))
 
   abbrev vals' : Vals f'.signature (κ-numbers, (κ-deques, (κ-frames, (κ-pool, tt))))
   vals' = (val-Head h ∷ [], (slice_val (b-numbers, o-numbers) (length numbers) ∷ [], (slice_val (b-deques, o-deques) (length deques) ∷ [], (slice_val (b-frames, o-frames) (length frames) ∷ [], (slice_val (b-pool, o-pool) (length pool) ∷ [], (val-Fields r ∷ [], tt))))))
@@ -138,7 +138,7 @@ module _ {M : Type 1} {𝓤 : Ura M} (𝓛 : Logic 𝓤) (mem : Memory → SProp
   abbrev Post : Val → SProp 𝓤
   Post = (walk_of 𝓛 f'.ended stayed (f'.clauses 𝓛 mem run)).post bound'
 
-  exits' : (res' : Out) (zs-numbers : List ℕ) (zs-deques : List ℕ) (zs-frames : List Frame) (zs-pool : List ℕ) → Is R-Out res' (val-Out res' ∷ []) → (numbersIn zs-numbers ≡ numbersIn numbers) × Leaves h res' (totalsIn zs-numbers) zs-deques zs-frames zs-pool (stepOn two_words (core h (totalsIn numbers) deques frames pool) (stepBy r)) → length zs-numbers ≡ length numbers → length zs-deques ≡ length deques → length zs-frames ≡ length frames → length zs-pool ≡ length pool → ent 𝓤 (⋆ 𝓛 (‵ (Mine u32 κ-numbers q-numbers γ-numbers b-numbers o-numbers n-numbers zs-numbers) ∷ ‵ (Mine u32 κ-deques q-deques γ-deques b-deques o-deques n-deques zs-deques) ∷ ‵ (Mine R-Frame κ-frames q-frames γ-frames b-frames o-frames n-frames zs-frames) ∷ ‵ (Mine u32 κ-pool q-pool γ-pool b-pool o-pool n-pool zs-pool) ∷ [])) (Post (val-Out res'))
+  exits' : (res' : Out) (zs-numbers : List ℕ) (zs-deques : List ℕ) (zs-frames : List Frame) (zs-pool : List ℕ) → Is R-Out res' (val-Out res' ∷ []) → (numbers_in zs-numbers ≡ numbers_in numbers) × Leaves h res' (totals_in zs-numbers) zs-deques zs-frames zs-pool (step_on two_words (core h (totals_in numbers) deques frames pool) (step_by r)) → length zs-numbers ≡ length numbers → length zs-deques ≡ length deques → length zs-frames ≡ length frames → length zs-pool ≡ length pool → ent 𝓤 (⋆ 𝓛 (‵ (Mine u32 κ-numbers q-numbers γ-numbers b-numbers o-numbers n-numbers zs-numbers) ∷ ‵ (Mine u32 κ-deques q-deques γ-deques b-deques o-deques n-deques zs-deques) ∷ ‵ (Mine R-Frame κ-frames q-frames γ-frames b-frames o-frames n-frames zs-frames) ∷ ‵ (Mine u32 κ-pool q-pool γ-pool b-pool o-pool n-pool zs-pool) ∷ [])) (Post (val-Out res'))
   exits' res' zs-numbers zs-deques zs-frames zs-pool good' e' same_numbers same-deques same-frames same-pool =
       qed 𝓛 (‵ (Mine u32 κ-numbers q-numbers γ-numbers b-numbers o-numbers n-numbers zs-numbers) ∷ ‵ (Mine u32 κ-deques q-deques γ-deques b-deques o-deques n-deques zs-deques) ∷ ‵ (Mine R-Frame κ-frames q-frames γ-frames b-frames o-frames n-frames zs-frames) ∷ ‵ (Mine u32 κ-pool q-pool γ-pool b-pool o-pool n-pool zs-pool) ∷ []) ∵
       suffices ! _ (ends_at 𝓛 f'.ended stayed (f'.clauses 𝓛 mem run) bound' (val-Out res') res' (tt, (zs-numbers, (zs-deques, (zs-frames, (zs-pool, (tt, tt)))))) (tt, (same_numbers, (same-deques, (same-frames, (same-pool, (tt, tt))))))) $ says ! e' $
@@ -150,7 +150,7 @@ module _ {M : Type 1} {𝓤 : Ura M} (𝓛 : Logic 𝓤) (mem : Memory → SProp
     abbrev fm : FmC 𝓤 H 𝓛.laws 𝓣.C
     fm = fm_of 𝓤 H 𝓛.laws 𝓣
 
-    walk : (length numbers ≡ numberCount) × Ready (core h (totalsIn numbers) deques frames pool) × (r.kind ≢ 5) × (r.kind ≢ 6) → ent 𝓤 (on_entry 𝓛 f'.signature (κ-numbers, (κ-deques, (κ-frames, (κ-pool, tt)))) (q-numbers, (q-deques, (q-frames, (q-pool, tt)))) args' vals') (WpFn 𝓤 H 𝓣.C 𝓣.Λ code.function (val-Head h ∷ slice_val (b-numbers, o-numbers) (length numbers) ∷ slice_val (b-deques, o-deques) (length deques) ∷ slice_val (b-frames, o-frames) (length frames) ∷ slice_val (b-pool, o-pool) (length pool) ∷ val-Fields r ∷ []) Post)
+    walk : (length numbers ≡ number_count) × Ready (core h (totals_in numbers) deques frames pool) × (r.kind ≢ 5) × (r.kind ≢ 6) → ent 𝓤 (on_entry 𝓛 f'.signature (κ-numbers, (κ-deques, (κ-frames, (κ-pool, tt)))) (q-numbers, (q-deques, (q-frames, (q-pool, tt)))) args' vals') (WpFn 𝓤 H 𝓣.C 𝓣.Λ code.function (val-Head h ∷ slice_val (b-numbers, o-numbers) (length numbers) ∷ slice_val (b-deques, o-deques) (length deques) ∷ slice_val (b-frames, o-frames) (length frames) ∷ slice_val (b-pool, o-pool) (length pool) ∷ val-Fields r ∷ []) Post)
     walk ok' =
         qed 𝓛 ((‵ (flft κ-numbers q-numbers) ⊛ ‵ (flft κ-deques q-deques) ⊛ ‵ (flft κ-frames q-frames) ⊛ ‵ (flft κ-pool q-pool) ⊛ ‵ ftrue) ∷ ‵ (owns (R-Head ∷ MutSlice (named 0) κ-numbers u32 ∷ MutSlice (named 1) κ-deques u32 ∷ MutSlice (named 2) κ-frames R-Frame ∷ MutSlice (named 3) κ-pool u32 ∷ R-Fields ∷ []) args' vals') ∷ []) ∵ enter ! 𝓣.C 𝓣.Λ code.function (val-Head h ∷ slice_val (b-numbers, o-numbers) (length numbers) ∷ slice_val (b-deques, o-deques) (length deques) ∷ slice_val (b-frames, o-frames) (length frames) ∷ slice_val (b-pool, o-pool) (length pool) ∷ val-Fields r ∷ []) _ $
         alloc1 ! (λ l₀. alloc1 ! (λ l₁. alloc1 ! (λ l₂. alloc1 ! (λ l₃. alloc1 ! (λ l₄. alloc1 ! (λ l₅. alloc1 ! (λ l₆. alloc1 ! (λ l₇. alloc1 ! (λ l₈. alloc1 ! (λ l₉. alloc1 ! (λ l₁₀. alloc1 ! (λ l₁₁. alloc1 ! (λ l₁₂. alloc1 ! (λ l₁₃. alloc1 ! (λ l₁₄. alloc1 ! (λ l₁₅. alloc1 ! (λ l₁₆. alloc1 ! (λ l₁₇. alloc1 ! (λ l₁₈. alloc1 ! (λ l₁₉. alloc1 ! (λ l₂₀. alloc1 ! (λ l₂₁. alloc1 ! (λ l₂₂. alloc1 ! (λ l₂₃. alloc1 ! (λ l₂₄. alloc1 ! (λ l₂₅. alloc1 ! (λ l₂₆. alloc1 ! (λ l₂₇. alloc1 ! (λ l₂₈. alloc1 ! (λ l₂₉. alloc1 ! (λ l₃₀. alloc1 ! (λ l₃₁. alloc1 ! (λ l₃₂. alloc1 ! (λ l₃₃. alloc1 ! (λ l₃₄. alloc1 ! (λ l₃₅. alloc1 ! (λ l₃₆. alloc1 ! (λ l₃₇. alloc1 ! (λ l₃₈. alloc1 ! (λ l₃₉. alloc0 ! $ params1 ! $
@@ -158,7 +158,7 @@ module _ {M : Type 1} {𝓤 : Ura M} (𝓛 : Logic 𝓤) (mem : Memory → SProp
         move ! (81 ∷ []) $ fsplit ! $ drop ! $ fsplit ! $ move ! (1 ∷ []) $ fsplit ! $ move ! (1 ∷ []) $ fsplit ! $ move ! (1 ∷ []) $ fsplit ! $ move ! (1 ∷ []) $ fsplit ! $ drop ! $ drop ! $ move ! (84 ∷ []) $ split ! $ move ! (1 ∷ []) $ split ! $ move ! (1 ∷ []) $ split ! $ move ! (1 ∷ []) $ split ! $ move ! (1 ∷ []) $ drop ! $ move ! (4 ∷ 0 ∷ []) $ fjoin ! $ move ! (4 ∷ 1 ∷ []) $ fjoin ! $ move ! (4 ∷ 2 ∷ []) $ fjoin ! $ move ! (4 ∷ 3 ∷ []) $ fjoin ! $
         -- [numbers; deques; frames; pool; the locals]
         assigns ! (bin ! (load ! (from ! (fld ! refl (stop !))) (look_in ! 70 (sub ! 0 refl (whole !)))) (const ! _ tt) tt) (from ! (stop !)) (init ! 68 refl (tt, tt)) $
-        leave-if ! (load ! (from ! (stop !)) (look ! 68 refl))
+        leave_if ! (load ! (from ! (stop !)) (look ! 68 refl))
         (λ test-1.
         assigns ! (addr ! (from ! (fld ! refl (hop ! (look_in ! 76 (sub ! 0 refl (whole !))) (stop !))))) (from ! (stop !)) (init ! 66 refl (tt, tt)) $
         assigns ! (agg ! (and_then ! (load ! (from ! (stop !)) (look ! 66 refl)) (and_then ! (load ! (from ! (fld ! refl (stop !))) (look_in ! 76 (sub ! 1 refl (whole !)))) (no_more !)))) (from ! (stop !)) (init ! 64 refl (tt, (tt, (record { fits = room-deques.0 }, tt)))) $
@@ -177,7 +177,7 @@ module _ {M : Type 1} {𝓤 : Ura M} (𝓛 : Logic 𝓤) (mem : Memory → SProp
         by ! (exits' r-2 numbers deques-2 frames-2 pool-2 r-2-good (F.out-3 h numbers deques frames pool r room-numbers.0 room-deques.0 room-frames.0 room-pool.0 ok' (eqb→eq r.kind 1 test-1) r-2 deques-2 frames-2 pool-2 r-2-is same-deques-2 same-frames-2 same-pool-2) (refl) (same-deques-2) (same-frames-2) (same-pool-2))))
         (λ test-1.
         assigns ! (bin ! (load ! (from ! (fld ! refl (stop !))) (look_in ! 70 (sub ! 0 refl (whole !)))) (const ! _ tt) tt) (from ! (stop !)) (store ! 68 refl (tt, tt)) $
-        leave-if ! (load ! (from ! (stop !)) (look ! 68 refl))
+        leave_if ! (load ! (from ! (stop !)) (look ! 68 refl))
         (λ test-4.
         assigns ! (addr ! (from ! (fld ! refl (hop ! (look_in ! 78 (sub ! 0 refl (whole !))) (stop !))))) (from ! (stop !)) (init ! 54 refl (tt, tt)) $
         assigns ! (agg ! (and_then ! (load ! (from ! (stop !)) (look ! 54 refl)) (and_then ! (load ! (from ! (fld ! refl (stop !))) (look_in ! 78 (sub ! 1 refl (whole !)))) (no_more !)))) (from ! (stop !)) (init ! 52 refl (tt, (tt, (record { fits = room-numbers.0 }, tt)))) $
@@ -196,7 +196,7 @@ module _ {M : Type 1} {𝓤 : Ura M} (𝓛 : Logic 𝓤) (mem : Memory → SProp
         by ! (exits' r-5 numbers-5 deques-5 frames-5 pool-5 r-5-good (F.out-6 h numbers deques frames pool r room-numbers.0 room-deques.0 room-frames.0 room-pool.0 ok' (differ r.kind 1 test-1) (eqb→eq r.kind 2 test-4) r-5 numbers-5 deques-5 frames-5 pool-5 r-5-is same-numbers-5 same-deques-5 same-frames-5 same-pool-5) (same-numbers-5) (same-deques-5) (same-frames-5) (same-pool-5))))
         (λ test-4.
         assigns ! (bin ! (load ! (from ! (fld ! refl (stop !))) (look_in ! 70 (sub ! 0 refl (whole !)))) (const ! _ tt) tt) (from ! (stop !)) (store ! 68 refl (tt, tt)) $
-        leave-if ! (load ! (from ! (stop !)) (look ! 68 refl))
+        leave_if ! (load ! (from ! (stop !)) (look ! 68 refl))
         (λ test-7.
         assigns ! (addr ! (from ! (fld ! refl (hop ! (look_in ! 76 (sub ! 0 refl (whole !))) (stop !))))) (from ! (stop !)) (init ! 38 refl (tt, tt)) $
         assigns ! (agg ! (and_then ! (load ! (from ! (stop !)) (look ! 38 refl)) (and_then ! (load ! (from ! (fld ! refl (stop !))) (look_in ! 76 (sub ! 1 refl (whole !)))) (no_more !)))) (from ! (stop !)) (init ! 36 refl (tt, (tt, (record { fits = room-deques.0 }, tt)))) $
@@ -215,7 +215,7 @@ module _ {M : Type 1} {𝓤 : Ura M} (𝓛 : Logic 𝓤) (mem : Memory → SProp
         by ! (exits' r-8 numbers deques-8 frames-8 pool-8 r-8-good (F.out-9 h numbers deques frames pool r room-numbers.0 room-deques.0 room-frames.0 room-pool.0 ok' (differ r.kind 1 test-1) (differ r.kind 2 test-4) (eqb→eq r.kind 3 test-7) r-8 deques-8 frames-8 pool-8 r-8-is same-deques-8 same-frames-8 same-pool-8) (refl) (same-deques-8) (same-frames-8) (same-pool-8))))
         (λ test-7.
         assigns ! (bin ! (load ! (from ! (fld ! refl (stop !))) (look_in ! 70 (sub ! 0 refl (whole !)))) (const ! _ tt) tt) (from ! (stop !)) (store ! 68 refl (tt, tt)) $
-        leave-if ! (load ! (from ! (stop !)) (look ! 68 refl))
+        leave_if ! (load ! (from ! (stop !)) (look ! 68 refl))
         (λ test-10.
         assigns ! (addr ! (from ! (fld ! refl (hop ! (look_in ! 76 (sub ! 0 refl (whole !))) (stop !))))) (from ! (stop !)) (init ! 26 refl (tt, tt)) $
         assigns ! (agg ! (and_then ! (load ! (from ! (stop !)) (look ! 26 refl)) (and_then ! (load ! (from ! (fld ! refl (stop !))) (look_in ! 76 (sub ! 1 refl (whole !)))) (no_more !)))) (from ! (stop !)) (init ! 24 refl (tt, (tt, (record { fits = room-deques.0 }, tt)))) $
@@ -256,7 +256,7 @@ module _ {M : Type 1} {𝓤 : Ura M} (𝓛 : Logic 𝓤) (mem : Memory → SProp
   walks known-step-spawn known-step-return known-step-steal known-step-sync known-step-fold = walked 𝓛 f'.ended stayed (f'.clauses 𝓛 mem run) (WpFn 𝓤 H 𝓣.C 𝓣.Λ code.function)
       (λ κs. (LL.vals M-Head.the_type L-Head.the_laws, (mut_slice_vals, (mut_slice_vals, (mut_slice_vals, (mut_slice_vals, (LL.vals M-Fields.the_type L-Fields.the_laws, tt)))))))
       (λ κs. (LL.tells M-Head.the_type L-Head.the_laws, (mut_slice_Tells (named 0) κs.0 u32, (mut_slice_Tells (named 1) κs.1.0 u32, (mut_slice_Tells (named 2) κs.1.1.0 R-Frame, (mut_slice_Tells (named 3) κs.1.1.1.0 u32, (LL.tells M-Fields.the_type L-Fields.the_laws, tt)))))))
-      (λ κs qs bounds a g are. needs 𝓤 ((length a.1.0.now ≡ numberCount) × Ready (core a.0 (totalsIn a.1.0.now) a.1.1.0.now a.1.1.1.0.now a.1.1.1.1.0.now) × (a.1.1.1.1.1.0.kind ≢ 5) × (a.1.1.1.1.1.0.kind ≢ 6)) _
+      (λ κs qs bounds a g are. needs 𝓤 ((length a.1.0.now ≡ number_count) × Ready (core a.0 (totals_in a.1.0.now) a.1.1.0.now a.1.1.1.0.now a.1.1.1.1.0.now) × (a.1.1.1.1.1.0.kind ≢ 5) × (a.1.1.1.1.1.0.kind ≢ 6)) _
       (walk 𝓛 mem run κs.0 qs.0 a.1.0.ref_ptr.0 a.1.0.ref_ptr.1 a.1.0.ghost_name a.1.0.now κs.1.0 qs.1.0 a.1.1.0.ref_ptr.0 a.1.1.0.ref_ptr.1 a.1.1.0.ghost_name a.1.1.0.now κs.1.1.0 qs.1.1.0 a.1.1.1.0.ref_ptr.0 a.1.1.1.0.ref_ptr.1 a.1.1.1.0.ghost_name a.1.1.1.0.now κs.1.1.1.0 qs.1.1.1.0 a.1.1.1.1.0.ref_ptr.0 a.1.1.1.1.0.ref_ptr.1 a.1.1.1.1.0.ghost_name a.1.1.1.1.0.now a.0 are.0 a.1.1.1.1.1.0 are.1.1.1.1.1.0 are.1.0.0.1 are.1.1.0.0.1 are.1.1.1.0.0.1 are.1.1.1.1.0.0.1 𝓣 known-step-spawn known-step-return known-step-steal known-step-sync known-step-fold))
 
   meets : Triple 𝓤 (𝓣.C #step-spawn) (S-step-spawn.Asked 𝓛 mem run) → Triple 𝓤 (𝓣.C #step-return) (S-step-return.Asked 𝓛 mem run) → Triple 𝓤 (𝓣.C #step-steal) (S-step-steal.Asked 𝓛 mem run) → Triple 𝓤 (𝓣.C #step-sync) (S-step-sync.Asked 𝓛 mem run) → Triple 𝓤 (𝓣.C #step-fold) (S-step-fold.Asked 𝓛 mem run) → Meets 𝓛 f'.signature (WpFn 𝓤 H 𝓣.C 𝓣.Λ code.function) (f'.spec 𝓛 mem run)

@@ -39,10 +39,10 @@ use denote.Triple.Statement.{Triple}
 use denote.Triple.Table.{entered, cited}
 use denote.Triple.Walked.{says, needs, Stays, stay_slice, stay_none, stay_none_slice, walk_of, Walks, ends_at, walked, Goes-slice, Goes-none, Goes-none_slice, walk_Meets}
 use borrow.Author.Rules.{scaled_Fits}
-use Rattle.frames.proofs.Lent.{at-list, Mine, Yours, ty_at, exit-unless, exit-if, leave-if, fork, skipped, regroup, matched, matched-last, const, is_true, is_false, not-not, differ, widen, less-fits, after, turn-of, take_out, put_in, put_back, look-out, look-back, free_all}
-use Rattle.soundness.specs.Numbers.{numbersIn, totalsIn, numberCount}
-use Rattle.model.specs.Record.{decodeAt}
-use Rattle.semantics.specs.Entries.{recordOn}
+use Rattle.frames.proofs.Lent.{at_list, Mine, Yours, ty_at, exit_unless, exit_if, leave_if, fork, skipped, regroup, matched, matched_last, const, is_true, is_false, not_not, differ, widen, less_fits, after, turn_of_lem, take_out, put_in, put_back, look_out, look_back, free_all}
+use Rattle.soundness.specs.Numbers.{numbers_in, totals_in, number_count}
+use Rattle.model.specs.Record.{decode_at}
+use Rattle.semantics.specs.Entries.{record_on}
 use Rattle.semantics.specs.Ranges.{Ready, Recalls}
 use Rattle.engine.specs.Promises.{core, Leaves, RemembersRecord}
 use Rattle.soundness.specs.Layout.{two_words}
@@ -165,7 +165,7 @@ module _ {M : Type 1} {𝓤 : Ura M} (𝓛 : Logic 𝓤) (mem : Memory → SProp
   n-tape = length tape
 
   abbrev args' : Head × (Bor (List ℕ) × (Bor (List ℕ) × (Bor (List Frame) × (Bor (List ℕ) × (Bor (List ℕ) × (Bor (List ℕ) × (ℕ × Unit {0})))))))
-  args' = (h, (at-list b-numbers o-numbers γ-numbers numbers, (at-list b-deques o-deques γ-deques deques, (at-list b-frames o-frames γ-frames frames, (at-list b-pool o-pool γ-pool pool, (at-list b-memory o-memory γ-memory memory, (at-list b-tape o-tape γ-tape tape, (at, tt))))))))
+  args' = (h, (at_list b-numbers o-numbers γ-numbers numbers, (at_list b-deques o-deques γ-deques deques, (at_list b-frames o-frames γ-frames frames, (at_list b-pool o-pool γ-pool pool, (at_list b-memory o-memory γ-memory memory, (at_list b-tape o-tape γ-tape tape, (at, tt))))))))
 
   abbrev vals' : Vals f'.signature (κ-numbers, (κ-deques, (κ-frames, (κ-pool, (κ-memory, (κ-tape, tt))))))
   vals' = (val-Head h ∷ [], (slice_val (b-numbers, o-numbers) (length numbers) ∷ [], (slice_val (b-deques, o-deques) (length deques) ∷ [], (slice_val (b-frames, o-frames) (length frames) ∷ [], (slice_val (b-pool, o-pool) (length pool) ∷ [], (slice_val (b-memory, o-memory) (length memory) ∷ [], (slice_val (b-tape, o-tape) (length tape) ∷ [], (vint w64 at ∷ [], tt))))))))
@@ -176,7 +176,7 @@ module _ {M : Type 1} {𝓤 : Ura M} (𝓛 : Logic 𝓤) (mem : Memory → SProp
   abbrev Post : Val → SProp 𝓤
   Post = (walk_of 𝓛 f'.ended stayed (f'.clauses 𝓛 mem run)).post bound'
 
-  exits' : (res' : Visited) (zs-numbers : List ℕ) (zs-deques : List ℕ) (zs-frames : List Frame) (zs-pool : List ℕ) (zs-memory : List ℕ) → Is R-Visited res' (val-Visited res' ∷ []) → (numbersIn zs-numbers ≡ numbersIn numbers) × Leaves h res'.out (totalsIn zs-numbers) zs-deques zs-frames zs-pool (recordOn two_words (core h (totalsIn numbers) deques frames pool) (decodeAt tape at)) × RemembersRecord (core h (totalsIn numbers) deques frames pool) memory (decodeAt tape at) zs-memory res'.visits → length zs-numbers ≡ length numbers → length zs-deques ≡ length deques → length zs-frames ≡ length frames → length zs-pool ≡ length pool → length zs-memory ≡ length memory → ent 𝓤 (⋆ 𝓛 (‵ (Mine u32 κ-numbers q-numbers γ-numbers b-numbers o-numbers n-numbers zs-numbers) ∷ ‵ (Mine u32 κ-deques q-deques γ-deques b-deques o-deques n-deques zs-deques) ∷ ‵ (Mine R-Frame κ-frames q-frames γ-frames b-frames o-frames n-frames zs-frames) ∷ ‵ (Mine u32 κ-pool q-pool γ-pool b-pool o-pool n-pool zs-pool) ∷ ‵ (Mine u32 κ-memory q-memory γ-memory b-memory o-memory n-memory zs-memory) ∷ ‵ (Yours u8 κ-tape q-tape γ-tape b-tape o-tape n-tape tape) ∷ [])) (Post (val-Visited res'))
+  exits' : (res' : Visited) (zs-numbers : List ℕ) (zs-deques : List ℕ) (zs-frames : List Frame) (zs-pool : List ℕ) (zs-memory : List ℕ) → Is R-Visited res' (val-Visited res' ∷ []) → (numbers_in zs-numbers ≡ numbers_in numbers) × Leaves h res'.out (totals_in zs-numbers) zs-deques zs-frames zs-pool (record_on two_words (core h (totals_in numbers) deques frames pool) (decode_at tape at)) × RemembersRecord (core h (totals_in numbers) deques frames pool) memory (decode_at tape at) zs-memory res'.visits → length zs-numbers ≡ length numbers → length zs-deques ≡ length deques → length zs-frames ≡ length frames → length zs-pool ≡ length pool → length zs-memory ≡ length memory → ent 𝓤 (⋆ 𝓛 (‵ (Mine u32 κ-numbers q-numbers γ-numbers b-numbers o-numbers n-numbers zs-numbers) ∷ ‵ (Mine u32 κ-deques q-deques γ-deques b-deques o-deques n-deques zs-deques) ∷ ‵ (Mine R-Frame κ-frames q-frames γ-frames b-frames o-frames n-frames zs-frames) ∷ ‵ (Mine u32 κ-pool q-pool γ-pool b-pool o-pool n-pool zs-pool) ∷ ‵ (Mine u32 κ-memory q-memory γ-memory b-memory o-memory n-memory zs-memory) ∷ ‵ (Yours u8 κ-tape q-tape γ-tape b-tape o-tape n-tape tape) ∷ [])) (Post (val-Visited res'))
   exits' res' zs-numbers zs-deques zs-frames zs-pool zs-memory good' e' same_numbers same-deques same-frames same-pool same_memory =
       qed 𝓛 (‵ (Mine u32 κ-numbers q-numbers γ-numbers b-numbers o-numbers n-numbers zs-numbers) ∷ ‵ (Mine u32 κ-deques q-deques γ-deques b-deques o-deques n-deques zs-deques) ∷ ‵ (Mine R-Frame κ-frames q-frames γ-frames b-frames o-frames n-frames zs-frames) ∷ ‵ (Mine u32 κ-pool q-pool γ-pool b-pool o-pool n-pool zs-pool) ∷ ‵ (Mine u32 κ-memory q-memory γ-memory b-memory o-memory n-memory zs-memory) ∷ ‵ (Yours u8 κ-tape q-tape γ-tape b-tape o-tape n-tape tape) ∷ []) ∵
       suffices ! _ (ends_at 𝓛 f'.ended stayed (f'.clauses 𝓛 mem run) bound' (val-Visited res') res' (tt, (zs-numbers, (zs-deques, (zs-frames, (zs-pool, (zs-memory, (tt, (tt, tt)))))))) (tt, (same_numbers, (same-deques, (same-frames, (same-pool, (same_memory, (tt, (tt, tt))))))))) $ says ! e' $
@@ -188,7 +188,7 @@ module _ {M : Type 1} {𝓤 : Ura M} (𝓛 : Logic 𝓤) (mem : Memory → SProp
     abbrev fm : FmC 𝓤 H 𝓛.laws 𝓣.C
     fm = fm_of 𝓤 H 𝓛.laws 𝓣
 
-    walk : (length numbers ≡ numberCount) × Ready (core h (totalsIn numbers) deques frames pool) × Recalls (core h (totalsIn numbers) deques frames pool) memory × (at + 8 ≤ length tape) → ent 𝓤 (on_entry 𝓛 f'.signature (κ-numbers, (κ-deques, (κ-frames, (κ-pool, (κ-memory, (κ-tape, tt)))))) (q-numbers, (q-deques, (q-frames, (q-pool, (q-memory, (q-tape, tt)))))) args' vals') (WpFn 𝓤 H 𝓣.C 𝓣.Λ code.function (val-Head h ∷ slice_val (b-numbers, o-numbers) (length numbers) ∷ slice_val (b-deques, o-deques) (length deques) ∷ slice_val (b-frames, o-frames) (length frames) ∷ slice_val (b-pool, o-pool) (length pool) ∷ slice_val (b-memory, o-memory) (length memory) ∷ slice_val (b-tape, o-tape) (length tape) ∷ vint w64 at ∷ []) Post)
+    walk : (length numbers ≡ number_count) × Ready (core h (totals_in numbers) deques frames pool) × Recalls (core h (totals_in numbers) deques frames pool) memory × (at + 8 ≤ length tape) → ent 𝓤 (on_entry 𝓛 f'.signature (κ-numbers, (κ-deques, (κ-frames, (κ-pool, (κ-memory, (κ-tape, tt)))))) (q-numbers, (q-deques, (q-frames, (q-pool, (q-memory, (q-tape, tt)))))) args' vals') (WpFn 𝓤 H 𝓣.C 𝓣.Λ code.function (val-Head h ∷ slice_val (b-numbers, o-numbers) (length numbers) ∷ slice_val (b-deques, o-deques) (length deques) ∷ slice_val (b-frames, o-frames) (length frames) ∷ slice_val (b-pool, o-pool) (length pool) ∷ slice_val (b-memory, o-memory) (length memory) ∷ slice_val (b-tape, o-tape) (length tape) ∷ vint w64 at ∷ []) Post)
     walk ok' =
         qed 𝓛 ((‵ (flft κ-numbers q-numbers) ⊛ ‵ (flft κ-deques q-deques) ⊛ ‵ (flft κ-frames q-frames) ⊛ ‵ (flft κ-pool q-pool) ⊛ ‵ (flft κ-memory q-memory) ⊛ ‵ (flft κ-tape q-tape) ⊛ ‵ ftrue) ∷ ‵ (owns (R-Head ∷ MutSlice (named 0) κ-numbers u32 ∷ MutSlice (named 1) κ-deques u32 ∷ MutSlice (named 2) κ-frames R-Frame ∷ MutSlice (named 3) κ-pool u32 ∷ MutSlice (named 4) κ-memory u32 ∷ ShrSlice (named 5) κ-tape u8 ∷ usize ∷ []) args' vals') ∷ []) ∵ enter ! 𝓣.C 𝓣.Λ code.function (val-Head h ∷ slice_val (b-numbers, o-numbers) (length numbers) ∷ slice_val (b-deques, o-deques) (length deques) ∷ slice_val (b-frames, o-frames) (length frames) ∷ slice_val (b-pool, o-pool) (length pool) ∷ slice_val (b-memory, o-memory) (length memory) ∷ slice_val (b-tape, o-tape) (length tape) ∷ vint w64 at ∷ []) _ $
         alloc1 ! (λ l₀. alloc1 ! (λ l₁. alloc1 ! (λ l₂. alloc1 ! (λ l₃. alloc1 ! (λ l₄. alloc1 ! (λ l₅. alloc1 ! (λ l₆. alloc1 ! (λ l₇. alloc1 ! (λ l₈. alloc1 ! (λ l₉. alloc1 ! (λ l₁₀. alloc1 ! (λ l₁₁. alloc1 ! (λ l₁₂. alloc1 ! (λ l₁₃. alloc1 ! (λ l₁₄. alloc1 ! (λ l₁₅. alloc1 ! (λ l₁₆. alloc1 ! (λ l₁₇. alloc1 ! (λ l₁₈. alloc1 ! (λ l₁₉. alloc1 ! (λ l₂₀. alloc1 ! (λ l₂₁. alloc1 ! (λ l₂₂. alloc0 ! $ params1 ! $
@@ -253,7 +253,7 @@ module _ {M : Type 1} {𝓤 : Ura M} (𝓛 : Logic 𝓤) (mem : Memory → SProp
   walks known-decode known-fields-of known-take-step known-no-record known-visited = walked 𝓛 f'.ended stayed (f'.clauses 𝓛 mem run) (WpFn 𝓤 H 𝓣.C 𝓣.Λ code.function)
       (λ κs. (LL.vals M-Head.the_type L-Head.the_laws, (shr_slice_vals, (shr_slice_vals, (shr_slice_vals, (shr_slice_vals, (shr_slice_vals, (shr_slice_vals, (uint_vals w64, tt)))))))))
       (λ κs. (LL.tells M-Head.the_type L-Head.the_laws, (mut_slice_Tells (named 0) κs.0 u32, (mut_slice_Tells (named 1) κs.1.0 u32, (mut_slice_Tells (named 2) κs.1.1.0 R-Frame, (mut_slice_Tells (named 3) κs.1.1.1.0 u32, (mut_slice_Tells (named 4) κs.1.1.1.1.0 u32, (shr_slice_Tells (named 5) κs.1.1.1.1.1.0 u8, (uint_Tells w64, tt)))))))))
-      (λ κs qs bounds a g are. needs 𝓤 ((length a.1.0.now ≡ numberCount) × Ready (core a.0 (totalsIn a.1.0.now) a.1.1.0.now a.1.1.1.0.now a.1.1.1.1.0.now) × Recalls (core a.0 (totalsIn a.1.0.now) a.1.1.0.now a.1.1.1.0.now a.1.1.1.1.0.now) a.1.1.1.1.1.0.now × (a.1.1.1.1.1.1.1.0 + 8 ≤ length a.1.1.1.1.1.1.0.now)) _
+      (λ κs qs bounds a g are. needs 𝓤 ((length a.1.0.now ≡ number_count) × Ready (core a.0 (totals_in a.1.0.now) a.1.1.0.now a.1.1.1.0.now a.1.1.1.1.0.now) × Recalls (core a.0 (totals_in a.1.0.now) a.1.1.0.now a.1.1.1.0.now a.1.1.1.1.0.now) a.1.1.1.1.1.0.now × (a.1.1.1.1.1.1.1.0 + 8 ≤ length a.1.1.1.1.1.1.0.now)) _
       (walk 𝓛 mem run κs.0 qs.0 a.1.0.ref_ptr.0 a.1.0.ref_ptr.1 a.1.0.ghost_name a.1.0.now κs.1.0 qs.1.0 a.1.1.0.ref_ptr.0 a.1.1.0.ref_ptr.1 a.1.1.0.ghost_name a.1.1.0.now κs.1.1.0 qs.1.1.0 a.1.1.1.0.ref_ptr.0 a.1.1.1.0.ref_ptr.1 a.1.1.1.0.ghost_name a.1.1.1.0.now κs.1.1.1.0 qs.1.1.1.0 a.1.1.1.1.0.ref_ptr.0 a.1.1.1.1.0.ref_ptr.1 a.1.1.1.1.0.ghost_name a.1.1.1.1.0.now κs.1.1.1.1.0 qs.1.1.1.1.0 a.1.1.1.1.1.0.ref_ptr.0 a.1.1.1.1.1.0.ref_ptr.1 a.1.1.1.1.1.0.ghost_name a.1.1.1.1.1.0.now κs.1.1.1.1.1.0 qs.1.1.1.1.1.0 a.1.1.1.1.1.1.0.ref_ptr.0 a.1.1.1.1.1.1.0.ref_ptr.1 a.1.1.1.1.1.1.0.ghost_name a.1.1.1.1.1.1.0.now a.0 are.0 a.1.1.1.1.1.1.1.0 are.1.1.1.1.1.1.1.0.1 are.1.0.0.1 are.1.1.0.0.1 are.1.1.1.0.0.1 are.1.1.1.1.0.0.1 are.1.1.1.1.1.0.0.1 are.1.1.1.1.1.1.0.0.1 𝓣 known-decode known-fields-of known-take-step known-no-record known-visited))
 
   meets : Triple 𝓤 (𝓣.C #decode) (S-decode.Asked 𝓛 mem run) → Triple 𝓤 (𝓣.C #fields-of) (S-fields-of.Asked 𝓛 mem run) → Triple 𝓤 (𝓣.C #take-step) (S-take-step.Asked 𝓛 mem run) → Triple 𝓤 (𝓣.C #no-record) (S-no-record.Asked 𝓛 mem run) → Triple 𝓤 (𝓣.C #visited) (S-visited.Asked 𝓛 mem run) → Meets 𝓛 f'.signature (WpFn 𝓤 H 𝓣.C 𝓣.Λ code.function) (f'.spec 𝓛 mem run)

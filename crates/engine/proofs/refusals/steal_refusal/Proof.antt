@@ -1,15 +1,15 @@
 -- The tests in order: the ways out are in `proofs.Laws`.
 use Rattle.std.proofs.Common.{sym, ◌∙◌, rules}
 use borrow.Author.Tests.{not-true, not-false}
-use Rattle.engine.proofs.Laws.{idles-is, steal-no-worker, steal-busy, steal-passes, steal-main-returned, steal-no-victim}
+use Rattle.engine.proofs.Laws.{idles_is, steal_no_worker, steal_busy, steal_passes, steal-main-returned, steal_no_victim}
 use Rattle.engine.proofs.refusals.steal_refusal.Statement.{statement}
 use Rattle.engine.proofs.refusals.steal_refusal.Tie as tie
 
 returns : tie.Need-returns
-returns c = c.refusal-number.ensures ∙ steal-no-worker c.before.before.before.before.args.h _ _ _ c.before.if1.true
+returns c = c.refusal-number.ensures ∙ steal_no_worker c.before.before.before.before.args.h _ _ _ c.before.if1.true
 
 returns-2 : tie.Need-returns-2
-returns-2 c = c.refusal-number2.ensures ∙ steal-busy c.before.before.before.before.before.before.args.h _ _ _ c.before.before.before.if1.false _ c.before.before.size-at.ensures c.before.if2.true
+returns-2 c = c.refusal-number2.ensures ∙ steal_busy c.before.before.before.before.before.before.args.h _ _ _ c.before.before.before.if1.false _ c.before.before.size-at.ensures c.before.if2.true
 
 returns-3 : tie.Need-returns-3
 returns-3 c =
@@ -18,7 +18,7 @@ returns-3 c =
     let at-size-at = at-if2.before in
     let at-if1 = at-size-at.before in
     let start = at-if1.before.before.before in
-    steal-passes start.args.h _ _ _ at-if1.if1.false _ at-size-at.size-at.ensures at-if2.if2.false _ at-no-victim.no-victim.ensures (not-true _ c.if3.true)
+    steal_passes start.args.h _ _ _ at-if1.if1.false _ at-size-at.size-at.ensures at-if2.if2.false _ at-no-victim.no_victim.ensures (not-true _ c.if3.true)
 
 returns-4 : tie.Need-returns-4
 returns-4 c =
@@ -29,7 +29,7 @@ returns-4 c =
     let at-size-at = at-if2.before in
     let at-if1 = at-size-at.before in
     let start = at-if1.before.before.before in
-    c.refusal-number3.ensures ∙ steal-main-returned start.args.h _ _ _ at-if1.if1.false _ at-size-at.size-at.ensures at-if2.if2.false _ at-no-victim.no-victim.ensures (sym (idles-is start.args.h _ start.requires) ∙ sym at-all-idle.all-idle.ensures ∙ at-if4.if4.true)
+    c.refusal-number3.ensures ∙ steal-main-returned start.args.h _ _ _ at-if1.if1.false _ at-size-at.size-at.ensures at-if2.if2.false _ at-no-victim.no_victim.ensures (sym (idles_is start.args.h _ start.requires) ∙ sym at-all-idle.all-idle.ensures ∙ at-if4.if4.true)
 
 returns-5 : tie.Need-returns-5
 returns-5 c =
@@ -41,7 +41,7 @@ returns-5 c =
     let at-size-at = at-if2.before in
     let at-if1 = at-size-at.before in
     let start = at-if1.before.before.before in
-    c.refusal-number4.ensures ∙ steal-no-victim start.args.h _ _ _ at-if1.if1.false _ at-size-at.size-at.ensures at-if2.if2.false _ at-no-victim.no-victim.ensures (not-false _ at-if3.if3.false) (sym (idles-is start.args.h _ start.requires) ∙ sym at-all-idle.all-idle.ensures ∙ at-if4.if4.false)
+    c.refusal-number4.ensures ∙ steal_no_victim start.args.h _ _ _ at-if1.if1.false _ at-size-at.size-at.ensures at-if2.if2.false _ at-no-victim.no_victim.ensures (not-false _ at-if3.if3.false) (sym (idles_is start.args.h _ start.requires) ∙ sym at-all-idle.all-idle.ensures ∙ at-if4.if4.false)
 
 pub steal-refusal-spec : {M : Type 1} → statement M
 steal-refusal-spec =

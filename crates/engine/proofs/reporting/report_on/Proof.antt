@@ -39,11 +39,11 @@ use denote.Triple.Statement.{Triple}
 use denote.Triple.Table.{entered, cited}
 use denote.Triple.Walked.{says, needs, Stays, stay_slice, stay_none, stay_none_slice, walk_of, Walks, ends_at, walked, Goes-slice, Goes-none, Goes-none_slice, walk_Meets}
 use borrow.Author.Rules.{scaled_Fits}
-use Rattle.frames.proofs.Lent.{at-list, Mine, Yours, ty_at, exit-unless, exit-if, leave-if, fork, skipped, regroup, matched, matched-last, const, is_true, is_false, not-not, differ, widen, less-fits, after, turn-of, take_out, put_in, put_back, look-out, look-back, free_all}
+use Rattle.frames.proofs.Lent.{at_list, Mine, Yours, ty_at, exit_unless, exit_if, leave_if, fork, skipped, regroup, matched, matched_last, const, is_true, is_false, not_not, differ, widen, less_fits, after, turn_of_lem, take_out, put_in, put_back, look_out, look_back, free_all}
 use Rattle.semantics.specs.Promises.{parts, lent, Fits, IsReport}
-use Rattle.semantics.specs.Remembering.{reportMemory}
-use Rattle.memory.specs.Memory.{memoryWords}
-use Rattle.semantics.specs.Report.{reportWith}
+use Rattle.semantics.specs.Remembering.{report_memory}
+use Rattle.memory.specs.Memory.{memory_words}
+use Rattle.semantics.specs.Report.{report_with}
 use Rattle.soundness.specs.Layout.{two_words}
 use Rattle.engine.proofs.Called.clear_all as S-clear-all
 use Rattle.words.proofs.clear_all.Symbol as D-clear-all
@@ -117,7 +117,7 @@ module _ {M : Type 1} {𝓤 : Ura M} (𝓛 : Logic 𝓤) (mem : Memory → SProp
   n-report = length report
 
   abbrev args' : Bor (List ℕ) × (Bor (List ℕ) × (Bor (List Frame) × (Bor (List ℕ) × (ℕ × (Bor (List ℕ) × (Bor (List ℕ) × (Bor (List ℕ) × (Bor (List ℕ) × (Bor (List ℕ) × (Bor (List ℕ) × (Bor (List ℕ) × Unit {0})))))))))))
-  args' = (at-list b-numbers o-numbers γ-numbers numbers, (at-list b-deques o-deques γ-deques deques, (at-list b-frames o-frames γ-frames frames, (at-list b-memory o-memory γ-memory memory, (workers, (at-list b-values o-values γ-values values, (at-list b-pool o-pool γ-pool pool, (at-list b-work o-work γ-work work, (at-list b-tape o-tape γ-tape tape, (at-list b-answers o-answers γ-answers answers, (at-list b-clocks o-clocks γ-clocks clocks, (at-list b-report o-report γ-report report, tt))))))))))))
+  args' = (at_list b-numbers o-numbers γ-numbers numbers, (at_list b-deques o-deques γ-deques deques, (at_list b-frames o-frames γ-frames frames, (at_list b-memory o-memory γ-memory memory, (workers, (at_list b-values o-values γ-values values, (at_list b-pool o-pool γ-pool pool, (at_list b-work o-work γ-work work, (at_list b-tape o-tape γ-tape tape, (at_list b-answers o-answers γ-answers answers, (at_list b-clocks o-clocks γ-clocks clocks, (at_list b-report o-report γ-report report, tt))))))))))))
 
   abbrev vals' : Vals f'.signature (κ-numbers, (κ-deques, (κ-frames, (κ-memory, (κ-values, (κ-pool, (κ-work, (κ-tape, (κ-answers, (κ-clocks, (κ-report, tt)))))))))))
   vals' = (slice_val (b-numbers, o-numbers) (length numbers) ∷ [], (slice_val (b-deques, o-deques) (length deques) ∷ [], (slice_val (b-frames, o-frames) (length frames) ∷ [], (slice_val (b-memory, o-memory) (length memory) ∷ [], (vint w32 workers ∷ [], (slice_val (b-values, o-values) (length values) ∷ [], (slice_val (b-pool, o-pool) (length pool) ∷ [], (slice_val (b-work, o-work) (length work) ∷ [], (slice_val (b-tape, o-tape) (length tape) ∷ [], (slice_val (b-answers, o-answers) (length answers) ∷ [], (slice_val (b-clocks, o-clocks) (length clocks) ∷ [], (slice_val (b-report, o-report) (length report) ∷ [], tt))))))))))))
@@ -128,10 +128,10 @@ module _ {M : Type 1} {𝓤 : Ura M} (𝓛 : Logic 𝓤) (mem : Memory → SProp
   abbrev Post : Val → SProp 𝓤
   Post = (walk_of 𝓛 f'.ended stayed (f'.clauses 𝓛 mem run)).post bound'
 
-  exits' : (res' : ℕ) (zs-numbers : List ℕ) (zs-deques : List ℕ) (zs-frames : List Frame) (zs-memory : List ℕ) (zs-pool : List ℕ) (zs-work : List ℕ) (zs-answers : List ℕ) (zs-clocks : List ℕ) (zs-report : List ℕ) → res' < 2 ^ 32 → IsReport (reportWith two_words (parts numbers deques frames) workers values pool tape (lent work answers clocks report)) zs-numbers zs-deques zs-frames zs-pool zs-work zs-answers zs-clocks zs-report res' × (zs-memory ≡ reportMemory two_words (parts numbers deques frames) workers values pool tape (lent work answers clocks report)) → length zs-numbers ≡ length numbers → length zs-deques ≡ length deques → length zs-frames ≡ length frames → length zs-memory ≡ length memory → length zs-pool ≡ length pool → length zs-work ≡ length work → length zs-answers ≡ length answers → length zs-clocks ≡ length clocks → length zs-report ≡ length report → ent 𝓤 (⋆ 𝓛 (‵ (Mine u32 κ-numbers q-numbers γ-numbers b-numbers o-numbers n-numbers zs-numbers) ∷ ‵ (Mine u32 κ-deques q-deques γ-deques b-deques o-deques n-deques zs-deques) ∷ ‵ (Mine R-Frame κ-frames q-frames γ-frames b-frames o-frames n-frames zs-frames) ∷ ‵ (Mine u32 κ-memory q-memory γ-memory b-memory o-memory n-memory zs-memory) ∷ ‵ (Yours u32 κ-values q-values γ-values b-values o-values n-values values) ∷ ‵ (Mine u32 κ-pool q-pool γ-pool b-pool o-pool n-pool zs-pool) ∷ ‵ (Mine u32 κ-work q-work γ-work b-work o-work n-work zs-work) ∷ ‵ (Yours u8 κ-tape q-tape γ-tape b-tape o-tape n-tape tape) ∷ ‵ (Mine u32 κ-answers q-answers γ-answers b-answers o-answers n-answers zs-answers) ∷ ‵ (Mine u64 κ-clocks q-clocks γ-clocks b-clocks o-clocks n-clocks zs-clocks) ∷ ‵ (Mine u64 κ-report q-report γ-report b-report o-report n-report zs-report) ∷ [])) (Post (vint w32 res'))
-  exits' res' zs-numbers zs-deques zs-frames zs-memory zs-pool zs-work zs-answers zs-clocks zs-report good' e' same_numbers same-deques same-frames same_memory same-pool same-work same-answers same-clocks same-report =
+  exits' : (res' : ℕ) (zs-numbers : List ℕ) (zs-deques : List ℕ) (zs-frames : List Frame) (zs-memory : List ℕ) (zs-pool : List ℕ) (zs-work : List ℕ) (zs-answers : List ℕ) (zs-clocks : List ℕ) (zs-report : List ℕ) → res' < 2 ^ 32 → IsReport (report_with two_words (parts numbers deques frames) workers values pool tape (lent work answers clocks report)) zs-numbers zs-deques zs-frames zs-pool zs-work zs-answers zs-clocks zs-report res' × (zs-memory ≡ report_memory two_words (parts numbers deques frames) workers values pool tape (lent work answers clocks report)) → length zs-numbers ≡ length numbers → length zs-deques ≡ length deques → length zs-frames ≡ length frames → length zs-memory ≡ length memory → length zs-pool ≡ length pool → length zs-work ≡ length work → length zs-answers ≡ length answers → length zs-clocks ≡ length clocks → length zs-report ≡ length report → ent 𝓤 (⋆ 𝓛 (‵ (Mine u32 κ-numbers q-numbers γ-numbers b-numbers o-numbers n-numbers zs-numbers) ∷ ‵ (Mine u32 κ-deques q-deques γ-deques b-deques o-deques n-deques zs-deques) ∷ ‵ (Mine R-Frame κ-frames q-frames γ-frames b-frames o-frames n-frames zs-frames) ∷ ‵ (Mine u32 κ-memory q-memory γ-memory b-memory o-memory n-memory zs-memory) ∷ ‵ (Yours u32 κ-values q-values γ-values b-values o-values n-values values) ∷ ‵ (Mine u32 κ-pool q-pool γ-pool b-pool o-pool n-pool zs-pool) ∷ ‵ (Mine u32 κ-work q-work γ-work b-work o-work n-work zs-work) ∷ ‵ (Yours u8 κ-tape q-tape γ-tape b-tape o-tape n-tape tape) ∷ ‵ (Mine u32 κ-answers q-answers γ-answers b-answers o-answers n-answers zs-answers) ∷ ‵ (Mine u64 κ-clocks q-clocks γ-clocks b-clocks o-clocks n-clocks zs-clocks) ∷ ‵ (Mine u64 κ-report q-report γ-report b-report o-report n-report zs-report) ∷ [])) (Post (vint w32 res'))
+  exits' res' zs-numbers zs-deques zs-frames zs-memory zs-pool zs-work zs-answers zs-clocks zs-report good' e' same_numbers same-deques same-frames same_memory same-pool same_work same-answers same_clocks same_report =
       qed 𝓛 (‵ (Mine u32 κ-numbers q-numbers γ-numbers b-numbers o-numbers n-numbers zs-numbers) ∷ ‵ (Mine u32 κ-deques q-deques γ-deques b-deques o-deques n-deques zs-deques) ∷ ‵ (Mine R-Frame κ-frames q-frames γ-frames b-frames o-frames n-frames zs-frames) ∷ ‵ (Mine u32 κ-memory q-memory γ-memory b-memory o-memory n-memory zs-memory) ∷ ‵ (Yours u32 κ-values q-values γ-values b-values o-values n-values values) ∷ ‵ (Mine u32 κ-pool q-pool γ-pool b-pool o-pool n-pool zs-pool) ∷ ‵ (Mine u32 κ-work q-work γ-work b-work o-work n-work zs-work) ∷ ‵ (Yours u8 κ-tape q-tape γ-tape b-tape o-tape n-tape tape) ∷ ‵ (Mine u32 κ-answers q-answers γ-answers b-answers o-answers n-answers zs-answers) ∷ ‵ (Mine u64 κ-clocks q-clocks γ-clocks b-clocks o-clocks n-clocks zs-clocks) ∷ ‵ (Mine u64 κ-report q-report γ-report b-report o-report n-report zs-report) ∷ []) ∵
-      suffices ! _ (ends_at 𝓛 f'.ended stayed (f'.clauses 𝓛 mem run) bound' (vint w32 res') res' (zs-numbers, (zs-deques, (zs-frames, (zs-memory, (tt, (tt, (zs-pool, (zs-work, (tt, (zs-answers, (zs-clocks, (zs-report, tt)))))))))))) (same_numbers, (same-deques, (same-frames, (same_memory, (tt, (tt, (same-pool, (same-work, (tt, (same-answers, (same-clocks, (same-report, tt))))))))))))) $ says ! e' $
+      suffices ! _ (ends_at 𝓛 f'.ended stayed (f'.clauses 𝓛 mem run) bound' (vint w32 res') res' (zs-numbers, (zs-deques, (zs-frames, (zs-memory, (tt, (tt, (zs-pool, (zs-work, (tt, (zs-answers, (zs-clocks, (zs-report, tt)))))))))))) (same_numbers, (same-deques, (same-frames, (same_memory, (tt, (tt, (same-pool, (same_work, (tt, (same-answers, (same_clocks, (same_report, tt))))))))))))) $ says ! e' $
       fsplit ! $ move ! (2 ∷ []) $ fsplit ! $ move ! (4 ∷ []) $ fsplit ! $ move ! (6 ∷ []) $ fsplit ! $ move ! (8 ∷ []) $ fsplit ! $ move ! (10 ∷ []) $ fsplit ! $ move ! (12 ∷ []) $ fsplit ! $ move ! (14 ∷ []) $ fsplit ! $ move ! (16 ∷ []) $ fsplit ! $ move ! (18 ∷ []) $ fsplit ! $ move ! (20 ∷ []) $ fsplit ! $ nothing ! $ move ! (22 ∷ 20 ∷ 18 ∷ 16 ∷ 14 ∷ 12 ∷ 10 ∷ 8 ∷ 6 ∷ 4 ∷ 2 ∷ 0 ∷ []) $ group ! 12 $ frame ! $
       nothing ! $ move ! (1 ∷ 0 ∷ []) $ fjoin ! $ move ! (1 ∷ 0 ∷ []) $ fjoin ! $ move ! (1 ∷ 0 ∷ []) $ fjoin ! $ move ! (1 ∷ 0 ∷ []) $ fjoin ! $ move ! (1 ∷ 0 ∷ []) $ fjoin ! $ move ! (1 ∷ 0 ∷ []) $ fjoin ! $ move ! (1 ∷ 0 ∷ []) $ fjoin ! $ owned ! u32 (Is u32) (uint_Makes 𝓛 w32) workers _ (refl, workers-fits) $ fjoin ! $ move ! (1 ∷ 0 ∷ []) $ fjoin ! $ move ! (1 ∷ 0 ∷ []) $ fjoin ! $ move ! (1 ∷ 0 ∷ []) $ fjoin ! $ move ! (1 ∷ 0 ∷ []) $ fjoin ! $ frame ! $
       owned ! u32 (Is u32) (uint_Makes 𝓛 w32) res' _ (refl, good') $ done !
@@ -140,7 +140,7 @@ module _ {M : Type 1} {𝓤 : Ura M} (𝓛 : Logic 𝓤) (mem : Memory → SProp
     abbrev fm : FmC 𝓤 H 𝓛.laws 𝓣.C
     fm = fm_of 𝓤 H 𝓛.laws 𝓣
 
-    walk : Fits (parts numbers deques frames) × (length clocks ≡ 2 * length frames) × (length report ≡ 4) × (length memory ≡ memoryWords) → ent 𝓤 (on_entry 𝓛 f'.signature (κ-numbers, (κ-deques, (κ-frames, (κ-memory, (κ-values, (κ-pool, (κ-work, (κ-tape, (κ-answers, (κ-clocks, (κ-report, tt))))))))))) (q-numbers, (q-deques, (q-frames, (q-memory, (q-values, (q-pool, (q-work, (q-tape, (q-answers, (q-clocks, (q-report, tt))))))))))) args' vals') (WpFn 𝓤 H 𝓣.C 𝓣.Λ code.function (slice_val (b-numbers, o-numbers) (length numbers) ∷ slice_val (b-deques, o-deques) (length deques) ∷ slice_val (b-frames, o-frames) (length frames) ∷ slice_val (b-memory, o-memory) (length memory) ∷ vint w32 workers ∷ slice_val (b-values, o-values) (length values) ∷ slice_val (b-pool, o-pool) (length pool) ∷ slice_val (b-work, o-work) (length work) ∷ slice_val (b-tape, o-tape) (length tape) ∷ slice_val (b-answers, o-answers) (length answers) ∷ slice_val (b-clocks, o-clocks) (length clocks) ∷ slice_val (b-report, o-report) (length report) ∷ []) Post)
+    walk : Fits (parts numbers deques frames) × (length clocks ≡ 2 * length frames) × (length report ≡ 4) × (length memory ≡ memory_words) → ent 𝓤 (on_entry 𝓛 f'.signature (κ-numbers, (κ-deques, (κ-frames, (κ-memory, (κ-values, (κ-pool, (κ-work, (κ-tape, (κ-answers, (κ-clocks, (κ-report, tt))))))))))) (q-numbers, (q-deques, (q-frames, (q-memory, (q-values, (q-pool, (q-work, (q-tape, (q-answers, (q-clocks, (q-report, tt))))))))))) args' vals') (WpFn 𝓤 H 𝓣.C 𝓣.Λ code.function (slice_val (b-numbers, o-numbers) (length numbers) ∷ slice_val (b-deques, o-deques) (length deques) ∷ slice_val (b-frames, o-frames) (length frames) ∷ slice_val (b-memory, o-memory) (length memory) ∷ vint w32 workers ∷ slice_val (b-values, o-values) (length values) ∷ slice_val (b-pool, o-pool) (length pool) ∷ slice_val (b-work, o-work) (length work) ∷ slice_val (b-tape, o-tape) (length tape) ∷ slice_val (b-answers, o-answers) (length answers) ∷ slice_val (b-clocks, o-clocks) (length clocks) ∷ slice_val (b-report, o-report) (length report) ∷ []) Post)
     walk ok' =
         qed 𝓛 ((‵ (flft κ-numbers q-numbers) ⊛ ‵ (flft κ-deques q-deques) ⊛ ‵ (flft κ-frames q-frames) ⊛ ‵ (flft κ-memory q-memory) ⊛ ‵ (flft κ-values q-values) ⊛ ‵ (flft κ-pool q-pool) ⊛ ‵ (flft κ-work q-work) ⊛ ‵ (flft κ-tape q-tape) ⊛ ‵ (flft κ-answers q-answers) ⊛ ‵ (flft κ-clocks q-clocks) ⊛ ‵ (flft κ-report q-report) ⊛ ‵ ftrue) ∷ ‵ (owns (MutSlice (named 0) κ-numbers u32 ∷ MutSlice (named 1) κ-deques u32 ∷ MutSlice (named 2) κ-frames R-Frame ∷ MutSlice (named 3) κ-memory u32 ∷ u32 ∷ ShrSlice (named 4) κ-values u32 ∷ MutSlice (named 5) κ-pool u32 ∷ MutSlice (named 6) κ-work u32 ∷ ShrSlice (named 7) κ-tape u8 ∷ MutSlice (named 8) κ-answers u32 ∷ MutSlice (named 9) κ-clocks u64 ∷ MutSlice (named 10) κ-report u64 ∷ []) args' vals') ∷ []) ∵ enter ! 𝓣.C 𝓣.Λ code.function (slice_val (b-numbers, o-numbers) (length numbers) ∷ slice_val (b-deques, o-deques) (length deques) ∷ slice_val (b-frames, o-frames) (length frames) ∷ slice_val (b-memory, o-memory) (length memory) ∷ vint w32 workers ∷ slice_val (b-values, o-values) (length values) ∷ slice_val (b-pool, o-pool) (length pool) ∷ slice_val (b-work, o-work) (length work) ∷ slice_val (b-tape, o-tape) (length tape) ∷ slice_val (b-answers, o-answers) (length answers) ∷ slice_val (b-clocks, o-clocks) (length clocks) ∷ slice_val (b-report, o-report) (length report) ∷ []) _ $
         alloc1 ! (λ l₀. alloc1 ! (λ l₁. alloc1 ! (λ l₂. alloc1 ! (λ l₃. alloc1 ! (λ l₄. alloc1 ! (λ l₅. alloc1 ! (λ l₆. alloc1 ! (λ l₇. alloc1 ! (λ l₈. alloc1 ! (λ l₉. alloc1 ! (λ l₁₀. alloc1 ! (λ l₁₁. alloc1 ! (λ l₁₂. alloc1 ! (λ l₁₃. alloc1 ! (λ l₁₄. alloc1 ! (λ l₁₅. alloc1 ! (λ l₁₆. alloc1 ! (λ l₁₇. alloc1 ! (λ l₁₈. alloc1 ! (λ l₁₉. alloc1 ! (λ l₂₀. alloc1 ! (λ l₂₁. alloc1 ! (λ l₂₂. alloc1 ! (λ l₂₃. alloc1 ! (λ l₂₄. alloc1 ! (λ l₂₅. alloc1 ! (λ l₂₆. alloc1 ! (λ l₂₇. alloc1 ! (λ l₂₈. alloc1 ! (λ l₂₉. alloc1 ! (λ l₃₀. alloc1 ! (λ l₃₁. alloc1 ! (λ l₃₂. alloc1 ! (λ l₃₃. alloc1 ! (λ l₃₄. alloc1 ! (λ l₃₅. alloc1 ! (λ l₃₆. alloc1 ! (λ l₃₇. alloc1 ! (λ l₃₈. alloc1 ! (λ l₃₉. alloc1 ! (λ l₄₀. alloc1 ! (λ l₄₁. alloc1 ! (λ l₄₂. alloc1 ! (λ l₄₃. alloc1 ! (λ l₄₄. alloc1 ! (λ l₄₅. alloc1 ! (λ l₄₆. alloc1 ! (λ l₄₇. alloc1 ! (λ l₄₈. alloc1 ! (λ l₄₉. alloc1 ! (λ l₅₀. alloc1 ! (λ l₅₁. alloc1 ! (λ l₅₂. alloc1 ! (λ l₅₃. alloc1 ! (λ l₅₄. alloc1 ! (λ l₅₅. alloc1 ! (λ l₅₆. alloc0 ! $ params1 ! $
@@ -167,7 +167,7 @@ module _ {M : Type 1} {𝓤 : Ura M} (𝓛 : Logic 𝓤) (mem : Memory → SProp
         (λ ν-0 δ-0 ν-1 δ-1 ν-2 δ-2. and_then ! (load ! (from ! (stop !)) (look ! 114 refl)) (and_then ! (load ! (from ! (stop !)) (look ! 112 refl)) (and_then ! (load ! (from ! (stop !)) (look ! 90 refl)) (and_then ! (load ! (from ! (stop !)) (look ! 86 refl)) (and_then ! (load ! (from ! (stop !)) (look ! 82 refl)) (and_then ! (load ! (from ! (stop !)) (look ! 106 refl)) (and_then ! (load ! (from ! (stop !)) (look ! 78 refl)) (no_more !)))))))) (λ refusal refusal-fits refusal_is.
         land ! (from ! (stop !)) (init ! 97 refl (tt, record { fits = refusal-fits })) $
         assigns ! (bin ! (load ! (from ! (stop !)) (look ! 97 refl)) (const ! _ tt) tt) (from ! (stop !)) (init ! 75 refl (tt, tt)) $
-        leave-if ! (load ! (from ! (stop !)) (look ! 75 refl))
+        leave_if ! (load ! (from ! (stop !)) (look ! 75 refl))
         (λ test-3.
         assigns ! (addr ! (from ! (fld ! refl (hop ! (look_in ! 121 (sub ! 0 refl (whole !))) (stop !))))) (from ! (stop !)) (init ! 71 refl (tt, tt)) $
         assigns ! (agg ! (and_then ! (load ! (from ! (stop !)) (look ! 71 refl)) (and_then ! (load ! (from ! (fld ! refl (stop !))) (look_in ! 121 (sub ! 1 refl (whole !)))) (no_more !)))) (from ! (stop !)) (init ! 69 refl (tt, (tt, (record { fits = room-numbers.0 }, tt)))) $
@@ -199,7 +199,7 @@ module _ {M : Type 1} {𝓤 : Ura M} (𝓛 : Logic 𝓤) (mem : Memory → SProp
         assigns ! (agg ! (and_then ! (load ! (from ! (stop !)) (look ! 49 refl)) (and_then ! (load ! (from ! (fld ! refl (stop !))) (look_in ! 109 (sub ! 1 refl (whole !)))) (no_more !)))) (from ! (stop !)) (init ! 47 refl (tt, (tt, (record { fits = room-pool.0 }, tt)))) $
         -- _30 = engine::begin::start_on(_32, _34, _36, _5, _6, _38)
         move ! (6 ∷ 7 ∷ 8 ∷ 0 ∷ 1 ∷ []) $
-        S-start-on.step-g mem run ! fm known-start-on b-numbers o-numbers n-numbers numbers b-deques o-deques n-deques deques b-frames o-frames n-frames frames b-values o-values n-values values b-pool o-pool n-pool pool workers workers-fits (F.needs-7 numbers deques frames memory workers values pool work tape answers clocks report room-numbers.0 room-deques.0 room-frames.0 room-memory.0 workers-fits room-values.0 room-pool.0 room-work.0 room-tape.0 room-answers.0 room-clocks.0 room-report.0 ok' memory-1 done-1 same-memory-1 refusal refusal-fits refusal_is (eqb→eq refusal 0 (not-not (eqb refusal 0) test-3))) (refl) room-numbers (refl) room-deques (refl) room-frames (refl) room-pool
+        S-start-on.step-g mem run ! fm known-start-on b-numbers o-numbers n-numbers numbers b-deques o-deques n-deques deques b-frames o-frames n-frames frames b-values o-values n-values values b-pool o-pool n-pool pool workers workers-fits (F.needs-7 numbers deques frames memory workers values pool work tape answers clocks report room-numbers.0 room-deques.0 room-frames.0 room-memory.0 workers-fits room-values.0 room-pool.0 room-work.0 room-tape.0 room-answers.0 room-clocks.0 room-report.0 ok' memory-1 done-1 same-memory-1 refusal refusal-fits refusal_is (eqb→eq refusal 0 (not_not (eqb refusal 0) test-3))) (refl) room-numbers (refl) room-deques (refl) room-frames (refl) room-pool
         (λ ν-0 δ-0 ν-1 δ-1 ν-2 δ-2 ν-3 δ-3. and_then ! (load ! (from ! (stop !)) (look ! 60 refl)) (and_then ! (load ! (from ! (stop !)) (look ! 56 refl)) (and_then ! (load ! (from ! (stop !)) (look ! 52 refl)) (and_then ! (load ! (from ! (stop !)) (look ! 114 refl)) (and_then ! (load ! (from ! (stop !)) (look ! 112 refl)) (and_then ! (load ! (from ! (stop !)) (look ! 48 refl)) (no_more !))))))) (λ r-7 numbers-7 deques-7 frames-7 pool-7 r-7-fits r-7-is same-numbers-7 same-deques-7 same-frames-7 same-pool-7.
         land ! (from ! (stop !)) (init ! 63 refl (tt, record { fits = r-7-fits })) $
         assigns ! (addr ! (from ! (fld ! refl (hop ! (look_in ! 121 (sub ! 0 refl (whole !))) (stop !))))) (from ! (stop !)) (init ! 45 refl (tt, tt)) $
@@ -222,13 +222,13 @@ module _ {M : Type 1} {𝓤 : Ura M} (𝓛 : Logic 𝓤) (mem : Memory → SProp
         assigns ! (agg ! (and_then ! (load ! (from ! (stop !)) (look ! 13 refl)) (and_then ! (load ! (from ! (fld ! refl (stop !))) (look_in ! 99 (sub ! 1 refl (whole !)))) (no_more !)))) (from ! (stop !)) (init ! 11 refl (tt, (tt, (record { fits = room-report.0 }, tt)))) $
         -- _0 = engine::reporting::report_run(_40, _42, _44, _46, _48, _50, _9, _52, _54, _56)
         move ! (0 ∷ 1 ∷ 2 ∷ 8 ∷ 4 ∷ 5 ∷ 6 ∷ 7 ∷ 9 ∷ 10 ∷ []) $
-        S-report-run.step-g mem run ! fm known-report-run b-numbers o-numbers n-numbers numbers-7 b-deques o-deques n-deques deques-7 b-frames o-frames n-frames frames-7 b-memory o-memory n-memory memory-1 b-pool o-pool n-pool pool-7 b-work o-work n-work work b-tape o-tape n-tape tape b-answers o-answers n-answers answers b-clocks o-clocks n-clocks clocks b-report o-report n-report report (F.needs-8 numbers deques frames memory workers values pool work tape answers clocks report room-numbers.0 room-deques.0 room-frames.0 room-memory.0 workers-fits room-values.0 room-pool.0 room-work.0 room-tape.0 room-answers.0 room-clocks.0 room-report.0 ok' memory-1 done-1 same-memory-1 refusal refusal-fits refusal_is (eqb→eq refusal 0 (not-not (eqb refusal 0) test-3)) r-7 numbers-7 deques-7 frames-7 pool-7 r-7-fits r-7-is same-numbers-7 same-deques-7 same-frames-7 same-pool-7) (same-numbers-7) room-numbers (same-deques-7) room-deques (same-frames-7) room-frames (same-memory-1) room-memory (same-pool-7) room-pool (refl) room-work (refl) room-answers (refl) room-clocks (refl) room-report
+        S-report-run.step-g mem run ! fm known-report-run b-numbers o-numbers n-numbers numbers-7 b-deques o-deques n-deques deques-7 b-frames o-frames n-frames frames-7 b-memory o-memory n-memory memory-1 b-pool o-pool n-pool pool-7 b-work o-work n-work work b-tape o-tape n-tape tape b-answers o-answers n-answers answers b-clocks o-clocks n-clocks clocks b-report o-report n-report report (F.needs-8 numbers deques frames memory workers values pool work tape answers clocks report room-numbers.0 room-deques.0 room-frames.0 room-memory.0 workers-fits room-values.0 room-pool.0 room-work.0 room-tape.0 room-answers.0 room-clocks.0 room-report.0 ok' memory-1 done-1 same-memory-1 refusal refusal-fits refusal_is (eqb→eq refusal 0 (not_not (eqb refusal 0) test-3)) r-7 numbers-7 deques-7 frames-7 pool-7 r-7-fits r-7-is same-numbers-7 same-deques-7 same-frames-7 same-pool-7) (same-numbers-7) room-numbers (same-deques-7) room-deques (same-frames-7) room-frames (same-memory-1) room-memory (same-pool-7) room-pool (refl) room-work (refl) room-answers (refl) room-clocks (refl) room-report
         (λ ν-0 δ-0 ν-1 δ-1 ν-2 δ-2 ν-3 δ-3 ν-4 δ-4 ν-5 δ-5 ν-6 δ-6 ν-7 δ-7 ν-8 δ-8. and_then ! (load ! (from ! (stop !)) (look ! 44 refl)) (and_then ! (load ! (from ! (stop !)) (look ! 40 refl)) (and_then ! (load ! (from ! (stop !)) (look ! 36 refl)) (and_then ! (load ! (from ! (stop !)) (look ! 32 refl)) (and_then ! (load ! (from ! (stop !)) (look ! 28 refl)) (and_then ! (load ! (from ! (stop !)) (look ! 24 refl)) (and_then ! (load ! (from ! (stop !)) (look ! 106 refl)) (and_then ! (load ! (from ! (stop !)) (look ! 20 refl)) (and_then ! (load ! (from ! (stop !)) (look ! 16 refl)) (and_then ! (load ! (from ! (stop !)) (look ! 12 refl)) (no_more !))))))))))) (λ r-8 numbers-8 deques-8 frames-8 memory-8 pool-8 work-8 answers-8 clocks-8 report-8 r-8-fits r-8-is same-numbers-8 same-deques-8 same-frames-8 same-memory-8 same-pool-8 same-work-8 same-answers-8 same-clocks-8 same-report-8.
         land ! (from ! (stop !)) (init ! 123 refl (tt, record { fits = r-8-fits })) $
         returns_within ! Post refl (look ! 123 refl) $ forget ! 11 refl $ forget ! 13 refl $ forget ! 15 refl $ forget ! 17 refl $ forget ! 19 refl $ forget ! 21 refl $ forget ! 23 refl $ forget ! 25 refl $ forget ! 27 refl $ forget ! 29 refl $ forget ! 31 refl $ forget ! 33 refl $ forget ! 35 refl $ forget ! 37 refl $ forget ! 39 refl $ forget ! 41 refl $ forget ! 43 refl $ forget ! 45 refl $ forget ! 47 refl $ forget ! 49 refl $ forget ! 51 refl $ forget ! 53 refl $ forget ! 55 refl $ forget ! 57 refl $ forget ! 59 refl $ forget ! 61 refl $ forget ! 63 refl $ forget ! 75 refl $ forget ! 77 refl $ forget ! 79 refl $ forget ! 81 refl $ forget ! 83 refl $ forget ! 85 refl $ forget ! 87 refl $ forget ! 89 refl $ forget ! 91 refl $ forget ! 93 refl $ forget ! 95 refl $ forget ! 97 refl $ forget ! 99 refl $ forget ! 101 refl $ forget ! 103 refl $ forget ! 105 refl $ forget ! 107 refl $ forget ! 109 refl $ forget ! 111 refl $ forget ! 113 refl $ forget ! 115 refl $ forget ! 117 refl $ forget ! 119 refl $ forget ! 121 refl $ forget ! 123 refl $
         free_all ! 11 refl $
         move ! (0 ∷ 1 ∷ 2 ∷ 3 ∷ 10 ∷ 4 ∷ 5 ∷ 6 ∷ 7 ∷ 8 ∷ 9 ∷ []) $
-        by ! (exits' r-8 numbers-8 deques-8 frames-8 memory-8 pool-8 work-8 answers-8 clocks-8 report-8 r-8-fits (F.out-9 numbers deques frames memory workers values pool work tape answers clocks report room-numbers.0 room-deques.0 room-frames.0 room-memory.0 workers-fits room-values.0 room-pool.0 room-work.0 room-tape.0 room-answers.0 room-clocks.0 room-report.0 ok' memory-1 done-1 same-memory-1 refusal refusal-fits refusal_is (eqb→eq refusal 0 (not-not (eqb refusal 0) test-3)) r-7 numbers-7 deques-7 frames-7 pool-7 r-7-fits r-7-is same-numbers-7 same-deques-7 same-frames-7 same-pool-7 r-8 numbers-8 deques-8 frames-8 memory-8 pool-8 work-8 answers-8 clocks-8 report-8 r-8-fits r-8-is same-numbers-8 same-deques-8 same-frames-8 same-memory-8 same-pool-8 same-work-8 same-answers-8 same-clocks-8 same-report-8) (same-numbers-8 ∙ same-numbers-7) (same-deques-8 ∙ same-deques-7) (same-frames-8 ∙ same-frames-7) (same-memory-8 ∙ same-memory-1) (same-pool-8 ∙ same-pool-7) (same-work-8) (same-answers-8) (same-clocks-8) (same-report-8))))))))))))))))))))))))))))))))))))))))))))))))))))))))))))))))
+        by ! (exits' r-8 numbers-8 deques-8 frames-8 memory-8 pool-8 work-8 answers-8 clocks-8 report-8 r-8-fits (F.out-9 numbers deques frames memory workers values pool work tape answers clocks report room-numbers.0 room-deques.0 room-frames.0 room-memory.0 workers-fits room-values.0 room-pool.0 room-work.0 room-tape.0 room-answers.0 room-clocks.0 room-report.0 ok' memory-1 done-1 same-memory-1 refusal refusal-fits refusal_is (eqb→eq refusal 0 (not_not (eqb refusal 0) test-3)) r-7 numbers-7 deques-7 frames-7 pool-7 r-7-fits r-7-is same-numbers-7 same-deques-7 same-frames-7 same-pool-7 r-8 numbers-8 deques-8 frames-8 memory-8 pool-8 work-8 answers-8 clocks-8 report-8 r-8-fits r-8-is same-numbers-8 same-deques-8 same-frames-8 same-memory-8 same-pool-8 same-work-8 same-answers-8 same-clocks-8 same-report-8) (same-numbers-8 ∙ same-numbers-7) (same-deques-8 ∙ same-deques-7) (same-frames-8 ∙ same-frames-7) (same-memory-8 ∙ same-memory-1) (same-pool-8 ∙ same-pool-7) (same-work-8) (same-answers-8) (same-clocks-8) (same-report-8))))))))))))))))))))))))))))))))))))))))))))))))))))))))))))))))
 
 module _ {M : Type 1} {𝓤 : Ura M} (𝓛 : Logic 𝓤) (mem : Memory → SProp 𝓤) (run : Routine → Fun 𝓤) (𝓣 : Tables 𝓤 𝓛.H) where
   open 𝓛 use {H}
@@ -237,7 +237,7 @@ module _ {M : Type 1} {𝓤 : Ura M} (𝓛 : Logic 𝓤) (mem : Memory → SProp
   walks known-clear-all known-report-refusal known-start-on known-report-run = walked 𝓛 f'.ended stayed (f'.clauses 𝓛 mem run) (WpFn 𝓤 H 𝓣.C 𝓣.Λ code.function)
       (λ κs. (shr_slice_vals, (shr_slice_vals, (shr_slice_vals, (shr_slice_vals, (uint_vals w32, (shr_slice_vals, (shr_slice_vals, (shr_slice_vals, (shr_slice_vals, (shr_slice_vals, (shr_slice_vals, (shr_slice_vals, tt)))))))))))))
       (λ κs. (mut_slice_Tells (named 0) κs.0 u32, (mut_slice_Tells (named 1) κs.1.0 u32, (mut_slice_Tells (named 2) κs.1.1.0 R-Frame, (mut_slice_Tells (named 3) κs.1.1.1.0 u32, (uint_Tells w32, (shr_slice_Tells (named 4) κs.1.1.1.1.0 u32, (mut_slice_Tells (named 5) κs.1.1.1.1.1.0 u32, (mut_slice_Tells (named 6) κs.1.1.1.1.1.1.0 u32, (shr_slice_Tells (named 7) κs.1.1.1.1.1.1.1.0 u8, (mut_slice_Tells (named 8) κs.1.1.1.1.1.1.1.1.0 u32, (mut_slice_Tells (named 9) κs.1.1.1.1.1.1.1.1.1.0 u64, (mut_slice_Tells (named 10) κs.1.1.1.1.1.1.1.1.1.1.0 u64, tt)))))))))))))
-      (λ κs qs bounds a g are. needs 𝓤 (Fits (parts a.0.now a.1.0.now a.1.1.0.now) × (length a.1.1.1.1.1.1.1.1.1.1.0.now ≡ 2 * length a.1.1.0.now) × (length a.1.1.1.1.1.1.1.1.1.1.1.0.now ≡ 4) × (length a.1.1.1.0.now ≡ memoryWords)) _
+      (λ κs qs bounds a g are. needs 𝓤 (Fits (parts a.0.now a.1.0.now a.1.1.0.now) × (length a.1.1.1.1.1.1.1.1.1.1.0.now ≡ 2 * length a.1.1.0.now) × (length a.1.1.1.1.1.1.1.1.1.1.1.0.now ≡ 4) × (length a.1.1.1.0.now ≡ memory_words)) _
       (walk 𝓛 mem run κs.0 qs.0 a.0.ref_ptr.0 a.0.ref_ptr.1 a.0.ghost_name a.0.now κs.1.0 qs.1.0 a.1.0.ref_ptr.0 a.1.0.ref_ptr.1 a.1.0.ghost_name a.1.0.now κs.1.1.0 qs.1.1.0 a.1.1.0.ref_ptr.0 a.1.1.0.ref_ptr.1 a.1.1.0.ghost_name a.1.1.0.now κs.1.1.1.0 qs.1.1.1.0 a.1.1.1.0.ref_ptr.0 a.1.1.1.0.ref_ptr.1 a.1.1.1.0.ghost_name a.1.1.1.0.now κs.1.1.1.1.0 qs.1.1.1.1.0 a.1.1.1.1.1.0.ref_ptr.0 a.1.1.1.1.1.0.ref_ptr.1 a.1.1.1.1.1.0.ghost_name a.1.1.1.1.1.0.now κs.1.1.1.1.1.0 qs.1.1.1.1.1.0 a.1.1.1.1.1.1.0.ref_ptr.0 a.1.1.1.1.1.1.0.ref_ptr.1 a.1.1.1.1.1.1.0.ghost_name a.1.1.1.1.1.1.0.now κs.1.1.1.1.1.1.0 qs.1.1.1.1.1.1.0 a.1.1.1.1.1.1.1.0.ref_ptr.0 a.1.1.1.1.1.1.1.0.ref_ptr.1 a.1.1.1.1.1.1.1.0.ghost_name a.1.1.1.1.1.1.1.0.now κs.1.1.1.1.1.1.1.0 qs.1.1.1.1.1.1.1.0 a.1.1.1.1.1.1.1.1.0.ref_ptr.0 a.1.1.1.1.1.1.1.1.0.ref_ptr.1 a.1.1.1.1.1.1.1.1.0.ghost_name a.1.1.1.1.1.1.1.1.0.now κs.1.1.1.1.1.1.1.1.0 qs.1.1.1.1.1.1.1.1.0 a.1.1.1.1.1.1.1.1.1.0.ref_ptr.0 a.1.1.1.1.1.1.1.1.1.0.ref_ptr.1 a.1.1.1.1.1.1.1.1.1.0.ghost_name a.1.1.1.1.1.1.1.1.1.0.now κs.1.1.1.1.1.1.1.1.1.0 qs.1.1.1.1.1.1.1.1.1.0 a.1.1.1.1.1.1.1.1.1.1.0.ref_ptr.0 a.1.1.1.1.1.1.1.1.1.1.0.ref_ptr.1 a.1.1.1.1.1.1.1.1.1.1.0.ghost_name a.1.1.1.1.1.1.1.1.1.1.0.now κs.1.1.1.1.1.1.1.1.1.1.0 qs.1.1.1.1.1.1.1.1.1.1.0 a.1.1.1.1.1.1.1.1.1.1.1.0.ref_ptr.0 a.1.1.1.1.1.1.1.1.1.1.1.0.ref_ptr.1 a.1.1.1.1.1.1.1.1.1.1.1.0.ghost_name a.1.1.1.1.1.1.1.1.1.1.1.0.now a.1.1.1.1.0 are.1.1.1.1.0.1 are.0.0.1 are.1.0.0.1 are.1.1.0.0.1 are.1.1.1.0.0.1 are.1.1.1.1.1.0.0.1 are.1.1.1.1.1.1.0.0.1 are.1.1.1.1.1.1.1.0.0.1 are.1.1.1.1.1.1.1.1.0.0.1 are.1.1.1.1.1.1.1.1.1.0.0.1 are.1.1.1.1.1.1.1.1.1.1.0.0.1 are.1.1.1.1.1.1.1.1.1.1.1.0.0.1 𝓣 known-clear-all known-report-refusal known-start-on known-report-run))
 
   meets : Triple 𝓤 (𝓣.C #clear-all) (S-clear-all.Asked 𝓛 mem run) → Triple 𝓤 (𝓣.C #report-refusal) (S-report-refusal.Asked 𝓛 mem run) → Triple 𝓤 (𝓣.C #start-on) (S-start-on.Asked 𝓛 mem run) → Triple 𝓤 (𝓣.C #report-run) (S-report-run.Asked 𝓛 mem run) → Meets 𝓛 f'.signature (WpFn 𝓤 H 𝓣.C 𝓣.Λ code.function) (f'.spec 𝓛 mem run)

@@ -1,6 +1,6 @@
 -- The tests in order: the ways out are in `proofs.Reports`.
 use Rattle.std.proofs.Common.{◌∙◌, rules}
-use Rattle.engine.proofs.Reports.{refuses-start, refuses-tape, refuses-work, refuses-nothing}
+use Rattle.engine.proofs.Reports.{refuses_start, refuses_tape, refuses_work, refuses_nothing}
 use Rattle.engine.proofs.reporting.report_refusal.Statement.{statement}
 use Rattle.engine.proofs.reporting.report_refusal.Tie as tie
 
@@ -13,7 +13,7 @@ returns c =
     let s = c.before in
     let n = s.before in
     let a = (start_of n).args in
-    refuses-start a.workers a.values.now a.places a.pool.now a.work.now a.tape.now a.answers.now _ n.whole-nodes.ensures _ s.start-refusal.ensures c.if1.true
+    refuses_start a.workers a.values.now a.places a.pool.now a.work.now a.tape.now a.answers.now _ n.whole-nodes.ensures _ s.start-refusal.ensures c.if1.true
 
 returns-2 : tie.Need-returns-2
 returns-2 c =
@@ -23,7 +23,7 @@ returns-2 c =
     let s = f.before in
     let n = s.before in
     let a = (start_of n).args in
-    refuses-tape a.workers a.values.now a.places a.pool.now a.work.now a.tape.now a.answers.now _ n.whole-nodes.ensures _ s.start-refusal.ensures f.if1.false
+    refuses_tape a.workers a.values.now a.places a.pool.now a.work.now a.tape.now a.answers.now _ n.whole-nodes.ensures _ s.start-refusal.ensures f.if1.false
     _ u.unfit-tape.ensures t.if2.true _ c.refusal-number.ensures
 
 returns-3 : tie.Need-returns-3
@@ -35,7 +35,7 @@ returns-3 c =
     let s = f.before in
     let n = s.before in
     let a = (start_of n).args in
-    refuses-work a.workers a.values.now a.places a.pool.now a.work.now a.tape.now a.answers.now _ n.whole-nodes.ensures _ s.start-refusal.ensures f.if1.false
+    refuses_work a.workers a.values.now a.places a.pool.now a.work.now a.tape.now a.answers.now _ n.whole-nodes.ensures _ s.start-refusal.ensures f.if1.false
     _ u.unfit-tape.ensures g.if2.false t.if3.true _ c.refusal-number2.ensures
 
 returns-4 : tie.Need-returns-4
@@ -46,7 +46,7 @@ returns-4 c =
     let s = f.before in
     let n = s.before in
     let a = (start_of n).args in
-    refuses-nothing a.workers a.values.now a.places a.pool.now a.work.now a.tape.now a.answers.now _ n.whole-nodes.ensures _ s.start-refusal.ensures f.if1.false
+    refuses_nothing a.workers a.values.now a.places a.pool.now a.work.now a.tape.now a.answers.now _ n.whole-nodes.ensures _ s.start-refusal.ensures f.if1.false
     _ u.unfit-tape.ensures g.if2.false c.if3.false
 
 pub report-refusal-spec : {M : Type 1} → statement M

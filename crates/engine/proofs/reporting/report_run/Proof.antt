@@ -39,13 +39,13 @@ use denote.Triple.Statement.{Triple}
 use denote.Triple.Table.{entered, cited}
 use denote.Triple.Walked.{says, needs, Stays, stay_slice, stay_none, stay_none_slice, walk_of, Walks, ends_at, walked, Goes-slice, Goes-none, Goes-none_slice, walk_Meets}
 use borrow.Author.Rules.{scaled_Fits}
-use Rattle.frames.proofs.Lent.{at-list, Mine, Yours, ty_at, exit-unless, exit-if, leave-if, fork, skipped, regroup, matched, matched-last, const, is_true, is_false, not-not, differ, widen, less-fits, after, turn-of, take_out, put_in, put_back, look-out, look-back, free_all}
+use Rattle.frames.proofs.Lent.{at_list, Mine, Yours, ty_at, exit_unless, exit_if, leave_if, fork, skipped, regroup, matched, matched_last, const, is_true, is_false, not_not, differ, widen, less_fits, after, turn_of_lem, take_out, put_in, put_back, look_out, look_back, free_all}
 use Rattle.soundness.specs.declared.Checked.TheVariants.{Sound}
-use Rattle.semantics.specs.Entries.{chainFree, checkedState, recordsOf, tapeWith, unfitTape}
+use Rattle.semantics.specs.Entries.{chain_free, checked_state, records_of, tape_with, unfit_tape}
 use Rattle.semantics.specs.Promises.{parts, Fits, IsReport}
-use Rattle.semantics.specs.Remembering.{memoryChecked}
-use Rattle.memory.specs.Memory.{noMemory}
-use Rattle.semantics.specs.Report.{reportDone, timingOf}
+use Rattle.semantics.specs.Remembering.{memory_checked}
+use Rattle.memory.specs.Memory.{no_memory}
+use Rattle.semantics.specs.Report.{report_done, timing_of}
 use Rattle.soundness.specs.Layout.{two_words}
 use Rattle.engine.proofs.Called.check_parts as S-check-parts
 use Rattle.engine.proofs.checking.check_parts.Symbol as D-check-parts
@@ -138,7 +138,7 @@ module _ {M : Type 1} {𝓤 : Ura M} (𝓛 : Logic 𝓤) (mem : Memory → SProp
   n-report = length report
 
   abbrev args' : Bor (List ℕ) × (Bor (List ℕ) × (Bor (List Frame) × (Bor (List ℕ) × (Bor (List ℕ) × (Bor (List ℕ) × (Bor (List ℕ) × (Bor (List ℕ) × (Bor (List ℕ) × (Bor (List ℕ) × Unit {0})))))))))
-  args' = (at-list b-numbers o-numbers γ-numbers numbers, (at-list b-deques o-deques γ-deques deques, (at-list b-frames o-frames γ-frames frames, (at-list b-memory o-memory γ-memory memory, (at-list b-pool o-pool γ-pool pool, (at-list b-work o-work γ-work work, (at-list b-tape o-tape γ-tape tape, (at-list b-answers o-answers γ-answers answers, (at-list b-clocks o-clocks γ-clocks clocks, (at-list b-report o-report γ-report report, tt))))))))))
+  args' = (at_list b-numbers o-numbers γ-numbers numbers, (at_list b-deques o-deques γ-deques deques, (at_list b-frames o-frames γ-frames frames, (at_list b-memory o-memory γ-memory memory, (at_list b-pool o-pool γ-pool pool, (at_list b-work o-work γ-work work, (at_list b-tape o-tape γ-tape tape, (at_list b-answers o-answers γ-answers answers, (at_list b-clocks o-clocks γ-clocks clocks, (at_list b-report o-report γ-report report, tt))))))))))
 
   abbrev vals' : Vals f'.signature (κ-numbers, (κ-deques, (κ-frames, (κ-memory, (κ-pool, (κ-work, (κ-tape, (κ-answers, (κ-clocks, (κ-report, tt))))))))))
   vals' = (slice_val (b-numbers, o-numbers) (length numbers) ∷ [], (slice_val (b-deques, o-deques) (length deques) ∷ [], (slice_val (b-frames, o-frames) (length frames) ∷ [], (slice_val (b-memory, o-memory) (length memory) ∷ [], (slice_val (b-pool, o-pool) (length pool) ∷ [], (slice_val (b-work, o-work) (length work) ∷ [], (slice_val (b-tape, o-tape) (length tape) ∷ [], (slice_val (b-answers, o-answers) (length answers) ∷ [], (slice_val (b-clocks, o-clocks) (length clocks) ∷ [], (slice_val (b-report, o-report) (length report) ∷ [], tt))))))))))
@@ -149,10 +149,10 @@ module _ {M : Type 1} {𝓤 : Ura M} (𝓛 : Logic 𝓤) (mem : Memory → SProp
   abbrev Post : Val → SProp 𝓤
   Post = (walk_of 𝓛 f'.ended stayed (f'.clauses 𝓛 mem run)).post bound'
 
-  exits' : (res' : ℕ) (zs-numbers : List ℕ) (zs-deques : List ℕ) (zs-frames : List Frame) (zs-memory : List ℕ) (zs-pool : List ℕ) (zs-work : List ℕ) (zs-answers : List ℕ) (zs-clocks : List ℕ) (zs-report : List ℕ) → res' < 2 ^ 32 → IsReport (reportDone (tapeWith two_words (parts numbers deques frames) pool work tape answers) (timingOf two_words (parts numbers deques frames) pool tape clocks) report) zs-numbers zs-deques zs-frames zs-pool zs-work zs-answers zs-clocks zs-report res' × (zs-memory ≡ memoryChecked two_words (checkedState two_words (parts numbers deques frames) pool work) (parts numbers deques frames) pool noMemory (recordsOf tape)) → length zs-numbers ≡ length numbers → length zs-deques ≡ length deques → length zs-frames ≡ length frames → length zs-memory ≡ length memory → length zs-pool ≡ length pool → length zs-work ≡ length work → length zs-answers ≡ length answers → length zs-clocks ≡ length clocks → length zs-report ≡ length report → ent 𝓤 (⋆ 𝓛 (‵ (Mine u32 κ-numbers q-numbers γ-numbers b-numbers o-numbers n-numbers zs-numbers) ∷ ‵ (Mine u32 κ-deques q-deques γ-deques b-deques o-deques n-deques zs-deques) ∷ ‵ (Mine R-Frame κ-frames q-frames γ-frames b-frames o-frames n-frames zs-frames) ∷ ‵ (Mine u32 κ-memory q-memory γ-memory b-memory o-memory n-memory zs-memory) ∷ ‵ (Mine u32 κ-pool q-pool γ-pool b-pool o-pool n-pool zs-pool) ∷ ‵ (Mine u32 κ-work q-work γ-work b-work o-work n-work zs-work) ∷ ‵ (Yours u8 κ-tape q-tape γ-tape b-tape o-tape n-tape tape) ∷ ‵ (Mine u32 κ-answers q-answers γ-answers b-answers o-answers n-answers zs-answers) ∷ ‵ (Mine u64 κ-clocks q-clocks γ-clocks b-clocks o-clocks n-clocks zs-clocks) ∷ ‵ (Mine u64 κ-report q-report γ-report b-report o-report n-report zs-report) ∷ [])) (Post (vint w32 res'))
-  exits' res' zs-numbers zs-deques zs-frames zs-memory zs-pool zs-work zs-answers zs-clocks zs-report good' e' same_numbers same-deques same-frames same_memory same-pool same-work same-answers same-clocks same-report =
+  exits' : (res' : ℕ) (zs-numbers : List ℕ) (zs-deques : List ℕ) (zs-frames : List Frame) (zs-memory : List ℕ) (zs-pool : List ℕ) (zs-work : List ℕ) (zs-answers : List ℕ) (zs-clocks : List ℕ) (zs-report : List ℕ) → res' < 2 ^ 32 → IsReport (report_done (tape_with two_words (parts numbers deques frames) pool work tape answers) (timing_of two_words (parts numbers deques frames) pool tape clocks) report) zs-numbers zs-deques zs-frames zs-pool zs-work zs-answers zs-clocks zs-report res' × (zs-memory ≡ memory_checked two_words (checked_state two_words (parts numbers deques frames) pool work) (parts numbers deques frames) pool no_memory (records_of tape)) → length zs-numbers ≡ length numbers → length zs-deques ≡ length deques → length zs-frames ≡ length frames → length zs-memory ≡ length memory → length zs-pool ≡ length pool → length zs-work ≡ length work → length zs-answers ≡ length answers → length zs-clocks ≡ length clocks → length zs-report ≡ length report → ent 𝓤 (⋆ 𝓛 (‵ (Mine u32 κ-numbers q-numbers γ-numbers b-numbers o-numbers n-numbers zs-numbers) ∷ ‵ (Mine u32 κ-deques q-deques γ-deques b-deques o-deques n-deques zs-deques) ∷ ‵ (Mine R-Frame κ-frames q-frames γ-frames b-frames o-frames n-frames zs-frames) ∷ ‵ (Mine u32 κ-memory q-memory γ-memory b-memory o-memory n-memory zs-memory) ∷ ‵ (Mine u32 κ-pool q-pool γ-pool b-pool o-pool n-pool zs-pool) ∷ ‵ (Mine u32 κ-work q-work γ-work b-work o-work n-work zs-work) ∷ ‵ (Yours u8 κ-tape q-tape γ-tape b-tape o-tape n-tape tape) ∷ ‵ (Mine u32 κ-answers q-answers γ-answers b-answers o-answers n-answers zs-answers) ∷ ‵ (Mine u64 κ-clocks q-clocks γ-clocks b-clocks o-clocks n-clocks zs-clocks) ∷ ‵ (Mine u64 κ-report q-report γ-report b-report o-report n-report zs-report) ∷ [])) (Post (vint w32 res'))
+  exits' res' zs-numbers zs-deques zs-frames zs-memory zs-pool zs-work zs-answers zs-clocks zs-report good' e' same_numbers same-deques same-frames same_memory same-pool same_work same-answers same_clocks same_report =
       qed 𝓛 (‵ (Mine u32 κ-numbers q-numbers γ-numbers b-numbers o-numbers n-numbers zs-numbers) ∷ ‵ (Mine u32 κ-deques q-deques γ-deques b-deques o-deques n-deques zs-deques) ∷ ‵ (Mine R-Frame κ-frames q-frames γ-frames b-frames o-frames n-frames zs-frames) ∷ ‵ (Mine u32 κ-memory q-memory γ-memory b-memory o-memory n-memory zs-memory) ∷ ‵ (Mine u32 κ-pool q-pool γ-pool b-pool o-pool n-pool zs-pool) ∷ ‵ (Mine u32 κ-work q-work γ-work b-work o-work n-work zs-work) ∷ ‵ (Yours u8 κ-tape q-tape γ-tape b-tape o-tape n-tape tape) ∷ ‵ (Mine u32 κ-answers q-answers γ-answers b-answers o-answers n-answers zs-answers) ∷ ‵ (Mine u64 κ-clocks q-clocks γ-clocks b-clocks o-clocks n-clocks zs-clocks) ∷ ‵ (Mine u64 κ-report q-report γ-report b-report o-report n-report zs-report) ∷ []) ∵
-      suffices ! _ (ends_at 𝓛 f'.ended stayed (f'.clauses 𝓛 mem run) bound' (vint w32 res') res' (zs-numbers, (zs-deques, (zs-frames, (zs-memory, (zs-pool, (zs-work, (tt, (zs-answers, (zs-clocks, (zs-report, tt)))))))))) (same_numbers, (same-deques, (same-frames, (same_memory, (same-pool, (same-work, (tt, (same-answers, (same-clocks, (same-report, tt))))))))))) $ says ! e' $
+      suffices ! _ (ends_at 𝓛 f'.ended stayed (f'.clauses 𝓛 mem run) bound' (vint w32 res') res' (zs-numbers, (zs-deques, (zs-frames, (zs-memory, (zs-pool, (zs-work, (tt, (zs-answers, (zs-clocks, (zs-report, tt)))))))))) (same_numbers, (same-deques, (same-frames, (same_memory, (same-pool, (same_work, (tt, (same-answers, (same_clocks, (same_report, tt))))))))))) $ says ! e' $
       fsplit ! $ move ! (2 ∷ []) $ fsplit ! $ move ! (4 ∷ []) $ fsplit ! $ move ! (6 ∷ []) $ fsplit ! $ move ! (8 ∷ []) $ fsplit ! $ move ! (10 ∷ []) $ fsplit ! $ move ! (12 ∷ []) $ fsplit ! $ move ! (14 ∷ []) $ fsplit ! $ move ! (16 ∷ []) $ fsplit ! $ move ! (18 ∷ []) $ fsplit ! $ nothing ! $ move ! (20 ∷ 18 ∷ 16 ∷ 14 ∷ 12 ∷ 10 ∷ 8 ∷ 6 ∷ 4 ∷ 2 ∷ 0 ∷ []) $ group ! 11 $ frame ! $
       nothing ! $ move ! (1 ∷ 0 ∷ []) $ fjoin ! $ move ! (1 ∷ 0 ∷ []) $ fjoin ! $ move ! (1 ∷ 0 ∷ []) $ fjoin ! $ move ! (1 ∷ 0 ∷ []) $ fjoin ! $ move ! (1 ∷ 0 ∷ []) $ fjoin ! $ move ! (1 ∷ 0 ∷ []) $ fjoin ! $ move ! (1 ∷ 0 ∷ []) $ fjoin ! $ move ! (1 ∷ 0 ∷ []) $ fjoin ! $ move ! (1 ∷ 0 ∷ []) $ fjoin ! $ move ! (1 ∷ 0 ∷ []) $ fjoin ! $ frame ! $
       owned ! u32 (Is u32) (uint_Makes 𝓛 w32) res' _ (refl, good') $ done !
@@ -161,7 +161,7 @@ module _ {M : Type 1} {𝓤 : Ura M} (𝓛 : Logic 𝓤) (mem : Memory → SProp
     abbrev fm : FmC 𝓤 H 𝓛.laws 𝓣.C
     fm = fm_of 𝓤 H 𝓛.laws 𝓣
 
-    walk : Fits (parts numbers deques frames) × (checkedState two_words (parts numbers deques frames) pool work ≡ Sound (chainFree two_words (parts numbers deques frames) pool)) × (unfitTape tape answers ≡ false) × (length clocks ≡ 2 * length frames) × (length report ≡ 4) × (memory ≡ noMemory) → ent 𝓤 (on_entry 𝓛 f'.signature (κ-numbers, (κ-deques, (κ-frames, (κ-memory, (κ-pool, (κ-work, (κ-tape, (κ-answers, (κ-clocks, (κ-report, tt)))))))))) (q-numbers, (q-deques, (q-frames, (q-memory, (q-pool, (q-work, (q-tape, (q-answers, (q-clocks, (q-report, tt)))))))))) args' vals') (WpFn 𝓤 H 𝓣.C 𝓣.Λ code.function (slice_val (b-numbers, o-numbers) (length numbers) ∷ slice_val (b-deques, o-deques) (length deques) ∷ slice_val (b-frames, o-frames) (length frames) ∷ slice_val (b-memory, o-memory) (length memory) ∷ slice_val (b-pool, o-pool) (length pool) ∷ slice_val (b-work, o-work) (length work) ∷ slice_val (b-tape, o-tape) (length tape) ∷ slice_val (b-answers, o-answers) (length answers) ∷ slice_val (b-clocks, o-clocks) (length clocks) ∷ slice_val (b-report, o-report) (length report) ∷ []) Post)
+    walk : Fits (parts numbers deques frames) × (checked_state two_words (parts numbers deques frames) pool work ≡ Sound (chain_free two_words (parts numbers deques frames) pool)) × (unfit_tape tape answers ≡ false) × (length clocks ≡ 2 * length frames) × (length report ≡ 4) × (memory ≡ no_memory) → ent 𝓤 (on_entry 𝓛 f'.signature (κ-numbers, (κ-deques, (κ-frames, (κ-memory, (κ-pool, (κ-work, (κ-tape, (κ-answers, (κ-clocks, (κ-report, tt)))))))))) (q-numbers, (q-deques, (q-frames, (q-memory, (q-pool, (q-work, (q-tape, (q-answers, (q-clocks, (q-report, tt)))))))))) args' vals') (WpFn 𝓤 H 𝓣.C 𝓣.Λ code.function (slice_val (b-numbers, o-numbers) (length numbers) ∷ slice_val (b-deques, o-deques) (length deques) ∷ slice_val (b-frames, o-frames) (length frames) ∷ slice_val (b-memory, o-memory) (length memory) ∷ slice_val (b-pool, o-pool) (length pool) ∷ slice_val (b-work, o-work) (length work) ∷ slice_val (b-tape, o-tape) (length tape) ∷ slice_val (b-answers, o-answers) (length answers) ∷ slice_val (b-clocks, o-clocks) (length clocks) ∷ slice_val (b-report, o-report) (length report) ∷ []) Post)
     walk ok' =
         qed 𝓛 ((‵ (flft κ-numbers q-numbers) ⊛ ‵ (flft κ-deques q-deques) ⊛ ‵ (flft κ-frames q-frames) ⊛ ‵ (flft κ-memory q-memory) ⊛ ‵ (flft κ-pool q-pool) ⊛ ‵ (flft κ-work q-work) ⊛ ‵ (flft κ-tape q-tape) ⊛ ‵ (flft κ-answers q-answers) ⊛ ‵ (flft κ-clocks q-clocks) ⊛ ‵ (flft κ-report q-report) ⊛ ‵ ftrue) ∷ ‵ (owns (MutSlice (named 0) κ-numbers u32 ∷ MutSlice (named 1) κ-deques u32 ∷ MutSlice (named 2) κ-frames R-Frame ∷ MutSlice (named 3) κ-memory u32 ∷ MutSlice (named 4) κ-pool u32 ∷ MutSlice (named 5) κ-work u32 ∷ ShrSlice (named 6) κ-tape u8 ∷ MutSlice (named 7) κ-answers u32 ∷ MutSlice (named 8) κ-clocks u64 ∷ MutSlice (named 9) κ-report u64 ∷ []) args' vals') ∷ []) ∵ enter ! 𝓣.C 𝓣.Λ code.function (slice_val (b-numbers, o-numbers) (length numbers) ∷ slice_val (b-deques, o-deques) (length deques) ∷ slice_val (b-frames, o-frames) (length frames) ∷ slice_val (b-memory, o-memory) (length memory) ∷ slice_val (b-pool, o-pool) (length pool) ∷ slice_val (b-work, o-work) (length work) ∷ slice_val (b-tape, o-tape) (length tape) ∷ slice_val (b-answers, o-answers) (length answers) ∷ slice_val (b-clocks, o-clocks) (length clocks) ∷ slice_val (b-report, o-report) (length report) ∷ []) _ $
         alloc1 ! (λ l₀. alloc1 ! (λ l₁. alloc1 ! (λ l₂. alloc1 ! (λ l₃. alloc1 ! (λ l₄. alloc1 ! (λ l₅. alloc1 ! (λ l₆. alloc1 ! (λ l₇. alloc1 ! (λ l₈. alloc1 ! (λ l₉. alloc1 ! (λ l₁₀. alloc1 ! (λ l₁₁. alloc1 ! (λ l₁₂. alloc1 ! (λ l₁₃. alloc1 ! (λ l₁₄. alloc1 ! (λ l₁₅. alloc1 ! (λ l₁₆. alloc1 ! (λ l₁₇. alloc1 ! (λ l₁₈. alloc1 ! (λ l₁₉. alloc1 ! (λ l₂₀. alloc1 ! (λ l₂₁. alloc1 ! (λ l₂₂. alloc1 ! (λ l₂₃. alloc1 ! (λ l₂₄. alloc1 ! (λ l₂₅. alloc1 ! (λ l₂₆. alloc1 ! (λ l₂₇. alloc1 ! (λ l₂₈. alloc1 ! (λ l₂₉. alloc1 ! (λ l₃₀. alloc1 ! (λ l₃₁. alloc1 ! (λ l₃₂. alloc1 ! (λ l₃₃. alloc1 ! (λ l₃₄. alloc1 ! (λ l₃₅. alloc1 ! (λ l₃₆. alloc1 ! (λ l₃₇. alloc1 ! (λ l₃₈. alloc1 ! (λ l₃₉. alloc1 ! (λ l₄₀. alloc1 ! (λ l₄₁. alloc1 ! (λ l₄₂. alloc0 ! $ params1 ! $
@@ -232,7 +232,7 @@ module _ {M : Type 1} {𝓤 : Ura M} (𝓛 : Logic 𝓤) (mem : Memory → SProp
   walks known-check-parts known-clear-clocks known-free-in known-run-timed known-put-report = walked 𝓛 f'.ended stayed (f'.clauses 𝓛 mem run) (WpFn 𝓤 H 𝓣.C 𝓣.Λ code.function)
       (λ κs. (shr_slice_vals, (shr_slice_vals, (shr_slice_vals, (shr_slice_vals, (shr_slice_vals, (shr_slice_vals, (shr_slice_vals, (shr_slice_vals, (shr_slice_vals, (shr_slice_vals, tt)))))))))))
       (λ κs. (mut_slice_Tells (named 0) κs.0 u32, (mut_slice_Tells (named 1) κs.1.0 u32, (mut_slice_Tells (named 2) κs.1.1.0 R-Frame, (mut_slice_Tells (named 3) κs.1.1.1.0 u32, (mut_slice_Tells (named 4) κs.1.1.1.1.0 u32, (mut_slice_Tells (named 5) κs.1.1.1.1.1.0 u32, (shr_slice_Tells (named 6) κs.1.1.1.1.1.1.0 u8, (mut_slice_Tells (named 7) κs.1.1.1.1.1.1.1.0 u32, (mut_slice_Tells (named 8) κs.1.1.1.1.1.1.1.1.0 u64, (mut_slice_Tells (named 9) κs.1.1.1.1.1.1.1.1.1.0 u64, tt)))))))))))
-      (λ κs qs bounds a g are. needs 𝓤 (Fits (parts a.0.now a.1.0.now a.1.1.0.now) × (checkedState two_words (parts a.0.now a.1.0.now a.1.1.0.now) a.1.1.1.1.0.now a.1.1.1.1.1.0.now ≡ Sound (chainFree two_words (parts a.0.now a.1.0.now a.1.1.0.now) a.1.1.1.1.0.now)) × (unfitTape a.1.1.1.1.1.1.0.now a.1.1.1.1.1.1.1.0.now ≡ false) × (length a.1.1.1.1.1.1.1.1.0.now ≡ 2 * length a.1.1.0.now) × (length a.1.1.1.1.1.1.1.1.1.0.now ≡ 4) × (a.1.1.1.0.now ≡ noMemory)) _
+      (λ κs qs bounds a g are. needs 𝓤 (Fits (parts a.0.now a.1.0.now a.1.1.0.now) × (checked_state two_words (parts a.0.now a.1.0.now a.1.1.0.now) a.1.1.1.1.0.now a.1.1.1.1.1.0.now ≡ Sound (chain_free two_words (parts a.0.now a.1.0.now a.1.1.0.now) a.1.1.1.1.0.now)) × (unfit_tape a.1.1.1.1.1.1.0.now a.1.1.1.1.1.1.1.0.now ≡ false) × (length a.1.1.1.1.1.1.1.1.0.now ≡ 2 * length a.1.1.0.now) × (length a.1.1.1.1.1.1.1.1.1.0.now ≡ 4) × (a.1.1.1.0.now ≡ no_memory)) _
       (walk 𝓛 mem run κs.0 qs.0 a.0.ref_ptr.0 a.0.ref_ptr.1 a.0.ghost_name a.0.now κs.1.0 qs.1.0 a.1.0.ref_ptr.0 a.1.0.ref_ptr.1 a.1.0.ghost_name a.1.0.now κs.1.1.0 qs.1.1.0 a.1.1.0.ref_ptr.0 a.1.1.0.ref_ptr.1 a.1.1.0.ghost_name a.1.1.0.now κs.1.1.1.0 qs.1.1.1.0 a.1.1.1.0.ref_ptr.0 a.1.1.1.0.ref_ptr.1 a.1.1.1.0.ghost_name a.1.1.1.0.now κs.1.1.1.1.0 qs.1.1.1.1.0 a.1.1.1.1.0.ref_ptr.0 a.1.1.1.1.0.ref_ptr.1 a.1.1.1.1.0.ghost_name a.1.1.1.1.0.now κs.1.1.1.1.1.0 qs.1.1.1.1.1.0 a.1.1.1.1.1.0.ref_ptr.0 a.1.1.1.1.1.0.ref_ptr.1 a.1.1.1.1.1.0.ghost_name a.1.1.1.1.1.0.now κs.1.1.1.1.1.1.0 qs.1.1.1.1.1.1.0 a.1.1.1.1.1.1.0.ref_ptr.0 a.1.1.1.1.1.1.0.ref_ptr.1 a.1.1.1.1.1.1.0.ghost_name a.1.1.1.1.1.1.0.now κs.1.1.1.1.1.1.1.0 qs.1.1.1.1.1.1.1.0 a.1.1.1.1.1.1.1.0.ref_ptr.0 a.1.1.1.1.1.1.1.0.ref_ptr.1 a.1.1.1.1.1.1.1.0.ghost_name a.1.1.1.1.1.1.1.0.now κs.1.1.1.1.1.1.1.1.0 qs.1.1.1.1.1.1.1.1.0 a.1.1.1.1.1.1.1.1.0.ref_ptr.0 a.1.1.1.1.1.1.1.1.0.ref_ptr.1 a.1.1.1.1.1.1.1.1.0.ghost_name a.1.1.1.1.1.1.1.1.0.now κs.1.1.1.1.1.1.1.1.1.0 qs.1.1.1.1.1.1.1.1.1.0 a.1.1.1.1.1.1.1.1.1.0.ref_ptr.0 a.1.1.1.1.1.1.1.1.1.0.ref_ptr.1 a.1.1.1.1.1.1.1.1.1.0.ghost_name a.1.1.1.1.1.1.1.1.1.0.now are.0.0.1 are.1.0.0.1 are.1.1.0.0.1 are.1.1.1.0.0.1 are.1.1.1.1.0.0.1 are.1.1.1.1.1.0.0.1 are.1.1.1.1.1.1.0.0.1 are.1.1.1.1.1.1.1.0.0.1 are.1.1.1.1.1.1.1.1.0.0.1 are.1.1.1.1.1.1.1.1.1.0.0.1 𝓣 known-check-parts known-clear-clocks known-free-in known-run-timed known-put-report))
 
   meets : Triple 𝓤 (𝓣.C #check-parts) (S-check-parts.Asked 𝓛 mem run) → Triple 𝓤 (𝓣.C #clear-clocks) (S-clear-clocks.Asked 𝓛 mem run) → Triple 𝓤 (𝓣.C #free-in) (S-free-in.Asked 𝓛 mem run) → Triple 𝓤 (𝓣.C #run-timed) (S-run-timed.Asked 𝓛 mem run) → Triple 𝓤 (𝓣.C #put-report) (S-put-report.Asked 𝓛 mem run) → Meets 𝓛 f'.signature (WpFn 𝓤 H 𝓣.C 𝓣.Λ code.function) (f'.spec 𝓛 mem run)

@@ -39,13 +39,13 @@ use denote.Triple.Statement.{Triple}
 use denote.Triple.Table.{entered, cited}
 use denote.Triple.Walked.{says, needs, Stays, stay_slice, stay_none, stay_none_slice, walk_of, Walks, ends_at, walked, Goes-slice, Goes-none, Goes-none_slice, walk_Meets}
 use borrow.Author.Rules.{scaled_Fits}
-use Rattle.frames.proofs.Lent.{at-list, Mine, Yours, ty_at, exit-unless, exit-if, leave-if, fork, skipped, regroup, matched, matched-last, const, is_true, is_false, not-not, differ, widen, less-fits, after, turn-of, take_out, put_in, put_back, look-out, look-back, free_all}
-use Rattle.soundness.specs.Numbers.{numbersIn, totalsIn, numberCount}
-use Rattle.semantics.specs.Entries.{recordsResult, recordsFrom, runOn}
+use Rattle.frames.proofs.Lent.{at_list, Mine, Yours, ty_at, exit_unless, exit_if, leave_if, fork, skipped, regroup, matched, matched_last, const, is_true, is_false, not_not, differ, widen, less_fits, after, turn_of_lem, take_out, put_in, put_back, look_out, look_back, free_all}
+use Rattle.soundness.specs.Numbers.{numbers_in, totals_in, number_count}
+use Rattle.semantics.specs.Entries.{records_result, records_from, run_on}
 use Rattle.semantics.specs.Ranges.{Kept, Remembers}
-use Rattle.semantics.specs.Remembering.{memoryOver}
-use Rattle.semantics.specs.Timing.{timedOver}
-use Rattle.timing.specs.Turns.{timing, kindAt}
+use Rattle.semantics.specs.Remembering.{memory_over}
+use Rattle.semantics.specs.Timing.{timed_over}
+use Rattle.timing.specs.Turns.{timing, kind_at}
 use Rattle.engine.specs.Promises.{core, renewed}
 use Rattle.soundness.specs.Layout.{two_words}
 use Rattle.engine.proofs.Called.bottom_of as S-bottom-of
@@ -172,7 +172,7 @@ module _ {M : Type 1} {𝓤 : Ura M} (𝓛 : Logic 𝓤) (mem : Memory → SProp
   n-clocks = length clocks
 
   abbrev args' : Head × (Bor (List ℕ) × (Bor (List ℕ) × (Bor (List Frame) × (Bor (List ℕ) × (Bor (List ℕ) × (Bor (List ℕ) × (Bor (List ℕ) × (Bor (List ℕ) × (ℕ × (ℕ × (Tally × Unit {0})))))))))))
-  args' = (h, (at-list b-numbers o-numbers γ-numbers numbers, (at-list b-deques o-deques γ-deques deques, (at-list b-frames o-frames γ-frames frames, (at-list b-pool o-pool γ-pool pool, (at-list b-memory o-memory γ-memory memory, (at-list b-tape o-tape γ-tape tape, (at-list b-answers o-answers γ-answers answers, (at-list b-clocks o-clocks γ-clocks clocks, (i, (to, (t, tt))))))))))))
+  args' = (h, (at_list b-numbers o-numbers γ-numbers numbers, (at_list b-deques o-deques γ-deques deques, (at_list b-frames o-frames γ-frames frames, (at_list b-pool o-pool γ-pool pool, (at_list b-memory o-memory γ-memory memory, (at_list b-tape o-tape γ-tape tape, (at_list b-answers o-answers γ-answers answers, (at_list b-clocks o-clocks γ-clocks clocks, (i, (to, (t, tt))))))))))))
 
   abbrev vals' : Vals f'.signature (κ-numbers, (κ-deques, (κ-frames, (κ-pool, (κ-memory, (κ-tape, (κ-answers, (κ-clocks, tt))))))))
   vals' = (val-Head h ∷ [], (slice_val (b-numbers, o-numbers) (length numbers) ∷ [], (slice_val (b-deques, o-deques) (length deques) ∷ [], (slice_val (b-frames, o-frames) (length frames) ∷ [], (slice_val (b-pool, o-pool) (length pool) ∷ [], (slice_val (b-memory, o-memory) (length memory) ∷ [], (slice_val (b-tape, o-tape) (length tape) ∷ [], (slice_val (b-answers, o-answers) (length answers) ∷ [], (slice_val (b-clocks, o-clocks) (length clocks) ∷ [], (vint w64 i ∷ [], (vint w64 to ∷ [], (val-Tally t ∷ [], tt))))))))))))
@@ -183,10 +183,10 @@ module _ {M : Type 1} {𝓤 : Ura M} (𝓛 : Logic 𝓤) (mem : Memory → SProp
   abbrev Post : Val → SProp 𝓤
   Post = (walk_of 𝓛 f'.ended stayed (f'.clauses 𝓛 mem run)).post bound'
 
-  exits' : (res' : Turn) (zs-numbers : List ℕ) (zs-deques : List ℕ) (zs-frames : List Frame) (zs-pool : List ℕ) (zs-memory : List ℕ) (zs-answers : List ℕ) (zs-clocks : List ℕ) → Is R-Turn res' (val-Turn res' ∷ []) → (numbersIn zs-numbers ≡ numbersIn numbers) × (recordsResult (core (renewed h res'.free_node res'.free_place res'.free_count) (totalsIn zs-numbers) zs-deques zs-frames zs-pool) zs-answers ≡ runOn two_words (recordsResult (core h (totalsIn numbers) deques frames pool) answers) (2 * i) (recordsFrom (to - i) tape (8 * i))) × (timing zs-clocks res'.work res'.span ≡ timedOver two_words (core h (totalsIn numbers) deques frames pool) (recordsFrom (to - i) tape (8 * i)) (timing clocks t.work t.span)) × (zs-memory ≡ memoryOver two_words (core h (totalsIn numbers) deques frames pool) memory (recordsFrom (to - i) tape (8 * i))) → length zs-numbers ≡ length numbers → length zs-deques ≡ length deques → length zs-frames ≡ length frames → length zs-pool ≡ length pool → length zs-memory ≡ length memory → length zs-answers ≡ length answers → length zs-clocks ≡ length clocks → ent 𝓤 (⋆ 𝓛 (‵ (Mine u32 κ-numbers q-numbers γ-numbers b-numbers o-numbers n-numbers zs-numbers) ∷ ‵ (Mine u32 κ-deques q-deques γ-deques b-deques o-deques n-deques zs-deques) ∷ ‵ (Mine R-Frame κ-frames q-frames γ-frames b-frames o-frames n-frames zs-frames) ∷ ‵ (Mine u32 κ-pool q-pool γ-pool b-pool o-pool n-pool zs-pool) ∷ ‵ (Mine u32 κ-memory q-memory γ-memory b-memory o-memory n-memory zs-memory) ∷ ‵ (Yours u8 κ-tape q-tape γ-tape b-tape o-tape n-tape tape) ∷ ‵ (Mine u32 κ-answers q-answers γ-answers b-answers o-answers n-answers zs-answers) ∷ ‵ (Mine u64 κ-clocks q-clocks γ-clocks b-clocks o-clocks n-clocks zs-clocks) ∷ [])) (Post (val-Turn res'))
-  exits' res' zs-numbers zs-deques zs-frames zs-pool zs-memory zs-answers zs-clocks good' e' same_numbers same-deques same-frames same-pool same_memory same-answers same-clocks =
+  exits' : (res' : Turn) (zs-numbers : List ℕ) (zs-deques : List ℕ) (zs-frames : List Frame) (zs-pool : List ℕ) (zs-memory : List ℕ) (zs-answers : List ℕ) (zs-clocks : List ℕ) → Is R-Turn res' (val-Turn res' ∷ []) → (numbers_in zs-numbers ≡ numbers_in numbers) × (records_result (core (renewed h res'.free_node res'.free_place res'.free_count) (totals_in zs-numbers) zs-deques zs-frames zs-pool) zs-answers ≡ run_on two_words (records_result (core h (totals_in numbers) deques frames pool) answers) (2 * i) (records_from (to - i) tape (8 * i))) × (timing zs-clocks res'.work res'.span ≡ timed_over two_words (core h (totals_in numbers) deques frames pool) (records_from (to - i) tape (8 * i)) (timing clocks t.work t.span)) × (zs-memory ≡ memory_over two_words (core h (totals_in numbers) deques frames pool) memory (records_from (to - i) tape (8 * i))) → length zs-numbers ≡ length numbers → length zs-deques ≡ length deques → length zs-frames ≡ length frames → length zs-pool ≡ length pool → length zs-memory ≡ length memory → length zs-answers ≡ length answers → length zs-clocks ≡ length clocks → ent 𝓤 (⋆ 𝓛 (‵ (Mine u32 κ-numbers q-numbers γ-numbers b-numbers o-numbers n-numbers zs-numbers) ∷ ‵ (Mine u32 κ-deques q-deques γ-deques b-deques o-deques n-deques zs-deques) ∷ ‵ (Mine R-Frame κ-frames q-frames γ-frames b-frames o-frames n-frames zs-frames) ∷ ‵ (Mine u32 κ-pool q-pool γ-pool b-pool o-pool n-pool zs-pool) ∷ ‵ (Mine u32 κ-memory q-memory γ-memory b-memory o-memory n-memory zs-memory) ∷ ‵ (Yours u8 κ-tape q-tape γ-tape b-tape o-tape n-tape tape) ∷ ‵ (Mine u32 κ-answers q-answers γ-answers b-answers o-answers n-answers zs-answers) ∷ ‵ (Mine u64 κ-clocks q-clocks γ-clocks b-clocks o-clocks n-clocks zs-clocks) ∷ [])) (Post (val-Turn res'))
+  exits' res' zs-numbers zs-deques zs-frames zs-pool zs-memory zs-answers zs-clocks good' e' same_numbers same-deques same-frames same-pool same_memory same-answers same_clocks =
       qed 𝓛 (‵ (Mine u32 κ-numbers q-numbers γ-numbers b-numbers o-numbers n-numbers zs-numbers) ∷ ‵ (Mine u32 κ-deques q-deques γ-deques b-deques o-deques n-deques zs-deques) ∷ ‵ (Mine R-Frame κ-frames q-frames γ-frames b-frames o-frames n-frames zs-frames) ∷ ‵ (Mine u32 κ-pool q-pool γ-pool b-pool o-pool n-pool zs-pool) ∷ ‵ (Mine u32 κ-memory q-memory γ-memory b-memory o-memory n-memory zs-memory) ∷ ‵ (Yours u8 κ-tape q-tape γ-tape b-tape o-tape n-tape tape) ∷ ‵ (Mine u32 κ-answers q-answers γ-answers b-answers o-answers n-answers zs-answers) ∷ ‵ (Mine u64 κ-clocks q-clocks γ-clocks b-clocks o-clocks n-clocks zs-clocks) ∷ []) ∵
-      suffices ! _ (ends_at 𝓛 f'.ended stayed (f'.clauses 𝓛 mem run) bound' (val-Turn res') res' (tt, (zs-numbers, (zs-deques, (zs-frames, (zs-pool, (zs-memory, (tt, (zs-answers, (zs-clocks, (tt, (tt, (tt, tt)))))))))))) (tt, (same_numbers, (same-deques, (same-frames, (same-pool, (same_memory, (tt, (same-answers, (same-clocks, (tt, (tt, (tt, tt))))))))))))) $ says ! e' $
+      suffices ! _ (ends_at 𝓛 f'.ended stayed (f'.clauses 𝓛 mem run) bound' (val-Turn res') res' (tt, (zs-numbers, (zs-deques, (zs-frames, (zs-pool, (zs-memory, (tt, (zs-answers, (zs-clocks, (tt, (tt, (tt, tt)))))))))))) (tt, (same_numbers, (same-deques, (same-frames, (same-pool, (same_memory, (tt, (same-answers, (same_clocks, (tt, (tt, (tt, tt))))))))))))) $ says ! e' $
       fsplit ! $ move ! (2 ∷ []) $ fsplit ! $ move ! (4 ∷ []) $ fsplit ! $ move ! (6 ∷ []) $ fsplit ! $ move ! (8 ∷ []) $ fsplit ! $ move ! (10 ∷ []) $ fsplit ! $ move ! (12 ∷ []) $ fsplit ! $ move ! (14 ∷ []) $ fsplit ! $ nothing ! $ move ! (16 ∷ 14 ∷ 12 ∷ 10 ∷ 8 ∷ 6 ∷ 4 ∷ 2 ∷ 0 ∷ []) $ group ! 9 $ frame ! $
       nothing ! $ owned ! R-Tally (Is R-Tally) (LL.makes M-Tally.the_type L-Tally.the_plain 𝓛) t _ t-good $ fjoin ! $ owned ! usize (Is usize) (uint_Makes 𝓛 w64) to _ (refl, to-fits) $ fjoin ! $ owned ! usize (Is usize) (uint_Makes 𝓛 w64) i _ (refl, i-fits) $ fjoin ! $ move ! (1 ∷ 0 ∷ []) $ fjoin ! $ move ! (1 ∷ 0 ∷ []) $ fjoin ! $ move ! (1 ∷ 0 ∷ []) $ fjoin ! $ move ! (1 ∷ 0 ∷ []) $ fjoin ! $ move ! (1 ∷ 0 ∷ []) $ fjoin ! $ move ! (1 ∷ 0 ∷ []) $ fjoin ! $ move ! (1 ∷ 0 ∷ []) $ fjoin ! $ move ! (1 ∷ 0 ∷ []) $ fjoin ! $ owned ! R-Head (Is R-Head) (LL.makes M-Head.the_type L-Head.the_plain 𝓛) h _ h-good $ fjoin ! $ frame ! $
       owned ! R-Turn (Is R-Turn) (LL.makes M-Turn.the_type L-Turn.the_plain 𝓛) res' _ good' $ done !
@@ -195,7 +195,7 @@ module _ {M : Type 1} {𝓤 : Ura M} (𝓛 : Logic 𝓤) (mem : Memory → SProp
     abbrev fm : FmC 𝓤 H 𝓛.laws 𝓣.C
     fm = fm_of 𝓤 H 𝓛.laws 𝓣
 
-    walk : (length numbers ≡ numberCount) × Kept two_words (core h (totalsIn numbers) deques frames pool) × (2 * (length tape / 8) ≤ length answers) × (i < to) × (to ≤ length tape / 8) × ((j : ℕ) → i + 1 ≤ j → j < to → 5 ≤ kindAt tape j) × (length clocks ≡ 2 * length frames) × ((j : ℕ) → get_or clocks j 0 ≤ i) × (t.work ≤ i) × (t.span ≤ i) × Remembers two_words (core h (totalsIn numbers) deques frames pool) memory → ent 𝓤 (on_entry 𝓛 f'.signature (κ-numbers, (κ-deques, (κ-frames, (κ-pool, (κ-memory, (κ-tape, (κ-answers, (κ-clocks, tt)))))))) (q-numbers, (q-deques, (q-frames, (q-pool, (q-memory, (q-tape, (q-answers, (q-clocks, tt)))))))) args' vals') (WpFn 𝓤 H 𝓣.C 𝓣.Λ code.function (val-Head h ∷ slice_val (b-numbers, o-numbers) (length numbers) ∷ slice_val (b-deques, o-deques) (length deques) ∷ slice_val (b-frames, o-frames) (length frames) ∷ slice_val (b-pool, o-pool) (length pool) ∷ slice_val (b-memory, o-memory) (length memory) ∷ slice_val (b-tape, o-tape) (length tape) ∷ slice_val (b-answers, o-answers) (length answers) ∷ slice_val (b-clocks, o-clocks) (length clocks) ∷ vint w64 i ∷ vint w64 to ∷ val-Tally t ∷ []) Post)
+    walk : (length numbers ≡ number_count) × Kept two_words (core h (totals_in numbers) deques frames pool) × (2 * (length tape / 8) ≤ length answers) × (i < to) × (to ≤ length tape / 8) × ((j : ℕ) → i + 1 ≤ j → j < to → 5 ≤ kind_at tape j) × (length clocks ≡ 2 * length frames) × ((j : ℕ) → get_or clocks j 0 ≤ i) × (t.work ≤ i) × (t.span ≤ i) × Remembers two_words (core h (totals_in numbers) deques frames pool) memory → ent 𝓤 (on_entry 𝓛 f'.signature (κ-numbers, (κ-deques, (κ-frames, (κ-pool, (κ-memory, (κ-tape, (κ-answers, (κ-clocks, tt)))))))) (q-numbers, (q-deques, (q-frames, (q-pool, (q-memory, (q-tape, (q-answers, (q-clocks, tt)))))))) args' vals') (WpFn 𝓤 H 𝓣.C 𝓣.Λ code.function (val-Head h ∷ slice_val (b-numbers, o-numbers) (length numbers) ∷ slice_val (b-deques, o-deques) (length deques) ∷ slice_val (b-frames, o-frames) (length frames) ∷ slice_val (b-pool, o-pool) (length pool) ∷ slice_val (b-memory, o-memory) (length memory) ∷ slice_val (b-tape, o-tape) (length tape) ∷ slice_val (b-answers, o-answers) (length answers) ∷ slice_val (b-clocks, o-clocks) (length clocks) ∷ vint w64 i ∷ vint w64 to ∷ val-Tally t ∷ []) Post)
     walk ok' =
         qed 𝓛 ((‵ (flft κ-numbers q-numbers) ⊛ ‵ (flft κ-deques q-deques) ⊛ ‵ (flft κ-frames q-frames) ⊛ ‵ (flft κ-pool q-pool) ⊛ ‵ (flft κ-memory q-memory) ⊛ ‵ (flft κ-tape q-tape) ⊛ ‵ (flft κ-answers q-answers) ⊛ ‵ (flft κ-clocks q-clocks) ⊛ ‵ ftrue) ∷ ‵ (owns (R-Head ∷ MutSlice (named 0) κ-numbers u32 ∷ MutSlice (named 1) κ-deques u32 ∷ MutSlice (named 2) κ-frames R-Frame ∷ MutSlice (named 3) κ-pool u32 ∷ MutSlice (named 4) κ-memory u32 ∷ ShrSlice (named 5) κ-tape u8 ∷ MutSlice (named 6) κ-answers u32 ∷ MutSlice (named 7) κ-clocks u64 ∷ usize ∷ usize ∷ R-Tally ∷ []) args' vals') ∷ []) ∵ enter ! 𝓣.C 𝓣.Λ code.function (val-Head h ∷ slice_val (b-numbers, o-numbers) (length numbers) ∷ slice_val (b-deques, o-deques) (length deques) ∷ slice_val (b-frames, o-frames) (length frames) ∷ slice_val (b-pool, o-pool) (length pool) ∷ slice_val (b-memory, o-memory) (length memory) ∷ slice_val (b-tape, o-tape) (length tape) ∷ slice_val (b-answers, o-answers) (length answers) ∷ slice_val (b-clocks, o-clocks) (length clocks) ∷ vint w64 i ∷ vint w64 to ∷ val-Tally t ∷ []) _ $
         alloc1 ! (λ l₀. alloc1 ! (λ l₁. alloc1 ! (λ l₂. alloc1 ! (λ l₃. alloc1 ! (λ l₄. alloc1 ! (λ l₅. alloc1 ! (λ l₆. alloc1 ! (λ l₇. alloc1 ! (λ l₈. alloc1 ! (λ l₉. alloc1 ! (λ l₁₀. alloc1 ! (λ l₁₁. alloc1 ! (λ l₁₂. alloc1 ! (λ l₁₃. alloc1 ! (λ l₁₄. alloc1 ! (λ l₁₅. alloc1 ! (λ l₁₆. alloc1 ! (λ l₁₇. alloc1 ! (λ l₁₈. alloc1 ! (λ l₁₉. alloc1 ! (λ l₂₀. alloc1 ! (λ l₂₁. alloc1 ! (λ l₂₂. alloc1 ! (λ l₂₃. alloc1 ! (λ l₂₄. alloc1 ! (λ l₂₅. alloc1 ! (λ l₂₆. alloc1 ! (λ l₂₇. alloc1 ! (λ l₂₈. alloc1 ! (λ l₂₉. alloc1 ! (λ l₃₀. alloc1 ! (λ l₃₁. alloc1 ! (λ l₃₂. alloc1 ! (λ l₃₃. alloc1 ! (λ l₃₄. alloc1 ! (λ l₃₅. alloc1 ! (λ l₃₆. alloc1 ! (λ l₃₇. alloc1 ! (λ l₃₈. alloc1 ! (λ l₃₉. alloc1 ! (λ l₄₀. alloc1 ! (λ l₄₁. alloc1 ! (λ l₄₂. alloc1 ! (λ l₄₃. alloc1 ! (λ l₄₄. alloc1 ! (λ l₄₅. alloc1 ! (λ l₄₆. alloc1 ! (λ l₄₇. alloc1 ! (λ l₄₈. alloc1 ! (λ l₄₉. alloc1 ! (λ l₅₀. alloc1 ! (λ l₅₁. alloc1 ! (λ l₅₂. alloc0 ! $ params1 ! $
@@ -268,13 +268,13 @@ module _ {M : Type 1} {𝓤 : Ura M} (𝓛 : Logic 𝓤) (mem : Memory → SProp
         -- _17 = timing::turns::time_data(_48, _50, _7, _52, _38, _11, _16.0)
         move ! (0 ∷ 3 ∷ 7 ∷ 1 ∷ []) $
         S-time-data.step-sgs mem run ! fm known-time-data b-clocks o-clocks n-clocks clocks-11 b-deques o-deques n-deques deques-3 b-tape o-tape n-tape tape b-answers o-answers n-answers answers-3 (i + 1) to first'.work (F.small-12 h numbers deques frames pool memory tape answers clocks i to t room-numbers.0 room-deques.0 room-frames.0 room-pool.0 room-memory.0 room-tape.0 room-answers.0 room-clocks.0 i-fits to-fits ok' p p-fits p-is r r-is last numbers-3 deques-3 frames-3 pool-3 memory-3 answers-3 last-is same-numbers-3 same-deques-3 same-frames-3 same-pool-3 same-memory-3 same-answers-3 r-6 r-6-good.1 r-6-is r-10 r-10-good.1 r-10-is first' clocks-11 first'-is same-clocks-11) to-fits (LL.owed M-Tally.the_type L-Tally.the_laws first' _ first'-good).0.1 (F.needs-13 h numbers deques frames pool memory tape answers clocks i to t room-numbers.0 room-deques.0 room-frames.0 room-pool.0 room-memory.0 room-tape.0 room-answers.0 room-clocks.0 i-fits to-fits ok' p p-fits p-is r r-is last numbers-3 deques-3 frames-3 pool-3 memory-3 answers-3 last-is same-numbers-3 same-deques-3 same-frames-3 same-pool-3 same-memory-3 same-answers-3 r-6 r-6-good.1 r-6-is r-10 r-10-good.1 r-10-is first' clocks-11 first'-is same-clocks-11) (same-clocks-11) room-clocks (same-deques-3) room-deques (same-answers-3) room-answers
-        (λ ν-0 δ-0 ν-1 δ-1 ν-2 δ-2. and_then ! (load ! (from ! (stop !)) (look ! 17 refl)) (and_then ! (load ! (from ! (stop !)) (look ! 13 refl)) (and_then ! (load ! (from ! (stop !)) (look ! 99 refl)) (and_then ! (load ! (from ! (stop !)) (look ! 9 refl)) (and_then ! (load ! (from ! (stop !)) (look ! 37 refl)) (and_then ! (load ! (from ! (stop !)) (look ! 91 refl)) (and_then ! (load ! (from ! (fld ! refl (stop !))) (look_in ! 81 (sub ! 0 refl (whole !)))) (no_more !)))))))) (λ work clocks-13 work-fits work-is same-clocks-13.
+        (λ ν-0 δ-0 ν-1 δ-1 ν-2 δ-2. and_then ! (load ! (from ! (stop !)) (look ! 17 refl)) (and_then ! (load ! (from ! (stop !)) (look ! 13 refl)) (and_then ! (load ! (from ! (stop !)) (look ! 99 refl)) (and_then ! (load ! (from ! (stop !)) (look ! 9 refl)) (and_then ! (load ! (from ! (stop !)) (look ! 37 refl)) (and_then ! (load ! (from ! (stop !)) (look ! 91 refl)) (and_then ! (load ! (from ! (fld ! refl (stop !))) (look_in ! 81 (sub ! 0 refl (whole !)))) (no_more !)))))))) (λ work clocks-13 work-fits work_is same-clocks-13.
         land ! (from ! (stop !)) (init ! 78 refl (tt, record { fits = work-fits })) $
         assigns ! (agg ! (and_then ! (load ! (from ! (fld ! refl (fld ! refl (fld ! refl (stop !))))) (look_in ! 82 (sub ! 3 refl (sub ! 0 refl (sub ! 0 refl (whole !)))))) (and_then ! (load ! (from ! (fld ! refl (fld ! refl (fld ! refl (stop !))))) (look_in ! 82 (sub ! 4 refl (sub ! 0 refl (sub ! 0 refl (whole !)))))) (and_then ! (load ! (from ! (fld ! refl (fld ! refl (stop !)))) (look_in ! 82 (sub ! 2 refl (sub ! 0 refl (whole !))))) (and_then ! (load ! (from ! (stop !)) (look ! 78 refl)) (and_then ! (load ! (from ! (fld ! refl (stop !))) (look_in ! 80 (sub ! 1 refl (whole !)))) (no_more !))))))) (from ! (stop !)) (init ! 112 refl ((LL.lawful M-Turn.the_type L-Turn.the_laws 𝓛).typed (make-Turn last.head.numbers.free_node last.head.numbers.free_place last.head.free_count work first'.span) _ (LL.owes M-Turn.the_type L-Turn.the_laws (make-Turn last.head.numbers.free_node last.head.numbers.free_place last.head.free_count work first'.span) ((refl, (LL.owed M-Numbers.the_type L-Numbers.the_laws last.head.numbers _ (LL.owed M-Head.the_type L-Head.the_laws last.head _ (LL.owed M-Ran.the_type L-Ran.the_laws last _ last-good).0).0).1.1.1.0.1), ((refl, (LL.owed M-Numbers.the_type L-Numbers.the_laws last.head.numbers _ (LL.owed M-Head.the_type L-Head.the_laws last.head _ (LL.owed M-Ran.the_type L-Ran.the_laws last _ last-good).0).0).1.1.1.1.0.1), ((refl, (LL.owed M-Head.the_type L-Head.the_laws last.head _ (LL.owed M-Ran.the_type L-Ran.the_laws last _ last-good).0).1.1.0.1), ((refl, work-fits), ((refl, (LL.owed M-Tally.the_type L-Tally.the_laws first' _ first'-good).1.0.1), tt))))))).0) $
         returns_within ! Post refl (look ! 112 refl) $ forget ! 8 refl $ forget ! 10 refl $ forget ! 12 refl $ forget ! 14 refl $ forget ! 16 refl $ forget ! 18 refl $ forget ! 20 refl $ forget ! 22 refl $ forget ! 24 refl $ forget ! 26 refl $ forget ! 28 refl $ forget ! 30 refl $ forget ! 32 refl $ forget ! 34 refl $ forget ! 36 refl $ forget ! 38 refl $ forget ! 40 refl $ forget ! 42 refl $ forget ! 44 refl $ forget ! 46 refl $ forget ! 48 refl $ forget ! 50 refl $ forget ! 52 refl $ forget ! 54 refl $ forget ! 56 refl $ forget ! 58 refl $ forget ! 60 refl $ forget ! 62 refl $ forget ! 64 refl $ forget ! 66 refl $ forget ! 68 refl $ forget ! 70 refl $ forget ! 72 refl $ forget ! 74 refl $ forget ! 76 refl $ forget ! 78 refl $ forget ! 80 refl $ forget ! 82 refl $ forget ! 84 refl $ forget ! 86 refl $ forget ! 88 refl $ forget ! 90 refl $ forget ! 92 refl $ forget ! 94 refl $ forget ! 96 refl $ forget ! 98 refl $ forget ! 100 refl $ forget ! 102 refl $ forget ! 104 refl $ forget ! 106 refl $ forget ! 108 refl $ forget ! 110 refl $ forget ! 112 refl $
         free_all ! 8 refl $
         move ! (4 ∷ 1 ∷ 5 ∷ 6 ∷ 7 ∷ 2 ∷ 3 ∷ 0 ∷ []) $
-        by ! (exits' (make-Turn last.head.numbers.free_node last.head.numbers.free_place last.head.free_count work first'.span) numbers-3 deques-3 frames-3 pool-3 memory-3 answers-3 clocks-13 (LL.owes M-Turn.the_type L-Turn.the_laws (make-Turn last.head.numbers.free_node last.head.numbers.free_place last.head.free_count work first'.span) ((refl, (LL.owed M-Numbers.the_type L-Numbers.the_laws last.head.numbers _ (LL.owed M-Head.the_type L-Head.the_laws last.head _ (LL.owed M-Ran.the_type L-Ran.the_laws last _ last-good).0).0).1.1.1.0.1), ((refl, (LL.owed M-Numbers.the_type L-Numbers.the_laws last.head.numbers _ (LL.owed M-Head.the_type L-Head.the_laws last.head _ (LL.owed M-Ran.the_type L-Ran.the_laws last _ last-good).0).0).1.1.1.1.0.1), ((refl, (LL.owed M-Head.the_type L-Head.the_laws last.head _ (LL.owed M-Ran.the_type L-Ran.the_laws last _ last-good).0).1.1.0.1), ((refl, work-fits), ((refl, (LL.owed M-Tally.the_type L-Tally.the_laws first' _ first'-good).1.0.1), tt)))))) (F.out-14 h numbers deques frames pool memory tape answers clocks i to t room-numbers.0 room-deques.0 room-frames.0 room-pool.0 room-memory.0 room-tape.0 room-answers.0 room-clocks.0 i-fits to-fits ok' p p-fits p-is r r-is last numbers-3 deques-3 frames-3 pool-3 memory-3 answers-3 last-is same-numbers-3 same-deques-3 same-frames-3 same-pool-3 same-memory-3 same-answers-3 r-6 r-6-good.1 r-6-is r-10 r-10-good.1 r-10-is first' clocks-11 first'-is same-clocks-11 work clocks-13 work-fits work-is same-clocks-13) (same-numbers-3) (same-deques-3) (same-frames-3) (same-pool-3) (same-memory-3) (same-answers-3) (same-clocks-13 ∙ same-clocks-11))))))))))))))))))))))))))))))))))))))))))))))))))))))))))))))
+        by ! (exits' (make-Turn last.head.numbers.free_node last.head.numbers.free_place last.head.free_count work first'.span) numbers-3 deques-3 frames-3 pool-3 memory-3 answers-3 clocks-13 (LL.owes M-Turn.the_type L-Turn.the_laws (make-Turn last.head.numbers.free_node last.head.numbers.free_place last.head.free_count work first'.span) ((refl, (LL.owed M-Numbers.the_type L-Numbers.the_laws last.head.numbers _ (LL.owed M-Head.the_type L-Head.the_laws last.head _ (LL.owed M-Ran.the_type L-Ran.the_laws last _ last-good).0).0).1.1.1.0.1), ((refl, (LL.owed M-Numbers.the_type L-Numbers.the_laws last.head.numbers _ (LL.owed M-Head.the_type L-Head.the_laws last.head _ (LL.owed M-Ran.the_type L-Ran.the_laws last _ last-good).0).0).1.1.1.1.0.1), ((refl, (LL.owed M-Head.the_type L-Head.the_laws last.head _ (LL.owed M-Ran.the_type L-Ran.the_laws last _ last-good).0).1.1.0.1), ((refl, work-fits), ((refl, (LL.owed M-Tally.the_type L-Tally.the_laws first' _ first'-good).1.0.1), tt)))))) (F.out-14 h numbers deques frames pool memory tape answers clocks i to t room-numbers.0 room-deques.0 room-frames.0 room-pool.0 room-memory.0 room-tape.0 room-answers.0 room-clocks.0 i-fits to-fits ok' p p-fits p-is r r-is last numbers-3 deques-3 frames-3 pool-3 memory-3 answers-3 last-is same-numbers-3 same-deques-3 same-frames-3 same-pool-3 same-memory-3 same-answers-3 r-6 r-6-good.1 r-6-is r-10 r-10-good.1 r-10-is first' clocks-11 first'-is same-clocks-11 work clocks-13 work-fits work_is same-clocks-13) (same-numbers-3) (same-deques-3) (same-frames-3) (same-pool-3) (same-memory-3) (same-answers-3) (same-clocks-13 ∙ same-clocks-11))))))))))))))))))))))))))))))))))))))))))))))))))))))))))))))
 
 module _ {M : Type 1} {𝓤 : Ura M} (𝓛 : Logic 𝓤) (mem : Memory → SProp 𝓤) (run : Routine → Fun 𝓤) (𝓣 : Tables 𝓤 𝓛.H) where
   open 𝓛 use {H}
@@ -283,7 +283,7 @@ module _ {M : Type 1} {𝓤 : Ura M} (𝓛 : Logic 𝓤) (mem : Memory → SProp
   walks known-bottom-of known-rise-of known-run-records known-time-first known-time-data = walked 𝓛 f'.ended stayed (f'.clauses 𝓛 mem run) (WpFn 𝓤 H 𝓣.C 𝓣.Λ code.function)
       (λ κs. (LL.vals M-Head.the_type L-Head.the_laws, (shr_slice_vals, (shr_slice_vals, (shr_slice_vals, (shr_slice_vals, (shr_slice_vals, (shr_slice_vals, (shr_slice_vals, (shr_slice_vals, (uint_vals w64, (uint_vals w64, (LL.vals M-Tally.the_type L-Tally.the_laws, tt)))))))))))))
       (λ κs. (LL.tells M-Head.the_type L-Head.the_laws, (mut_slice_Tells (named 0) κs.0 u32, (mut_slice_Tells (named 1) κs.1.0 u32, (mut_slice_Tells (named 2) κs.1.1.0 R-Frame, (mut_slice_Tells (named 3) κs.1.1.1.0 u32, (mut_slice_Tells (named 4) κs.1.1.1.1.0 u32, (shr_slice_Tells (named 5) κs.1.1.1.1.1.0 u8, (mut_slice_Tells (named 6) κs.1.1.1.1.1.1.0 u32, (mut_slice_Tells (named 7) κs.1.1.1.1.1.1.1.0 u64, (uint_Tells w64, (uint_Tells w64, (LL.tells M-Tally.the_type L-Tally.the_laws, tt)))))))))))))
-      (λ κs qs bounds a g are. needs 𝓤 ((length a.1.0.now ≡ numberCount) × Kept two_words (core a.0 (totalsIn a.1.0.now) a.1.1.0.now a.1.1.1.0.now a.1.1.1.1.0.now) × (2 * (length a.1.1.1.1.1.1.0.now / 8) ≤ length a.1.1.1.1.1.1.1.0.now) × (a.1.1.1.1.1.1.1.1.1.0 < a.1.1.1.1.1.1.1.1.1.1.0) × (a.1.1.1.1.1.1.1.1.1.1.0 ≤ length a.1.1.1.1.1.1.0.now / 8) × ((j : ℕ) → a.1.1.1.1.1.1.1.1.1.0 + 1 ≤ j → j < a.1.1.1.1.1.1.1.1.1.1.0 → 5 ≤ kindAt a.1.1.1.1.1.1.0.now j) × (length a.1.1.1.1.1.1.1.1.0.now ≡ 2 * length a.1.1.1.0.now) × ((j : ℕ) → get_or a.1.1.1.1.1.1.1.1.0.now j 0 ≤ a.1.1.1.1.1.1.1.1.1.0) × (a.1.1.1.1.1.1.1.1.1.1.1.0.work ≤ a.1.1.1.1.1.1.1.1.1.0) × (a.1.1.1.1.1.1.1.1.1.1.1.0.span ≤ a.1.1.1.1.1.1.1.1.1.0) × Remembers two_words (core a.0 (totalsIn a.1.0.now) a.1.1.0.now a.1.1.1.0.now a.1.1.1.1.0.now) a.1.1.1.1.1.0.now) _
+      (λ κs qs bounds a g are. needs 𝓤 ((length a.1.0.now ≡ number_count) × Kept two_words (core a.0 (totals_in a.1.0.now) a.1.1.0.now a.1.1.1.0.now a.1.1.1.1.0.now) × (2 * (length a.1.1.1.1.1.1.0.now / 8) ≤ length a.1.1.1.1.1.1.1.0.now) × (a.1.1.1.1.1.1.1.1.1.0 < a.1.1.1.1.1.1.1.1.1.1.0) × (a.1.1.1.1.1.1.1.1.1.1.0 ≤ length a.1.1.1.1.1.1.0.now / 8) × ((j : ℕ) → a.1.1.1.1.1.1.1.1.1.0 + 1 ≤ j → j < a.1.1.1.1.1.1.1.1.1.1.0 → 5 ≤ kind_at a.1.1.1.1.1.1.0.now j) × (length a.1.1.1.1.1.1.1.1.0.now ≡ 2 * length a.1.1.1.0.now) × ((j : ℕ) → get_or a.1.1.1.1.1.1.1.1.0.now j 0 ≤ a.1.1.1.1.1.1.1.1.1.0) × (a.1.1.1.1.1.1.1.1.1.1.1.0.work ≤ a.1.1.1.1.1.1.1.1.1.0) × (a.1.1.1.1.1.1.1.1.1.1.1.0.span ≤ a.1.1.1.1.1.1.1.1.1.0) × Remembers two_words (core a.0 (totals_in a.1.0.now) a.1.1.0.now a.1.1.1.0.now a.1.1.1.1.0.now) a.1.1.1.1.1.0.now) _
       (walk 𝓛 mem run κs.0 qs.0 a.1.0.ref_ptr.0 a.1.0.ref_ptr.1 a.1.0.ghost_name a.1.0.now κs.1.0 qs.1.0 a.1.1.0.ref_ptr.0 a.1.1.0.ref_ptr.1 a.1.1.0.ghost_name a.1.1.0.now κs.1.1.0 qs.1.1.0 a.1.1.1.0.ref_ptr.0 a.1.1.1.0.ref_ptr.1 a.1.1.1.0.ghost_name a.1.1.1.0.now κs.1.1.1.0 qs.1.1.1.0 a.1.1.1.1.0.ref_ptr.0 a.1.1.1.1.0.ref_ptr.1 a.1.1.1.1.0.ghost_name a.1.1.1.1.0.now κs.1.1.1.1.0 qs.1.1.1.1.0 a.1.1.1.1.1.0.ref_ptr.0 a.1.1.1.1.1.0.ref_ptr.1 a.1.1.1.1.1.0.ghost_name a.1.1.1.1.1.0.now κs.1.1.1.1.1.0 qs.1.1.1.1.1.0 a.1.1.1.1.1.1.0.ref_ptr.0 a.1.1.1.1.1.1.0.ref_ptr.1 a.1.1.1.1.1.1.0.ghost_name a.1.1.1.1.1.1.0.now κs.1.1.1.1.1.1.0 qs.1.1.1.1.1.1.0 a.1.1.1.1.1.1.1.0.ref_ptr.0 a.1.1.1.1.1.1.1.0.ref_ptr.1 a.1.1.1.1.1.1.1.0.ghost_name a.1.1.1.1.1.1.1.0.now κs.1.1.1.1.1.1.1.0 qs.1.1.1.1.1.1.1.0 a.1.1.1.1.1.1.1.1.0.ref_ptr.0 a.1.1.1.1.1.1.1.1.0.ref_ptr.1 a.1.1.1.1.1.1.1.1.0.ghost_name a.1.1.1.1.1.1.1.1.0.now a.0 are.0 a.1.1.1.1.1.1.1.1.1.0 are.1.1.1.1.1.1.1.1.1.0.1 a.1.1.1.1.1.1.1.1.1.1.0 are.1.1.1.1.1.1.1.1.1.1.0.1 a.1.1.1.1.1.1.1.1.1.1.1.0 are.1.1.1.1.1.1.1.1.1.1.1.0 are.1.0.0.1 are.1.1.0.0.1 are.1.1.1.0.0.1 are.1.1.1.1.0.0.1 are.1.1.1.1.1.0.0.1 are.1.1.1.1.1.1.0.0.1 are.1.1.1.1.1.1.1.0.0.1 are.1.1.1.1.1.1.1.1.0.0.1 𝓣 known-bottom-of known-rise-of known-run-records known-time-first known-time-data))
 
   meets : Triple 𝓤 (𝓣.C #bottom-of) (S-bottom-of.Asked 𝓛 mem run) → Triple 𝓤 (𝓣.C #rise-of) (S-rise-of.Asked 𝓛 mem run) → Triple 𝓤 (𝓣.C #run-records) (S-run-records.Asked 𝓛 mem run) → Triple 𝓤 (𝓣.C #time-first) (S-time-first.Asked 𝓛 mem run) → Triple 𝓤 (𝓣.C #time-data) (S-time-data.Asked 𝓛 mem run) → Meets 𝓛 f'.signature (WpFn 𝓤 H 𝓣.C 𝓣.Λ code.function) (f'.spec 𝓛 mem run)

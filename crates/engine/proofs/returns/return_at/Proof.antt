@@ -39,11 +39,11 @@ use denote.Triple.Statement.{Triple}
 use denote.Triple.Table.{entered, cited}
 use denote.Triple.Walked.{says, needs, Stays, stay_slice, stay_none, stay_none_slice, walk_of, Walks, ends_at, walked, Goes-slice, Goes-none, Goes-none_slice, walk_Meets}
 use borrow.Author.Rules.{scaled_Fits}
-use Rattle.frames.proofs.Lent.{at-list, Mine, Yours, ty_at, exit-unless, exit-if, leave-if, fork, skipped, regroup, matched, matched-last, const, is_true, is_false, not-not, differ, widen, less-fits, after, turn-of, take_out, put_in, put_back, look-out, look-back, free_all}
-use Rattle.soundness.specs.Numbers.{numbersIn, totalsIn, numberCount}
+use Rattle.frames.proofs.Lent.{at_list, Mine, Yours, ty_at, exit_unless, exit_if, leave_if, fork, skipped, regroup, matched, matched_last, const, is_true, is_false, not_not, differ, widen, less_fits, after, turn_of_lem, take_out, put_in, put_back, look_out, look_back, free_all}
+use Rattle.soundness.specs.Numbers.{numbers_in, totals_in, number_count}
 use Rattle.model.specs.declared.Step.TheVariants.{Return}
 use Rattle.semantics.specs.Ranges.{Ready}
-use Rattle.engine.specs.Promises.{core, Leaves, kindOn, ActsAt}
+use Rattle.engine.specs.Promises.{core, Leaves, kind_on, ActsAt}
 use Rattle.engine.proofs.Called.frame_at as S-frame-at
 use Rattle.frames.proofs.frame_at.Symbol as D-frame-at
 use Rattle.frames.proofs.frame_at.Symbol.{name as #frame-at}
@@ -126,7 +126,7 @@ module _ {M : Type 1} {𝓤 : Ura M} (𝓛 : Logic 𝓤) (mem : Memory → SProp
   n-pool = length pool
 
   abbrev args' : Head × (MutBor (List ℕ) × (MutBor (List ℕ) × (MutBor (List Frame) × (MutBor (List ℕ) × (ℕ × (ℕ × (ℕ × Unit {0})))))))
-  args' = (h, (at-list b-numbers o-numbers γ-numbers numbers, (at-list b-deques o-deques γ-deques deques, (at-list b-frames o-frames γ-frames frames, (at-list b-pool o-pool γ-pool pool, (w, (n, (p, tt))))))))
+  args' = (h, (at_list b-numbers o-numbers γ-numbers numbers, (at_list b-deques o-deques γ-deques deques, (at_list b-frames o-frames γ-frames frames, (at_list b-pool o-pool γ-pool pool, (w, (n, (p, tt))))))))
 
   abbrev vals' : Vals f'.signature (κ-numbers, (κ-deques, (κ-frames, (κ-pool, tt))))
   vals' = (val-Head h ∷ [], (slice_val (b-numbers, o-numbers) (length numbers) ∷ [], (slice_val (b-deques, o-deques) (length deques) ∷ [], (slice_val (b-frames, o-frames) (length frames) ∷ [], (slice_val (b-pool, o-pool) (length pool) ∷ [], (vint w32 w ∷ [], (vint w32 n ∷ [], (vint w32 p ∷ [], tt))))))))
@@ -137,7 +137,7 @@ module _ {M : Type 1} {𝓤 : Ura M} (𝓛 : Logic 𝓤) (mem : Memory → SProp
   abbrev Post : Val → SProp 𝓤
   Post = (walk_of 𝓛 f'.ended stayed (f'.clauses 𝓛 mem run)).post bound'
 
-  exits' : (res' : Out) (zs-numbers : List ℕ) (zs-deques : List ℕ) (zs-frames : List Frame) (zs-pool : List ℕ) → Is R-Out res' (val-Out res' ∷ []) → (numbersIn zs-numbers ≡ numbersIn numbers) × Leaves h res' (totalsIn zs-numbers) zs-deques zs-frames zs-pool (kindOn (core h (totalsIn numbers) deques frames pool) (Return w)) → length zs-numbers ≡ length numbers → length zs-deques ≡ length deques → length zs-frames ≡ length frames → length zs-pool ≡ length pool → ent 𝓤 (⋆ 𝓛 (‵ (Mine u32 κ-numbers q-numbers γ-numbers b-numbers o-numbers n-numbers zs-numbers) ∷ ‵ (Mine u32 κ-deques q-deques γ-deques b-deques o-deques n-deques zs-deques) ∷ ‵ (Mine R-Frame κ-frames q-frames γ-frames b-frames o-frames n-frames zs-frames) ∷ ‵ (Mine u32 κ-pool q-pool γ-pool b-pool o-pool n-pool zs-pool) ∷ [])) (Post (val-Out res'))
+  exits' : (res' : Out) (zs-numbers : List ℕ) (zs-deques : List ℕ) (zs-frames : List Frame) (zs-pool : List ℕ) → Is R-Out res' (val-Out res' ∷ []) → (numbers_in zs-numbers ≡ numbers_in numbers) × Leaves h res' (totals_in zs-numbers) zs-deques zs-frames zs-pool (kind_on (core h (totals_in numbers) deques frames pool) (Return w)) → length zs-numbers ≡ length numbers → length zs-deques ≡ length deques → length zs-frames ≡ length frames → length zs-pool ≡ length pool → ent 𝓤 (⋆ 𝓛 (‵ (Mine u32 κ-numbers q-numbers γ-numbers b-numbers o-numbers n-numbers zs-numbers) ∷ ‵ (Mine u32 κ-deques q-deques γ-deques b-deques o-deques n-deques zs-deques) ∷ ‵ (Mine R-Frame κ-frames q-frames γ-frames b-frames o-frames n-frames zs-frames) ∷ ‵ (Mine u32 κ-pool q-pool γ-pool b-pool o-pool n-pool zs-pool) ∷ [])) (Post (val-Out res'))
   exits' res' zs-numbers zs-deques zs-frames zs-pool good' e' same_numbers same-deques same-frames same-pool =
       qed 𝓛 (‵ (Mine u32 κ-numbers q-numbers γ-numbers b-numbers o-numbers n-numbers zs-numbers) ∷ ‵ (Mine u32 κ-deques q-deques γ-deques b-deques o-deques n-deques zs-deques) ∷ ‵ (Mine R-Frame κ-frames q-frames γ-frames b-frames o-frames n-frames zs-frames) ∷ ‵ (Mine u32 κ-pool q-pool γ-pool b-pool o-pool n-pool zs-pool) ∷ []) ∵
       suffices ! _ (ends_at 𝓛 f'.ended stayed (f'.clauses 𝓛 mem run) bound' (val-Out res') res' (tt, (zs-numbers, (zs-deques, (zs-frames, (zs-pool, (tt, (tt, (tt, tt)))))))) (tt, (same_numbers, (same-deques, (same-frames, (same-pool, (tt, (tt, (tt, tt))))))))) $ says ! e' $
@@ -149,7 +149,7 @@ module _ {M : Type 1} {𝓤 : Ura M} (𝓛 : Logic 𝓤) (mem : Memory → SProp
     abbrev fm : FmC 𝓤 H 𝓛.laws 𝓣.C
     fm = fm_of 𝓤 H 𝓛.laws 𝓣
 
-    walk : (length numbers ≡ numberCount) × Ready (core h (totalsIn numbers) deques frames pool) × ActsAt (core h (totalsIn numbers) deques frames pool) w n p → ent 𝓤 (on_entry 𝓛 f'.signature (κ-numbers, (κ-deques, (κ-frames, (κ-pool, tt)))) (q-numbers, (q-deques, (q-frames, (q-pool, tt)))) args' vals') (WpFn 𝓤 H 𝓣.C 𝓣.Λ code.function (val-Head h ∷ slice_val (b-numbers, o-numbers) (length numbers) ∷ slice_val (b-deques, o-deques) (length deques) ∷ slice_val (b-frames, o-frames) (length frames) ∷ slice_val (b-pool, o-pool) (length pool) ∷ vint w32 w ∷ vint w32 n ∷ vint w32 p ∷ []) Post)
+    walk : (length numbers ≡ number_count) × Ready (core h (totals_in numbers) deques frames pool) × ActsAt (core h (totals_in numbers) deques frames pool) w n p → ent 𝓤 (on_entry 𝓛 f'.signature (κ-numbers, (κ-deques, (κ-frames, (κ-pool, tt)))) (q-numbers, (q-deques, (q-frames, (q-pool, tt)))) args' vals') (WpFn 𝓤 H 𝓣.C 𝓣.Λ code.function (val-Head h ∷ slice_val (b-numbers, o-numbers) (length numbers) ∷ slice_val (b-deques, o-deques) (length deques) ∷ slice_val (b-frames, o-frames) (length frames) ∷ slice_val (b-pool, o-pool) (length pool) ∷ vint w32 w ∷ vint w32 n ∷ vint w32 p ∷ []) Post)
     walk ok' =
         qed 𝓛 ((‵ (flft κ-numbers q-numbers) ⊛ ‵ (flft κ-deques q-deques) ⊛ ‵ (flft κ-frames q-frames) ⊛ ‵ (flft κ-pool q-pool) ⊛ ‵ ftrue) ∷ ‵ (owns (R-Head ∷ MutSlice (named 0) κ-numbers u32 ∷ MutSlice (named 1) κ-deques u32 ∷ MutSlice (named 2) κ-frames R-Frame ∷ MutSlice (named 3) κ-pool u32 ∷ u32 ∷ u32 ∷ u32 ∷ []) args' vals') ∷ []) ∵ enter ! 𝓣.C 𝓣.Λ code.function (val-Head h ∷ slice_val (b-numbers, o-numbers) (length numbers) ∷ slice_val (b-deques, o-deques) (length deques) ∷ slice_val (b-frames, o-frames) (length frames) ∷ slice_val (b-pool, o-pool) (length pool) ∷ vint w32 w ∷ vint w32 n ∷ vint w32 p ∷ []) _ $
         alloc1 ! (λ l₀. alloc1 ! (λ l₁. alloc1 ! (λ l₂. alloc1 ! (λ l₃. alloc1 ! (λ l₄. alloc1 ! (λ l₅. alloc1 ! (λ l₆. alloc1 ! (λ l₇. alloc1 ! (λ l₈. alloc1 ! (λ l₉. alloc1 ! (λ l₁₀. alloc1 ! (λ l₁₁. alloc1 ! (λ l₁₂. alloc1 ! (λ l₁₃. alloc1 ! (λ l₁₄. alloc1 ! (λ l₁₅. alloc1 ! (λ l₁₆. alloc1 ! (λ l₁₇. alloc1 ! (λ l₁₈. alloc1 ! (λ l₁₉. alloc1 ! (λ l₂₀. alloc1 ! (λ l₂₁. alloc1 ! (λ l₂₂. alloc1 ! (λ l₂₃. alloc1 ! (λ l₂₄. alloc1 ! (λ l₂₅. alloc1 ! (λ l₂₆. alloc1 ! (λ l₂₇. alloc1 ! (λ l₂₈. alloc0 ! $ params1 ! $
@@ -164,7 +164,7 @@ module _ {M : Type 1} {𝓤 : Ura M} (𝓛 : Logic 𝓤) (mem : Memory → SProp
         (λ ν-0 δ-0. and_then ! (load ! (from ! (stop !)) (look ! 39 refl)) (and_then ! (load ! (from ! (stop !)) (look ! 45 refl)) (no_more !))) (λ f f-good f-is.
         land ! (from ! (stop !)) (init ! 42 refl ((LL.lawful M-Frame.the_type L-Frame.the_laws 𝓛).typed f _ f-good).0) $
         assigns ! (bin ! (load ! (from ! (fld ! refl (stop !))) (look_in ! 42 (sub ! 3 refl (whole !)))) (const ! _ tt) tt) (from ! (stop !)) (init ! 36 refl (tt, tt)) $
-        leave-if ! (load ! (from ! (stop !)) (look ! 36 refl))
+        leave_if ! (load ! (from ! (stop !)) (look ! 36 refl))
         (λ test-2.
         assigns ! (addr ! (from ! (fld ! refl (hop ! (look_in ! 54 (sub ! 0 refl (whole !))) (stop !))))) (from ! (stop !)) (init ! 32 refl (tt, tt)) $
         assigns ! (agg ! (and_then ! (load ! (from ! (stop !)) (look ! 32 refl)) (and_then ! (load ! (from ! (fld ! refl (stop !))) (look_in ! 54 (sub ! 1 refl (whole !)))) (no_more !)))) (from ! (stop !)) (init ! 30 refl (tt, (tt, (record { fits = room-deques.0 }, tt)))) $
@@ -188,7 +188,7 @@ module _ {M : Type 1} {𝓤 : Ura M} (𝓛 : Logic 𝓤) (mem : Memory → SProp
         assigns ! (agg ! (and_then ! (load ! (from ! (stop !)) (look ! 22 refl)) (and_then ! (load ! (from ! (fld ! refl (stop !))) (look_in ! 54 (sub ! 1 refl (whole !)))) (no_more !)))) (from ! (stop !)) (init ! 20 refl (tt, (tt, (record { fits = room-deques.0 }, tt)))) $
         -- _18 = frames::deques::pop_off(_20, _6, _7)
         move ! (2 ∷ []) $
-        S-pop-off.step mem run ! fm known-pop-off b-deques o-deques n-deques deques w n w_Fits n-fits (F.needs-6 h numbers deques frames pool w n p room-numbers.0 room-deques.0 room-frames.0 room-pool.0 w_Fits n-fits p-fits ok' f f-is (eqb→eq f.outstanding 0 (not-not (eqb f.outstanding 0) test-2))) (refl) room-deques
+        S-pop-off.step mem run ! fm known-pop-off b-deques o-deques n-deques deques w n w_Fits n-fits (F.needs-6 h numbers deques frames pool w n p room-numbers.0 room-deques.0 room-frames.0 room-pool.0 w_Fits n-fits p-fits ok' f f-is (eqb→eq f.outstanding 0 (not_not (eqb f.outstanding 0) test-2))) (refl) room-deques
         (λ ν-0 δ-0. and_then ! (load ! (from ! (stop !)) (look ! 21 refl)) (and_then ! (load ! (from ! (stop !)) (look ! 49 refl)) (and_then ! (load ! (from ! (stop !)) (look ! 47 refl)) (no_more !)))) (λ deques-6 done-6 same-deques-6.
         land ! (from ! (stop !)) (init ! 24 refl (tt, tt)) $
         assigns ! (addr ! (from ! (fld ! refl (hop ! (look_in ! 56 (sub ! 0 refl (whole !))) (stop !))))) (from ! (stop !)) (init ! 18 refl (tt, tt)) $
@@ -201,12 +201,12 @@ module _ {M : Type 1} {𝓤 : Ura M} (𝓛 : Logic 𝓤) (mem : Memory → SProp
         assigns ! (agg ! (and_then ! (load ! (from ! (stop !)) (look ! 6 refl)) (and_then ! (load ! (from ! (fld ! refl (stop !))) (look_in ! 50 (sub ! 1 refl (whole !)))) (no_more !)))) (from ! (stop !)) (init ! 4 refl (tt, (tt, (record { fits = room-pool.0 }, tt)))) $
         -- _0 = engine::returns::end_bottom(_1, _22, _24, _26, _28, _6, _7, _8)
         move ! (2 ∷ 0 ∷ 1 ∷ 3 ∷ []) $
-        S-end-bottom.step mem run ! fm known-end-bottom b-numbers o-numbers n-numbers numbers b-deques o-deques n-deques deques-6 b-frames o-frames n-frames frames b-pool o-pool n-pool pool h w n p h-good w_Fits n-fits p-fits (F.needs-7 h numbers deques frames pool w n p room-numbers.0 room-deques.0 room-frames.0 room-pool.0 w_Fits n-fits p-fits ok' f f-is (eqb→eq f.outstanding 0 (not-not (eqb f.outstanding 0) test-2)) deques-6 done-6 same-deques-6) (refl) room-numbers (same-deques-6) room-deques (refl) room-frames (refl) room-pool
+        S-end-bottom.step mem run ! fm known-end-bottom b-numbers o-numbers n-numbers numbers b-deques o-deques n-deques deques-6 b-frames o-frames n-frames frames b-pool o-pool n-pool pool h w n p h-good w_Fits n-fits p-fits (F.needs-7 h numbers deques frames pool w n p room-numbers.0 room-deques.0 room-frames.0 room-pool.0 w_Fits n-fits p-fits ok' f f-is (eqb→eq f.outstanding 0 (not_not (eqb f.outstanding 0) test-2)) deques-6 done-6 same-deques-6) (refl) room-numbers (same-deques-6) room-deques (refl) room-frames (refl) room-pool
         (λ ν-0 δ-0 ν-1 δ-1 ν-2 δ-2 ν-3 δ-3. and_then ! (load ! (from ! (stop !)) (look ! 59 refl)) (and_then ! (load ! (from ! (stop !)) (look ! 17 refl)) (and_then ! (load ! (from ! (stop !)) (look ! 13 refl)) (and_then ! (load ! (from ! (stop !)) (look ! 9 refl)) (and_then ! (load ! (from ! (stop !)) (look ! 5 refl)) (and_then ! (load ! (from ! (stop !)) (look ! 49 refl)) (and_then ! (load ! (from ! (stop !)) (look ! 47 refl)) (and_then ! (load ! (from ! (stop !)) (look ! 45 refl)) (no_more !))))))))) (λ r-7 numbers-7 deques-7 frames-7 pool-7 r-7-good r-7-is same-numbers-7 same-deques-7 same-frames-7 same-pool-7.
         land ! (from ! (stop !)) (init ! 60 refl ((LL.lawful M-Out.the_type L-Out.the_laws 𝓛).typed r-7 _ r-7-good).0) $
         returns_within ! Post refl (look ! 60 refl) $ forget ! 4 refl $ forget ! 6 refl $ forget ! 8 refl $ forget ! 10 refl $ forget ! 12 refl $ forget ! 14 refl $ forget ! 16 refl $ forget ! 18 refl $ forget ! 20 refl $ forget ! 22 refl $ forget ! 24 refl $ forget ! 36 refl $ forget ! 38 refl $ forget ! 40 refl $ forget ! 42 refl $ forget ! 44 refl $ forget ! 46 refl $ forget ! 48 refl $ forget ! 50 refl $ forget ! 52 refl $ forget ! 54 refl $ forget ! 56 refl $ forget ! 58 refl $ forget ! 60 refl $
         free_all ! 4 refl $
-        by ! (exits' r-7 numbers-7 deques-7 frames-7 pool-7 r-7-good (F.out-8 h numbers deques frames pool w n p room-numbers.0 room-deques.0 room-frames.0 room-pool.0 w_Fits n-fits p-fits ok' f f-is (eqb→eq f.outstanding 0 (not-not (eqb f.outstanding 0) test-2)) deques-6 done-6 same-deques-6 r-7 numbers-7 deques-7 frames-7 pool-7 r-7-is same-numbers-7 same-deques-7 same-frames-7 same-pool-7) (same-numbers-7) (same-deques-7 ∙ same-deques-6) (same-frames-7) (same-pool-7)))))))))))))))))))))))))))))))))))
+        by ! (exits' r-7 numbers-7 deques-7 frames-7 pool-7 r-7-good (F.out-8 h numbers deques frames pool w n p room-numbers.0 room-deques.0 room-frames.0 room-pool.0 w_Fits n-fits p-fits ok' f f-is (eqb→eq f.outstanding 0 (not_not (eqb f.outstanding 0) test-2)) deques-6 done-6 same-deques-6 r-7 numbers-7 deques-7 frames-7 pool-7 r-7-is same-numbers-7 same-deques-7 same-frames-7 same-pool-7) (same-numbers-7) (same-deques-7 ∙ same-deques-6) (same-frames-7) (same-pool-7)))))))))))))))))))))))))))))))))))
 
 module _ {M : Type 1} {𝓤 : Ura M} (𝓛 : Logic 𝓤) (mem : Memory → SProp 𝓤) (run : Routine → Fun 𝓤) (𝓣 : Tables 𝓤 𝓛.H) where
   open 𝓛 use {H}
@@ -215,7 +215,7 @@ module _ {M : Type 1} {𝓤 : Ura M} (𝓛 : Logic 𝓤) (mem : Memory → SProp
   walks known-frame-at known-wait-frame known-unchanged known-pop-off known-end-bottom = walked 𝓛 f'.ended stayed (f'.clauses 𝓛 mem run) (WpFn 𝓤 H 𝓣.C 𝓣.Λ code.function)
       (λ κs. (LL.vals M-Head.the_type L-Head.the_laws, (mut_slice_vals, (mut_slice_vals, (mut_slice_vals, (mut_slice_vals, (uint_vals w32, (uint_vals w32, (uint_vals w32, tt)))))))))
       (λ κs. (LL.tells M-Head.the_type L-Head.the_laws, (mut_slice_Tells (named 0) κs.0 u32, (mut_slice_Tells (named 1) κs.1.0 u32, (mut_slice_Tells (named 2) κs.1.1.0 R-Frame, (mut_slice_Tells (named 3) κs.1.1.1.0 u32, (uint_Tells w32, (uint_Tells w32, (uint_Tells w32, tt)))))))))
-      (λ κs qs bounds a g are. needs 𝓤 ((length a.1.0.now ≡ numberCount) × Ready (core a.0 (totalsIn a.1.0.now) a.1.1.0.now a.1.1.1.0.now a.1.1.1.1.0.now) × ActsAt (core a.0 (totalsIn a.1.0.now) a.1.1.0.now a.1.1.1.0.now a.1.1.1.1.0.now) a.1.1.1.1.1.0 a.1.1.1.1.1.1.0 a.1.1.1.1.1.1.1.0) _
+      (λ κs qs bounds a g are. needs 𝓤 ((length a.1.0.now ≡ number_count) × Ready (core a.0 (totals_in a.1.0.now) a.1.1.0.now a.1.1.1.0.now a.1.1.1.1.0.now) × ActsAt (core a.0 (totals_in a.1.0.now) a.1.1.0.now a.1.1.1.0.now a.1.1.1.1.0.now) a.1.1.1.1.1.0 a.1.1.1.1.1.1.0 a.1.1.1.1.1.1.1.0) _
       (walk 𝓛 mem run κs.0 qs.0 a.1.0.ref_ptr.0 a.1.0.ref_ptr.1 a.1.0.ghost_name a.1.0.now κs.1.0 qs.1.0 a.1.1.0.ref_ptr.0 a.1.1.0.ref_ptr.1 a.1.1.0.ghost_name a.1.1.0.now κs.1.1.0 qs.1.1.0 a.1.1.1.0.ref_ptr.0 a.1.1.1.0.ref_ptr.1 a.1.1.1.0.ghost_name a.1.1.1.0.now κs.1.1.1.0 qs.1.1.1.0 a.1.1.1.1.0.ref_ptr.0 a.1.1.1.1.0.ref_ptr.1 a.1.1.1.1.0.ghost_name a.1.1.1.1.0.now a.0 are.0 a.1.1.1.1.1.0 are.1.1.1.1.1.0.1 a.1.1.1.1.1.1.0 are.1.1.1.1.1.1.0.1 a.1.1.1.1.1.1.1.0 are.1.1.1.1.1.1.1.0.1 are.1.0.0.1 are.1.1.0.0.1 are.1.1.1.0.0.1 are.1.1.1.1.0.0.1 𝓣 known-frame-at known-wait-frame known-unchanged known-pop-off known-end-bottom))
 
   meets : Triple 𝓤 (𝓣.C #frame-at) (S-frame-at.Asked 𝓛 mem run) → Triple 𝓤 (𝓣.C #wait-frame) (S-wait-frame.Asked 𝓛 mem run) → Triple 𝓤 (𝓣.C #unchanged) (S-unchanged.Asked 𝓛 mem run) → Triple 𝓤 (𝓣.C #pop-off) (S-pop-off.Asked 𝓛 mem run) → Triple 𝓤 (𝓣.C #end-bottom) (S-end-bottom.Asked 𝓛 mem run) → Meets 𝓛 f'.signature (WpFn 𝓤 H 𝓣.C 𝓣.Λ code.function) (f'.spec 𝓛 mem run)

@@ -39,9 +39,9 @@ use denote.Triple.Statement.{Triple}
 use denote.Triple.Table.{entered, cited}
 use denote.Triple.Walked.{says, needs, Stays, stay_slice, stay_none, stay_none_slice, walk_of, Walks, ends_at, walked, Goes-slice, Goes-none, Goes-none_slice, walk_Meets}
 use borrow.Author.Rules.{scaled_Fits}
-use Rattle.frames.proofs.Lent.{at-list, Mine, Yours, ty_at, exit-unless, exit-if, leave-if, fork, skipped, regroup, matched, matched-last, const, is_true, is_false, not-not, differ, widen, less-fits, after, turn-of, take_out, put_in, put_back, look-out, look-back, free_all}
-use Rattle.memory.specs.Memory.{memoryWords}
-use Rattle.semantics.specs.Remembering.{tapeRemembering}
+use Rattle.frames.proofs.Lent.{at_list, Mine, Yours, ty_at, exit_unless, exit_if, leave_if, fork, skipped, regroup, matched, matched_last, const, is_true, is_false, not_not, differ, widen, less_fits, after, turn_of_lem, take_out, put_in, put_back, look_out, look_back, free_all}
+use Rattle.memory.specs.Memory.{memory_words}
+use Rattle.semantics.specs.Remembering.{tape_remembering}
 use Rattle.semantics.specs.Promises.{parts, Fits, IsTapeWith}
 use Rattle.soundness.specs.Layout.{two_words}
 use Rattle.engine.proofs.Called.unfit_tape as S-unfit-tape
@@ -150,7 +150,7 @@ module _ {M : Type 1} {𝓤 : Ura M} (𝓛 : Logic 𝓤) (mem : Memory → SProp
   n-answers = length answers
 
   abbrev args' : Bor (List ℕ) × (Bor (List ℕ) × (Bor (List Frame) × (Bor (List ℕ) × (Bor (List ℕ) × (Bor (List ℕ) × (Bor (List ℕ) × (Bor (List ℕ) × Unit {0})))))))
-  args' = (at-list b-numbers o-numbers γ-numbers numbers, (at-list b-deques o-deques γ-deques deques, (at-list b-frames o-frames γ-frames frames, (at-list b-memory o-memory γ-memory memory, (at-list b-pool o-pool γ-pool pool, (at-list b-work o-work γ-work work, (at-list b-bytes o-bytes γ-bytes bytes, (at-list b-answers o-answers γ-answers answers, tt))))))))
+  args' = (at_list b-numbers o-numbers γ-numbers numbers, (at_list b-deques o-deques γ-deques deques, (at_list b-frames o-frames γ-frames frames, (at_list b-memory o-memory γ-memory memory, (at_list b-pool o-pool γ-pool pool, (at_list b-work o-work γ-work work, (at_list b-bytes o-bytes γ-bytes bytes, (at_list b-answers o-answers γ-answers answers, tt))))))))
 
   abbrev vals' : Vals f'.signature (κ-numbers, (κ-deques, (κ-frames, (κ-memory, (κ-pool, (κ-work, (κ-bytes, (κ-answers, tt))))))))
   vals' = (slice_val (b-numbers, o-numbers) (length numbers) ∷ [], (slice_val (b-deques, o-deques) (length deques) ∷ [], (slice_val (b-frames, o-frames) (length frames) ∷ [], (slice_val (b-memory, o-memory) (length memory) ∷ [], (slice_val (b-pool, o-pool) (length pool) ∷ [], (slice_val (b-work, o-work) (length work) ∷ [], (slice_val (b-bytes, o-bytes) (length bytes) ∷ [], (slice_val (b-answers, o-answers) (length answers) ∷ [], tt))))))))
@@ -161,10 +161,10 @@ module _ {M : Type 1} {𝓤 : Ura M} (𝓛 : Logic 𝓤) (mem : Memory → SProp
   abbrev Post : Val → SProp 𝓤
   Post = (walk_of 𝓛 f'.ended stayed (f'.clauses 𝓛 mem run)).post bound'
 
-  exits' : (res' : Taped) (zs-numbers : List ℕ) (zs-deques : List ℕ) (zs-frames : List Frame) (zs-memory : List ℕ) (zs-pool : List ℕ) (zs-work : List ℕ) (zs-answers : List ℕ) → Is R-Taped res' (val-Taped res' ∷ []) → IsTapeWith (tapeRemembering two_words (parts numbers deques frames) memory pool work bytes answers) zs-numbers zs-deques zs-frames zs-memory zs-pool zs-work zs-answers res'.result res'.visits → length zs-numbers ≡ length numbers → length zs-deques ≡ length deques → length zs-frames ≡ length frames → length zs-memory ≡ length memory → length zs-pool ≡ length pool → length zs-work ≡ length work → length zs-answers ≡ length answers → ent 𝓤 (⋆ 𝓛 (‵ (Mine u32 κ-numbers q-numbers γ-numbers b-numbers o-numbers n-numbers zs-numbers) ∷ ‵ (Mine u32 κ-deques q-deques γ-deques b-deques o-deques n-deques zs-deques) ∷ ‵ (Mine R-Frame κ-frames q-frames γ-frames b-frames o-frames n-frames zs-frames) ∷ ‵ (Mine u32 κ-memory q-memory γ-memory b-memory o-memory n-memory zs-memory) ∷ ‵ (Mine u32 κ-pool q-pool γ-pool b-pool o-pool n-pool zs-pool) ∷ ‵ (Mine u32 κ-work q-work γ-work b-work o-work n-work zs-work) ∷ ‵ (Yours u8 κ-bytes q-bytes γ-bytes b-bytes o-bytes n-bytes bytes) ∷ ‵ (Mine u32 κ-answers q-answers γ-answers b-answers o-answers n-answers zs-answers) ∷ [])) (Post (val-Taped res'))
-  exits' res' zs-numbers zs-deques zs-frames zs-memory zs-pool zs-work zs-answers good' e' same_numbers same-deques same-frames same_memory same-pool same-work same-answers =
+  exits' : (res' : Taped) (zs-numbers : List ℕ) (zs-deques : List ℕ) (zs-frames : List Frame) (zs-memory : List ℕ) (zs-pool : List ℕ) (zs-work : List ℕ) (zs-answers : List ℕ) → Is R-Taped res' (val-Taped res' ∷ []) → IsTapeWith (tape_remembering two_words (parts numbers deques frames) memory pool work bytes answers) zs-numbers zs-deques zs-frames zs-memory zs-pool zs-work zs-answers res'.result res'.visits → length zs-numbers ≡ length numbers → length zs-deques ≡ length deques → length zs-frames ≡ length frames → length zs-memory ≡ length memory → length zs-pool ≡ length pool → length zs-work ≡ length work → length zs-answers ≡ length answers → ent 𝓤 (⋆ 𝓛 (‵ (Mine u32 κ-numbers q-numbers γ-numbers b-numbers o-numbers n-numbers zs-numbers) ∷ ‵ (Mine u32 κ-deques q-deques γ-deques b-deques o-deques n-deques zs-deques) ∷ ‵ (Mine R-Frame κ-frames q-frames γ-frames b-frames o-frames n-frames zs-frames) ∷ ‵ (Mine u32 κ-memory q-memory γ-memory b-memory o-memory n-memory zs-memory) ∷ ‵ (Mine u32 κ-pool q-pool γ-pool b-pool o-pool n-pool zs-pool) ∷ ‵ (Mine u32 κ-work q-work γ-work b-work o-work n-work zs-work) ∷ ‵ (Yours u8 κ-bytes q-bytes γ-bytes b-bytes o-bytes n-bytes bytes) ∷ ‵ (Mine u32 κ-answers q-answers γ-answers b-answers o-answers n-answers zs-answers) ∷ [])) (Post (val-Taped res'))
+  exits' res' zs-numbers zs-deques zs-frames zs-memory zs-pool zs-work zs-answers good' e' same_numbers same-deques same-frames same_memory same-pool same_work same-answers =
       qed 𝓛 (‵ (Mine u32 κ-numbers q-numbers γ-numbers b-numbers o-numbers n-numbers zs-numbers) ∷ ‵ (Mine u32 κ-deques q-deques γ-deques b-deques o-deques n-deques zs-deques) ∷ ‵ (Mine R-Frame κ-frames q-frames γ-frames b-frames o-frames n-frames zs-frames) ∷ ‵ (Mine u32 κ-memory q-memory γ-memory b-memory o-memory n-memory zs-memory) ∷ ‵ (Mine u32 κ-pool q-pool γ-pool b-pool o-pool n-pool zs-pool) ∷ ‵ (Mine u32 κ-work q-work γ-work b-work o-work n-work zs-work) ∷ ‵ (Yours u8 κ-bytes q-bytes γ-bytes b-bytes o-bytes n-bytes bytes) ∷ ‵ (Mine u32 κ-answers q-answers γ-answers b-answers o-answers n-answers zs-answers) ∷ []) ∵
-      suffices ! _ (ends_at 𝓛 f'.ended stayed (f'.clauses 𝓛 mem run) bound' (val-Taped res') res' (zs-numbers, (zs-deques, (zs-frames, (zs-memory, (zs-pool, (zs-work, (tt, (zs-answers, tt)))))))) (same_numbers, (same-deques, (same-frames, (same_memory, (same-pool, (same-work, (tt, (same-answers, tt))))))))) $ says ! e' $
+      suffices ! _ (ends_at 𝓛 f'.ended stayed (f'.clauses 𝓛 mem run) bound' (val-Taped res') res' (zs-numbers, (zs-deques, (zs-frames, (zs-memory, (zs-pool, (zs-work, (tt, (zs-answers, tt)))))))) (same_numbers, (same-deques, (same-frames, (same_memory, (same-pool, (same_work, (tt, (same-answers, tt))))))))) $ says ! e' $
       fsplit ! $ move ! (2 ∷ []) $ fsplit ! $ move ! (4 ∷ []) $ fsplit ! $ move ! (6 ∷ []) $ fsplit ! $ move ! (8 ∷ []) $ fsplit ! $ move ! (10 ∷ []) $ fsplit ! $ move ! (12 ∷ []) $ fsplit ! $ move ! (14 ∷ []) $ fsplit ! $ nothing ! $ move ! (16 ∷ 14 ∷ 12 ∷ 10 ∷ 8 ∷ 6 ∷ 4 ∷ 2 ∷ 0 ∷ []) $ group ! 9 $ frame ! $
       nothing ! $ move ! (1 ∷ 0 ∷ []) $ fjoin ! $ move ! (1 ∷ 0 ∷ []) $ fjoin ! $ move ! (1 ∷ 0 ∷ []) $ fjoin ! $ move ! (1 ∷ 0 ∷ []) $ fjoin ! $ move ! (1 ∷ 0 ∷ []) $ fjoin ! $ move ! (1 ∷ 0 ∷ []) $ fjoin ! $ move ! (1 ∷ 0 ∷ []) $ fjoin ! $ move ! (1 ∷ 0 ∷ []) $ fjoin ! $ frame ! $
       owned ! R-Taped (Is R-Taped) (LL.makes M-Taped.the_type L-Taped.the_plain 𝓛) res' _ good' $ done !
@@ -173,7 +173,7 @@ module _ {M : Type 1} {𝓤 : Ura M} (𝓛 : Logic 𝓤) (mem : Memory → SProp
     abbrev fm : FmC 𝓤 H 𝓛.laws 𝓣.C
     fm = fm_of 𝓤 H 𝓛.laws 𝓣
 
-    walk : Fits (parts numbers deques frames) × (length memory ≡ memoryWords) → ent 𝓤 (on_entry 𝓛 f'.signature (κ-numbers, (κ-deques, (κ-frames, (κ-memory, (κ-pool, (κ-work, (κ-bytes, (κ-answers, tt)))))))) (q-numbers, (q-deques, (q-frames, (q-memory, (q-pool, (q-work, (q-bytes, (q-answers, tt)))))))) args' vals') (WpFn 𝓤 H 𝓣.C 𝓣.Λ code.function (slice_val (b-numbers, o-numbers) (length numbers) ∷ slice_val (b-deques, o-deques) (length deques) ∷ slice_val (b-frames, o-frames) (length frames) ∷ slice_val (b-memory, o-memory) (length memory) ∷ slice_val (b-pool, o-pool) (length pool) ∷ slice_val (b-work, o-work) (length work) ∷ slice_val (b-bytes, o-bytes) (length bytes) ∷ slice_val (b-answers, o-answers) (length answers) ∷ []) Post)
+    walk : Fits (parts numbers deques frames) × (length memory ≡ memory_words) → ent 𝓤 (on_entry 𝓛 f'.signature (κ-numbers, (κ-deques, (κ-frames, (κ-memory, (κ-pool, (κ-work, (κ-bytes, (κ-answers, tt)))))))) (q-numbers, (q-deques, (q-frames, (q-memory, (q-pool, (q-work, (q-bytes, (q-answers, tt)))))))) args' vals') (WpFn 𝓤 H 𝓣.C 𝓣.Λ code.function (slice_val (b-numbers, o-numbers) (length numbers) ∷ slice_val (b-deques, o-deques) (length deques) ∷ slice_val (b-frames, o-frames) (length frames) ∷ slice_val (b-memory, o-memory) (length memory) ∷ slice_val (b-pool, o-pool) (length pool) ∷ slice_val (b-work, o-work) (length work) ∷ slice_val (b-bytes, o-bytes) (length bytes) ∷ slice_val (b-answers, o-answers) (length answers) ∷ []) Post)
     walk ok' =
         qed 𝓛 ((‵ (flft κ-numbers q-numbers) ⊛ ‵ (flft κ-deques q-deques) ⊛ ‵ (flft κ-frames q-frames) ⊛ ‵ (flft κ-memory q-memory) ⊛ ‵ (flft κ-pool q-pool) ⊛ ‵ (flft κ-work q-work) ⊛ ‵ (flft κ-bytes q-bytes) ⊛ ‵ (flft κ-answers q-answers) ⊛ ‵ ftrue) ∷ ‵ (owns (MutSlice (named 0) κ-numbers u32 ∷ MutSlice (named 1) κ-deques u32 ∷ MutSlice (named 2) κ-frames R-Frame ∷ MutSlice (named 3) κ-memory u32 ∷ MutSlice (named 4) κ-pool u32 ∷ MutSlice (named 5) κ-work u32 ∷ ShrSlice (named 6) κ-bytes u8 ∷ MutSlice (named 7) κ-answers u32 ∷ []) args' vals') ∷ []) ∵ enter ! 𝓣.C 𝓣.Λ code.function (slice_val (b-numbers, o-numbers) (length numbers) ∷ slice_val (b-deques, o-deques) (length deques) ∷ slice_val (b-frames, o-frames) (length frames) ∷ slice_val (b-memory, o-memory) (length memory) ∷ slice_val (b-pool, o-pool) (length pool) ∷ slice_val (b-work, o-work) (length work) ∷ slice_val (b-bytes, o-bytes) (length bytes) ∷ slice_val (b-answers, o-answers) (length answers) ∷ []) _ $
         alloc1 ! (λ l₀. alloc1 ! (λ l₁. alloc1 ! (λ l₂. alloc1 ! (λ l₃. alloc1 ! (λ l₄. alloc1 ! (λ l₅. alloc1 ! (λ l₆. alloc1 ! (λ l₇. alloc1 ! (λ l₈. alloc1 ! (λ l₉. alloc1 ! (λ l₁₀. alloc1 ! (λ l₁₁. alloc1 ! (λ l₁₂. alloc1 ! (λ l₁₃. alloc1 ! (λ l₁₄. alloc1 ! (λ l₁₅. alloc1 ! (λ l₁₆. alloc1 ! (λ l₁₇. alloc1 ! (λ l₁₈. alloc1 ! (λ l₁₉. alloc1 ! (λ l₂₀. alloc1 ! (λ l₂₁. alloc1 ! (λ l₂₂. alloc1 ! (λ l₂₃. alloc1 ! (λ l₂₄. alloc1 ! (λ l₂₅. alloc1 ! (λ l₂₆. alloc1 ! (λ l₂₇. alloc1 ! (λ l₂₈. alloc1 ! (λ l₂₉. alloc1 ! (λ l₃₀. alloc1 ! (λ l₃₁. alloc1 ! (λ l₃₂. alloc1 ! (λ l₃₃. alloc1 ! (λ l₃₄. alloc1 ! (λ l₃₅. alloc1 ! (λ l₃₆. alloc1 ! (λ l₃₇. alloc1 ! (λ l₃₈. alloc1 ! (λ l₃₉. alloc1 ! (λ l₄₀. alloc1 ! (λ l₄₁. alloc1 ! (λ l₄₂. alloc1 ! (λ l₄₃. alloc1 ! (λ l₄₄. alloc1 ! (λ l₄₅. alloc1 ! (λ l₄₆. alloc1 ! (λ l₄₇. alloc1 ! (λ l₄₈. alloc1 ! (λ l₄₉. alloc1 ! (λ l₅₀. alloc1 ! (λ l₅₁. alloc0 ! $ params1 ! $
@@ -187,7 +187,7 @@ module _ {M : Type 1} {𝓤 : Ura M} (𝓛 : Logic 𝓤) (mem : Memory → SProp
         S-unfit-tape.step-gs mem run ! fm known-unfit-tape b-bytes o-bytes n-bytes bytes b-answers o-answers n-answers answers (refl) room-answers
         (λ ν-0 δ-0. and_then ! (load ! (from ! (stop !)) (look ! 97 refl)) (and_then ! (load ! (from ! (stop !)) (look ! 81 refl)) (no_more !))) (λ r-1 r-1-is.
         land ! (from ! (stop !)) (init ! 84 refl (tt, tt)) $
-        leave-if ! (load ! (from ! (stop !)) (look ! 84 refl))
+        leave_if ! (load ! (from ! (stop !)) (look ! 84 refl))
         (λ test-2.
         assigns ! (agg ! (and_then ! (const ! _ tt) (no_more !))) (from ! (stop !)) (init ! 76 refl ((EL.lawful M-Refusal.the_type L-Refusal.the_laws 𝓛 tt).typed Refusal.Tape _ (EL.owes M-Refusal.the_type L-Refusal.the_laws Refusal.Tape tt)).0) $
         -- _16 = engine::answers::refusal_number(_17)
@@ -238,7 +238,7 @@ module _ {M : Type 1} {𝓤 : Ura M} (𝓛 : Logic 𝓤) (mem : Memory → SProp
         (and_then ! (load ! (from ! (stop !)) (look ! 91 refl)) (no_more !)) (λ refused refused-fits refused-is.
         land ! (from ! (stop !)) (init ! 88 refl (tt, record { fits = refused-fits })) $
         assigns ! (bin ! (load ! (from ! (stop !)) (look ! 88 refl)) (const ! _ tt) tt) (from ! (stop !)) (init ! 34 refl (tt, tt)) $
-        leave-if ! (load ! (from ! (stop !)) (look ! 34 refl))
+        leave_if ! (load ! (from ! (stop !)) (look ! 34 refl))
         (λ test-9.
         -- _0 = engine::tapes::taped(_11, 0)
         S-taped.step mem run ! fm known-taped refused 0 refused-fits (lit< tt)
@@ -266,8 +266,8 @@ module _ {M : Type 1} {𝓤 : Ura M} (𝓛 : Logic 𝓤) (mem : Memory → SProp
         land ! (from ! (stop !)) (init ! 8 refl (tt, record { fits = r-12-fits })) $
         -- _12 = engine::tapes::run_on(_40, _42, _44, _46, _48, _7, _50, _51)
         move ! (0 ∷ 1 ∷ 2 ∷ 4 ∷ 3 ∷ 6 ∷ 7 ∷ []) $
-        S-run-on.step-g mem run ! fm known-run-on b-numbers o-numbers n-numbers numbers b-deques o-deques n-deques deques b-frames o-frames n-frames frames b-pool o-pool n-pool pool b-memory o-memory n-memory memory b-bytes o-bytes n-bytes bytes b-answers o-answers n-answers answers r-12 r-12-fits (F.needs-13 numbers deques frames memory pool work bytes answers room-numbers.0 room-deques.0 room-frames.0 room-memory.0 room-pool.0 room-work.0 room-bytes.0 room-answers.0 ok' r-1 r-1-is (is_false r-1 test-2) found work-6 found-is same-work-6 checked checked-is refused refused-fits refused-is (eqb→eq refused 0 (not-not (eqb refused 0) test-9)) r-12 r-12-fits r-12-is) (refl) room-numbers (refl) room-deques (refl) room-frames (refl) room-pool (refl) room-memory (refl) room-answers
-        (λ ν-0 δ-0 ν-1 δ-1 ν-2 δ-2 ν-3 δ-3 ν-4 δ-4 ν-5 δ-5. and_then ! (load ! (from ! (stop !)) (look ! 31 refl)) (and_then ! (load ! (from ! (stop !)) (look ! 27 refl)) (and_then ! (load ! (from ! (stop !)) (look ! 23 refl)) (and_then ! (load ! (from ! (stop !)) (look ! 19 refl)) (and_then ! (load ! (from ! (stop !)) (look ! 15 refl)) (and_then ! (load ! (from ! (stop !)) (look ! 97 refl)) (and_then ! (load ! (from ! (stop !)) (look ! 11 refl)) (and_then ! (load ! (from ! (stop !)) (look ! 9 refl)) (no_more !))))))))) (λ visits numbers-13 deques-13 frames-13 pool-13 memory-13 answers-13 visits-fits visits-is same-numbers-13 same-deques-13 same-frames-13 same-pool-13 same-memory-13 same-answers-13.
+        S-run-on.step-g mem run ! fm known-run-on b-numbers o-numbers n-numbers numbers b-deques o-deques n-deques deques b-frames o-frames n-frames frames b-pool o-pool n-pool pool b-memory o-memory n-memory memory b-bytes o-bytes n-bytes bytes b-answers o-answers n-answers answers r-12 r-12-fits (F.needs-13 numbers deques frames memory pool work bytes answers room-numbers.0 room-deques.0 room-frames.0 room-memory.0 room-pool.0 room-work.0 room-bytes.0 room-answers.0 ok' r-1 r-1-is (is_false r-1 test-2) found work-6 found-is same-work-6 checked checked-is refused refused-fits refused-is (eqb→eq refused 0 (not_not (eqb refused 0) test-9)) r-12 r-12-fits r-12-is) (refl) room-numbers (refl) room-deques (refl) room-frames (refl) room-pool (refl) room-memory (refl) room-answers
+        (λ ν-0 δ-0 ν-1 δ-1 ν-2 δ-2 ν-3 δ-3 ν-4 δ-4 ν-5 δ-5. and_then ! (load ! (from ! (stop !)) (look ! 31 refl)) (and_then ! (load ! (from ! (stop !)) (look ! 27 refl)) (and_then ! (load ! (from ! (stop !)) (look ! 23 refl)) (and_then ! (load ! (from ! (stop !)) (look ! 19 refl)) (and_then ! (load ! (from ! (stop !)) (look ! 15 refl)) (and_then ! (load ! (from ! (stop !)) (look ! 97 refl)) (and_then ! (load ! (from ! (stop !)) (look ! 11 refl)) (and_then ! (load ! (from ! (stop !)) (look ! 9 refl)) (no_more !))))))))) (λ visits numbers-13 deques-13 frames-13 pool-13 memory-13 answers-13 visits-fits visits_is same-numbers-13 same-deques-13 same-frames-13 same-pool-13 same-memory-13 same-answers-13.
         land ! (from ! (stop !)) (init ! 86 refl (tt, record { fits = visits-fits })) $
         -- _0 = engine::tapes::taped(0, _12)
         S-taped.step mem run ! fm known-taped 0 visits (lit< tt) visits-fits
@@ -276,7 +276,7 @@ module _ {M : Type 1} {𝓤 : Ura M} (𝓛 : Logic 𝓤) (mem : Memory → SProp
         returns_within ! Post refl (look ! 110 refl) $ forget ! 8 refl $ forget ! 10 refl $ forget ! 12 refl $ forget ! 14 refl $ forget ! 16 refl $ forget ! 18 refl $ forget ! 20 refl $ forget ! 22 refl $ forget ! 24 refl $ forget ! 26 refl $ forget ! 28 refl $ forget ! 30 refl $ forget ! 32 refl $ forget ! 34 refl $ forget ! 36 refl $ forget ! 38 refl $ forget ! 40 refl $ forget ! 42 refl $ forget ! 44 refl $ forget ! 46 refl $ forget ! 48 refl $ forget ! 50 refl $ forget ! 52 refl $ forget ! 54 refl $ forget ! 56 refl $ forget ! 58 refl $ forget ! 60 refl $ forget ! 62 refl $ forget ! 64 refl $ forget ! 66 refl $ forget ! 68 refl $ forget ! 70 refl $ forget ! 72 refl $ forget ! 74 refl $ forget ! 80 refl $ forget ! 82 refl $ forget ! 84 refl $ forget ! 86 refl $ forget ! 88 refl $ forget ! 90 refl $ forget ! 92 refl $ forget ! 94 refl $ forget ! 96 refl $ forget ! 98 refl $ forget ! 100 refl $ forget ! 102 refl $ forget ! 104 refl $ forget ! 106 refl $ forget ! 108 refl $ forget ! 110 refl $
         free_all ! 8 refl $
         move ! (0 ∷ 1 ∷ 2 ∷ 4 ∷ 3 ∷ 7 ∷ 5 ∷ 6 ∷ []) $
-        by ! (exits' r-14 numbers-13 deques-13 frames-13 memory-13 pool-13 work-6 answers-13 r-14-good (F.out-15 numbers deques frames memory pool work bytes answers room-numbers.0 room-deques.0 room-frames.0 room-memory.0 room-pool.0 room-work.0 room-bytes.0 room-answers.0 ok' r-1 r-1-is (is_false r-1 test-2) found work-6 found-is same-work-6 checked checked-is refused refused-fits refused-is (eqb→eq refused 0 (not-not (eqb refused 0) test-9)) r-12 r-12-fits r-12-is visits numbers-13 deques-13 frames-13 pool-13 memory-13 answers-13 visits-fits visits-is same-numbers-13 same-deques-13 same-frames-13 same-pool-13 same-memory-13 same-answers-13 r-14 r-14-is) (same-numbers-13) (same-deques-13) (same-frames-13) (same-memory-13) (same-pool-13) (same-work-6) (same-answers-13)))))))))))))))))))))))))))))))))))))))))))))))))))))))))))))))
+        by ! (exits' r-14 numbers-13 deques-13 frames-13 memory-13 pool-13 work-6 answers-13 r-14-good (F.out-15 numbers deques frames memory pool work bytes answers room-numbers.0 room-deques.0 room-frames.0 room-memory.0 room-pool.0 room-work.0 room-bytes.0 room-answers.0 ok' r-1 r-1-is (is_false r-1 test-2) found work-6 found-is same-work-6 checked checked-is refused refused-fits refused-is (eqb→eq refused 0 (not_not (eqb refused 0) test-9)) r-12 r-12-fits r-12-is visits numbers-13 deques-13 frames-13 pool-13 memory-13 answers-13 visits-fits visits_is same-numbers-13 same-deques-13 same-frames-13 same-pool-13 same-memory-13 same-answers-13 r-14 r-14-is) (same-numbers-13) (same-deques-13) (same-frames-13) (same-memory-13) (same-pool-13) (same-work-6) (same-answers-13)))))))))))))))))))))))))))))))))))))))))))))))))))))))))))))))
 
 module _ {M : Type 1} {𝓤 : Ura M} (𝓛 : Logic 𝓤) (mem : Memory → SProp 𝓤) (run : Routine → Fun 𝓤) (𝓣 : Tables 𝓤 𝓛.H) where
   open 𝓛 use {H}
@@ -285,7 +285,7 @@ module _ {M : Type 1} {𝓤 : Ura M} (𝓛 : Logic 𝓤) (mem : Memory → SProp
   walks known-unfit-tape known-refusal-number known-taped known-check-parts known-check-leaves known-check-number known-free-in known-run-on = walked 𝓛 f'.ended stayed (f'.clauses 𝓛 mem run) (WpFn 𝓤 H 𝓣.C 𝓣.Λ code.function)
       (λ κs. (shr_slice_vals, (shr_slice_vals, (shr_slice_vals, (shr_slice_vals, (shr_slice_vals, (shr_slice_vals, (shr_slice_vals, (shr_slice_vals, tt)))))))))
       (λ κs. (mut_slice_Tells (named 0) κs.0 u32, (mut_slice_Tells (named 1) κs.1.0 u32, (mut_slice_Tells (named 2) κs.1.1.0 R-Frame, (mut_slice_Tells (named 3) κs.1.1.1.0 u32, (mut_slice_Tells (named 4) κs.1.1.1.1.0 u32, (mut_slice_Tells (named 5) κs.1.1.1.1.1.0 u32, (shr_slice_Tells (named 6) κs.1.1.1.1.1.1.0 u8, (mut_slice_Tells (named 7) κs.1.1.1.1.1.1.1.0 u32, tt)))))))))
-      (λ κs qs bounds a g are. needs 𝓤 (Fits (parts a.0.now a.1.0.now a.1.1.0.now) × (length a.1.1.1.0.now ≡ memoryWords)) _
+      (λ κs qs bounds a g are. needs 𝓤 (Fits (parts a.0.now a.1.0.now a.1.1.0.now) × (length a.1.1.1.0.now ≡ memory_words)) _
       (walk 𝓛 mem run κs.0 qs.0 a.0.ref_ptr.0 a.0.ref_ptr.1 a.0.ghost_name a.0.now κs.1.0 qs.1.0 a.1.0.ref_ptr.0 a.1.0.ref_ptr.1 a.1.0.ghost_name a.1.0.now κs.1.1.0 qs.1.1.0 a.1.1.0.ref_ptr.0 a.1.1.0.ref_ptr.1 a.1.1.0.ghost_name a.1.1.0.now κs.1.1.1.0 qs.1.1.1.0 a.1.1.1.0.ref_ptr.0 a.1.1.1.0.ref_ptr.1 a.1.1.1.0.ghost_name a.1.1.1.0.now κs.1.1.1.1.0 qs.1.1.1.1.0 a.1.1.1.1.0.ref_ptr.0 a.1.1.1.1.0.ref_ptr.1 a.1.1.1.1.0.ghost_name a.1.1.1.1.0.now κs.1.1.1.1.1.0 qs.1.1.1.1.1.0 a.1.1.1.1.1.0.ref_ptr.0 a.1.1.1.1.1.0.ref_ptr.1 a.1.1.1.1.1.0.ghost_name a.1.1.1.1.1.0.now κs.1.1.1.1.1.1.0 qs.1.1.1.1.1.1.0 a.1.1.1.1.1.1.0.ref_ptr.0 a.1.1.1.1.1.1.0.ref_ptr.1 a.1.1.1.1.1.1.0.ghost_name a.1.1.1.1.1.1.0.now κs.1.1.1.1.1.1.1.0 qs.1.1.1.1.1.1.1.0 a.1.1.1.1.1.1.1.0.ref_ptr.0 a.1.1.1.1.1.1.1.0.ref_ptr.1 a.1.1.1.1.1.1.1.0.ghost_name a.1.1.1.1.1.1.1.0.now are.0.0.1 are.1.0.0.1 are.1.1.0.0.1 are.1.1.1.0.0.1 are.1.1.1.1.0.0.1 are.1.1.1.1.1.0.0.1 are.1.1.1.1.1.1.0.0.1 are.1.1.1.1.1.1.1.0.0.1 𝓣 known-unfit-tape known-refusal-number known-taped known-check-parts known-check-leaves known-check-number known-free-in known-run-on))
 
   meets : Triple 𝓤 (𝓣.C #unfit-tape) (S-unfit-tape.Asked 𝓛 mem run) → Triple 𝓤 (𝓣.C #refusal-number) (S-refusal-number.Asked 𝓛 mem run) → Triple 𝓤 (𝓣.C #taped) (S-taped.Asked 𝓛 mem run) → Triple 𝓤 (𝓣.C #check-parts) (S-check-parts.Asked 𝓛 mem run) → Triple 𝓤 (𝓣.C #check-leaves) (S-check-leaves.Asked 𝓛 mem run) → Triple 𝓤 (𝓣.C #check-number) (S-check-number.Asked 𝓛 mem run) → Triple 𝓤 (𝓣.C #free-in) (S-free-in.Asked 𝓛 mem run) → Triple 𝓤 (𝓣.C #run-on) (S-run-on.Asked 𝓛 mem run) → Meets 𝓛 f'.signature (WpFn 𝓤 H 𝓣.C 𝓣.Λ code.function) (f'.spec 𝓛 mem run)

@@ -3,18 +3,18 @@ use mathlib.Core.Path.{◌≡◌, refl}
 use Prim.Native.Nat.{◌≤◌, ◌-◌}
 use native.Mathlib.Omega.{arith}
 use Rattle.words.specs.Basics.{all}
-use Rattle.frames.specs.Widths.{dequePlaces}
-use Rattle.frame_check.specs.Algorithm.{zeroPast}
-use Rattle.frame_check.proofs.Laws.{at-end, past-turn}
+use Rattle.frames.specs.Widths.{deque_places}
+use Rattle.frame_check.specs.Algorithm.{zero_past}
+use Rattle.frame_check.proofs.Laws.{at_end, past_turn}
 use borrow.Author.Rules.{rules}
 use Rattle.frame_check.proofs.deques.all_zero.Statement.{statement}
 use Rattle.frame_check.proofs.deques.all_zero.Tie as tie
 
 abbrev invariant-loop : tie.invariant-loop
-invariant-loop deques w sound₀ k₀ sound k = (sound ≡ all k (zeroPast deques w 0)) × (k ≤ dequePlaces)
+invariant-loop deques w sound₀ k₀ sound k = (sound ≡ all k (zero_past deques w 0)) × (k ≤ deque_places)
 
 abbrev decreases-loop : tie.decreases-loop
-decreases-loop deques w sound₀ k₀ sound k = dequePlaces - k
+decreases-loop deques w sound₀ k₀ sound k = deque_places - k
 
 abbrev start_of : tie.At-loop invariant-loop decreases-loop → tie.Start invariant-loop decreases-loop
 start_of c = c.before.before
@@ -35,13 +35,13 @@ loop-again : tie.Need-loop-preserved invariant-loop decreases-loop
 loop-again c =
     let l = c.before.before in
     let a = (start_of l).args in
-    (past-turn a.deques.now a.w 0 l.loop.k (omega arith) l.loop.invariant.0 (rw c.place_at.ensures), omega arith)
+    (past_turn a.deques.now a.w 0 l.loop.k (omega arith) l.loop.invariant.0 (rw c.place_at.ensures), omega arith)
 
 returns : tie.Need-returns invariant-loop decreases-loop
 returns c =
     let l = c.before in
     let a = (start_of l).args in
-    at-end (λ k. all k (zeroPast a.deques.now a.w 0)) l.loop.invariant.1 c.loop-test.false l.loop.invariant.0
+    at_end (λ k. all k (zero_past a.deques.now a.w 0)) l.loop.invariant.1 c.loop-test.false l.loop.invariant.0
 
 pub all-zero-spec : {M : Type 1} → statement M
 all-zero-spec =

@@ -1,4 +1,4 @@
-use Rattle.frame_check.proofs.Laws.{fits-over, fits-within}
+use Rattle.frame_check.proofs.Laws.{fits_over, fits_within}
 use borrow.Author.Rules.{rules}
 use Rattle.frame_check.proofs.deques.deque_fits.Statement.{statement}
 use Rattle.frame_check.proofs.deques.deque_fits.Tie as tie
@@ -13,7 +13,7 @@ returns : tie.Need-returns
 returns c =
     let s = c.before in
     let a = (start_of s).args in
-    fits-over a.workers a.places a.deques.now a.w s.size-at.ensures c.if1.true
+    fits_over a.workers a.places a.deques.now a.w s.size-at.ensures c.if1.true
 
 rest-zero-requires : tie.Need-rest-zero-requires
 rest-zero-requires c κs = search rules
@@ -23,7 +23,7 @@ returns-2 c =
     let t = c.before in
     let s = t.before in
     let a = (start_of s).args in
-    fits-within a.workers a.places a.deques.now a.w s.size-at.ensures t.if1.false c.rest-zero.ensures
+    fits_within a.workers a.places a.deques.now a.w s.size-at.ensures t.if1.false c.rest-zero.ensures
 
 pub deque-fits-spec : {M : Type 1} → statement M
 deque-fits-spec = tie.close (tie.spec size-at-requires returns rest-zero-requires returns-2)

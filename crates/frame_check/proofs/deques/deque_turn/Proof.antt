@@ -19,7 +19,7 @@ in-deque-requires c κs = search rules
 
 returns : tie.Need-returns
 returns c =
-    rw (c.in-deque.ensures, c.before.size-at.ensures, c.before.before.place-at2.ensures, c.before.before.before.sub.ensures, c.before.before.before.before.place_at.ensures)
+    rw (c.in_deque_lem.ensures, c.before.size-at.ensures, c.before.before.place-at2.ensures, c.before.before.before.sub.ensures, c.before.before.before.before.place_at.ensures)
 
 pub deque-turn-spec : {M : Type 1} → statement M
 deque-turn-spec = tie.close (tie.spec place-at-requires sub-requires place-at-requires-2 size-at-requires in-deque-requires returns)

@@ -45,11 +45,11 @@ use denote.Triple.Statement.{Triple}
 use denote.Triple.Table.{entered, cited}
 use denote.Triple.Walked.{says, needs, Stays, stay_slice, stay_none, stay_none_slice, walk_of, Walks, ends_at, walked, Goes-slice, Goes-none, Goes-none_slice, walk_Meets}
 use borrow.Author.Rules.{scaled_Fits}
-use Rattle.frames.proofs.Lent.{at-list, Mine, Yours, ty_at, exit-unless, exit-if, leave-if, fork, skipped, regroup, matched, matched-last, const, is_true, is_false, not-not, differ, widen, less-fits, after, turn-of, take_out, put_in, put_back, look-out, look-back, free_all}
+use Rattle.frames.proofs.Lent.{at_list, Mine, Yours, ty_at, exit_unless, exit_if, leave_if, fork, skipped, regroup, matched, matched_last, const, is_true, is_false, not_not, differ, widen, less_fits, after, turn_of_lem, take_out, put_in, put_back, look_out, look_back, free_all}
 use mathlib.Core.Bool.{◌&&◌}
-use Rattle.frames.specs.Widths.{maxWorkers, dequePlaces, dequeWords}
+use Rattle.frames.specs.Widths.{max_workers, deque_places, deque_words}
 use Rattle.frames.specs.Deques.{size}
-use Rattle.frame_check.specs.Algorithm.{tallyDeque, dequeSound}
+use Rattle.frame_check.specs.Algorithm.{tally_deque, deque_sound}
 use Rattle.frame_check.proofs.Called.size_at as S-size-at
 use Rattle.frames.proofs.size_at.Symbol as D-size-at
 use Rattle.frames.proofs.size_at.Symbol.{name as #size-at}
@@ -59,17 +59,17 @@ use Rattle.frame_check.proofs.deques.tally_place.Symbol as D-tally-place
 use Rattle.frame_check.proofs.deques.tally_place.Symbol.{name as #tally-place}
 use Rattle.frame_check.proofs.deques.tally_place.Met as T-tally-place
 use Rattle.frames.specs.Deques.{place}
-use Rattle.frame_check.specs.Algorithm.{dequeStep, bump}
+use Rattle.frame_check.specs.Algorithm.{deque_step, bump}
 use Rattle.frame_check.proofs.Called.frame_or_zero as S-frame-or-zero
 use Rattle.frames.proofs.frame_or_zero.Symbol as D-frame-or-zero
 use Rattle.frames.proofs.frame_or_zero.Symbol.{name as #frame-or-zero}
 use Rattle.frames.proofs.frame_or_zero.Met as T-frame-or-zero
-use Rattle.frames.specs.Frames.{frameAt}
+use Rattle.frames.specs.Frames.{frame_at}
 use Rattle.frame_check.proofs.Called.deque_turn as S-deque-turn
 use Rattle.frame_check.proofs.deques.deque_turn.Symbol as D-deque-turn
 use Rattle.frame_check.proofs.deques.deque_turn.Symbol.{name as #deque-turn}
 use Rattle.frame_check.proofs.deques.deque_turn.Met as T-deque-turn
-use Rattle.frame_check.specs.Algorithm.{inDeque}
+use Rattle.frame_check.specs.Algorithm.{in_deque}
 use Rattle.frame_check.specs.contracts.deques.tally_deque.Key.{name as #own}
 use Rattle.frame_check.specs.contracts.deques.tally_deque as f'
 use Rattle.frame_check.proofs.deques.tally_deque.Statement as stated
@@ -93,13 +93,13 @@ ty' i = ty_at (code.function).locals i
 
 -- the loop's body, and what runs after the loop
 abbrev turned' : Code
-turned' = turn-of (after 3 (code.function).body)
+turned' = turn_of_lem (after 3 (code.function).body)
 
 abbrev rest' : Code
 rest' = after 4 (code.function).body
 
 -- where a turn of the loop begins
-record State' (before : Bool) (tallies : List ℕ) (deques : List ℕ) (frames : List Frame) (places : ℕ) (w : ℕ) (tallies-fits : length tallies < 2 ^ 64) (deques-fits : length deques < 2 ^ 64) (frames-fits : length frames < 2 ^ 64) (places-fits : places < 2 ^ 32) (w_Fits : w < 2 ^ 32) (ok : (length deques ≡ dequeWords) × (places ≡ length frames) × (w < maxWorkers) × (size deques w ≤ dequePlaces)) (n : ℕ) (n-fits : n < 2 ^ 32) (n-is : n ≡ size deques w) : Type 0 where
+record State' (before : Bool) (tallies : List ℕ) (deques : List ℕ) (frames : List Frame) (places : ℕ) (w : ℕ) (tallies-fits : length tallies < 2 ^ 64) (deques-fits : length deques < 2 ^ 64) (frames-fits : length frames < 2 ^ 64) (places-fits : places < 2 ^ 32) (w_Fits : w < 2 ^ 32) (ok : (length deques ≡ deque_words) × (places ≡ length frames) × (w < max_workers) × (size deques w ≤ deque_places)) (n : ℕ) (n-fits : n < 2 ^ 32) (n-is : n ≡ size deques w) : Type 0 where
   v-sound : Bool
   v-k : ℕ
   g-k : v-k < 2 ^ 32
@@ -121,7 +121,7 @@ module _ {M : Type 1} {𝓤 : Ura M} (𝓛 : Logic 𝓤) (mem : Memory → SProp
   n-frames = length frames
 
   abbrev args' : Bool × (Bor (List ℕ) × (Bor (List ℕ) × (Bor (List Frame) × (ℕ × (ℕ × Unit {0})))))
-  args' = (before, (at-list b-tallies o-tallies γ-tallies tallies, (at-list b-deques o-deques γ-deques deques, (at-list b-frames o-frames γ-frames frames, (places, (w, tt))))))
+  args' = (before, (at_list b-tallies o-tallies γ-tallies tallies, (at_list b-deques o-deques γ-deques deques, (at_list b-frames o-frames γ-frames frames, (places, (w, tt))))))
 
   abbrev vals' : Vals f'.signature (κ-tallies, (κ-deques, (κ-frames, tt)))
   vals' = (vbool before ∷ [], (slice_val (b-tallies, o-tallies) (length tallies) ∷ [], (slice_val (b-deques, o-deques) (length deques) ∷ [], (slice_val (b-frames, o-frames) (length frames) ∷ [], (vint w32 places ∷ [], (vint w32 w ∷ [], tt))))))
@@ -132,7 +132,7 @@ module _ {M : Type 1} {𝓤 : Ura M} (𝓛 : Logic 𝓤) (mem : Memory → SProp
   abbrev Post : Val → SProp 𝓤
   Post = (walk_of 𝓛 f'.ended stayed (f'.clauses 𝓛 mem run)).post bound'
 
-  exits' : (res' : Bool) (zs-tallies : List ℕ) → (zs-tallies ≡ tallyDeque deques w tallies) × (res' ≡ (before && dequeSound deques frames w)) → length zs-tallies ≡ length tallies → ent 𝓤 (⋆ 𝓛 (‵ (Mine u32 κ-tallies q-tallies γ-tallies b-tallies o-tallies n-tallies zs-tallies) ∷ ‵ (Yours u32 κ-deques q-deques γ-deques b-deques o-deques n-deques deques) ∷ ‵ (Yours R-Frame κ-frames q-frames γ-frames b-frames o-frames n-frames frames) ∷ [])) (Post (vbool res'))
+  exits' : (res' : Bool) (zs-tallies : List ℕ) → (zs-tallies ≡ tally_deque deques w tallies) × (res' ≡ (before && deque_sound deques frames w)) → length zs-tallies ≡ length tallies → ent 𝓤 (⋆ 𝓛 (‵ (Mine u32 κ-tallies q-tallies γ-tallies b-tallies o-tallies n-tallies zs-tallies) ∷ ‵ (Yours u32 κ-deques q-deques γ-deques b-deques o-deques n-deques deques) ∷ ‵ (Yours R-Frame κ-frames q-frames γ-frames b-frames o-frames n-frames frames) ∷ [])) (Post (vbool res'))
   exits' res' zs-tallies e' same-tallies =
       qed 𝓛 (‵ (Mine u32 κ-tallies q-tallies γ-tallies b-tallies o-tallies n-tallies zs-tallies) ∷ ‵ (Yours u32 κ-deques q-deques γ-deques b-deques o-deques n-deques deques) ∷ ‵ (Yours R-Frame κ-frames q-frames γ-frames b-frames o-frames n-frames frames) ∷ []) ∵
       suffices ! _ (ends_at 𝓛 f'.ended stayed (f'.clauses 𝓛 mem run) bound' (vbool res') res' (tt, (zs-tallies, (tt, (tt, (tt, (tt, tt)))))) (tt, (same-tallies, (tt, (tt, (tt, (tt, tt))))))) $ says ! e' $
@@ -144,7 +144,7 @@ module _ {M : Type 1} {𝓤 : Ura M} (𝓛 : Logic 𝓤) (mem : Memory → SProp
     abbrev fm : FmC 𝓤 H 𝓛.laws 𝓣.C
     fm = fm_of 𝓤 H 𝓛.laws 𝓣
 
-    module _ (ok' : (length deques ≡ dequeWords) × (places ≡ length frames) × (w < maxWorkers) × (size deques w ≤ dequePlaces)) (n : ℕ) (n-fits : n < 2 ^ 32) (n-is : n ≡ size deques w) (l₀ l₁ l₂ l₃ l₄ l₅ l₆ l₇ l₈ l₉ l₁₀ l₁₁ l₁₂ l₁₃ l₁₄ : ℕ) where
+    module _ (ok' : (length deques ≡ deque_words) × (places ≡ length frames) × (w < max_workers) × (size deques w ≤ deque_places)) (n : ℕ) (n-fits : n < 2 ^ 32) (n-is : n ≡ size deques w) (l₀ l₁ l₂ l₃ l₄ l₅ l₆ l₇ l₈ l₉ l₁₀ l₁₁ l₁₂ l₁₃ l₁₄ : ℕ) where
       abbrev S' : Type 0
       S' = State' before tallies deques frames places w room-tallies.0 room-deques.0 room-frames.0 places-fits w_Fits ok' n n-fits n-is
 
@@ -169,7 +169,7 @@ module _ {M : Type 1} {𝓤 : Ura M} (𝓛 : Logic 𝓤) (mem : Memory → SProp
         unfolding after_turn
         turn' =
             assigns ! (bin ! (load ! (from ! (stop !)) (look ! 13 refl)) (load ! (from ! (stop !)) (look ! 17 refl)) tt) (from ! (stop !)) (init ! 7 refl (tt, tt)) $
-            exit-unless ! (load ! (from ! (stop !)) (look ! 7 refl))
+            exit_unless ! (load ! (from ! (stop !)) (look ! 7 refl))
             (λ test-4.
             exec ! 𝓣.C 𝓣.Λ En' rest' (at_ret En' Post) $
             assigns ! (of_opd ! (load ! (from ! (stop !)) (look ! 15 refl))) (from ! (stop !)) (init ! 31 refl (tt, tt)) $
@@ -202,7 +202,7 @@ module _ {M : Type 1} {𝓤 : Ura M} (𝓛 : Logic 𝓤) (mem : Memory → SProp
       unfolding after_turn
       loop' = loops ! 𝓣 Less' less_wf Inv' (λ s'. turn' s'.v-sound s'.v-k s'.l-tallies s'.g-k s'.s-tallies s'.holds) (record { v-sound = before; v-k = 0; g-k = (lit< tt); l-tallies = tallies; s-tallies = refl; holds = (F.begins before tallies deques frames places w room-tallies.0 room-deques.0 room-frames.0 places-fits w_Fits ok' n n-fits n-is) })
 
-    walk : (length deques ≡ dequeWords) × (places ≡ length frames) × (w < maxWorkers) × (size deques w ≤ dequePlaces) → ent 𝓤 (on_entry 𝓛 f'.signature (κ-tallies, (κ-deques, (κ-frames, tt))) (q-tallies, (q-deques, (q-frames, tt))) args' vals') (WpFn 𝓤 H 𝓣.C 𝓣.Λ code.function (vbool before ∷ slice_val (b-tallies, o-tallies) (length tallies) ∷ slice_val (b-deques, o-deques) (length deques) ∷ slice_val (b-frames, o-frames) (length frames) ∷ vint w32 places ∷ vint w32 w ∷ []) Post)
+    walk : (length deques ≡ deque_words) × (places ≡ length frames) × (w < max_workers) × (size deques w ≤ deque_places) → ent 𝓤 (on_entry 𝓛 f'.signature (κ-tallies, (κ-deques, (κ-frames, tt))) (q-tallies, (q-deques, (q-frames, tt))) args' vals') (WpFn 𝓤 H 𝓣.C 𝓣.Λ code.function (vbool before ∷ slice_val (b-tallies, o-tallies) (length tallies) ∷ slice_val (b-deques, o-deques) (length deques) ∷ slice_val (b-frames, o-frames) (length frames) ∷ vint w32 places ∷ vint w32 w ∷ []) Post)
     walk ok' =
         qed 𝓛 ((‵ (flft κ-tallies q-tallies) ⊛ ‵ (flft κ-deques q-deques) ⊛ ‵ (flft κ-frames q-frames) ⊛ ‵ ftrue) ∷ ‵ (owns (bool ∷ MutSlice (named 0) κ-tallies u32 ∷ ShrSlice (named 1) κ-deques u32 ∷ ShrSlice (named 2) κ-frames R-Frame ∷ u32 ∷ u32 ∷ []) args' vals') ∷ []) ∵ enter ! 𝓣.C 𝓣.Λ code.function (vbool before ∷ slice_val (b-tallies, o-tallies) (length tallies) ∷ slice_val (b-deques, o-deques) (length deques) ∷ slice_val (b-frames, o-frames) (length frames) ∷ vint w32 places ∷ vint w32 w ∷ []) _ $
         alloc1 ! (λ l₀. alloc1 ! (λ l₁. alloc1 ! (λ l₂. alloc1 ! (λ l₃. alloc1 ! (λ l₄. alloc1 ! (λ l₅. alloc1 ! (λ l₆. alloc1 ! (λ l₇. alloc1 ! (λ l₈. alloc1 ! (λ l₉. alloc1 ! (λ l₁₀. alloc1 ! (λ l₁₁. alloc1 ! (λ l₁₂. alloc1 ! (λ l₁₃. alloc1 ! (λ l₁₄. alloc0 ! $ params1 ! $
@@ -226,7 +226,7 @@ module _ {M : Type 1} {𝓤 : Ura M} (𝓛 : Logic 𝓤) (mem : Memory → SProp
   walks known-size-at known-tally-place known-frame-or-zero known-deque-turn = walked 𝓛 f'.ended stayed (f'.clauses 𝓛 mem run) (WpFn 𝓤 H 𝓣.C 𝓣.Λ code.function)
       (λ κs. (bool_vals, (shr_slice_vals, (shr_slice_vals, (shr_slice_vals, (uint_vals w32, (uint_vals w32, tt)))))))
       (λ κs. (bool_Tells, (mut_slice_Tells (named 0) κs.0 u32, (shr_slice_Tells (named 1) κs.1.0 u32, (shr_slice_Tells (named 2) κs.1.1.0 R-Frame, (uint_Tells w32, (uint_Tells w32, tt)))))))
-      (λ κs qs bounds a g are. needs 𝓤 ((length a.1.1.0.now ≡ dequeWords) × (a.1.1.1.1.0 ≡ length a.1.1.1.0.now) × (a.1.1.1.1.1.0 < maxWorkers) × (size a.1.1.0.now a.1.1.1.1.1.0 ≤ dequePlaces)) _
+      (λ κs qs bounds a g are. needs 𝓤 ((length a.1.1.0.now ≡ deque_words) × (a.1.1.1.1.0 ≡ length a.1.1.1.0.now) × (a.1.1.1.1.1.0 < max_workers) × (size a.1.1.0.now a.1.1.1.1.1.0 ≤ deque_places)) _
       (walk 𝓛 mem run κs.0 qs.0 a.1.0.ref_ptr.0 a.1.0.ref_ptr.1 a.1.0.ghost_name a.1.0.now κs.1.0 qs.1.0 a.1.1.0.ref_ptr.0 a.1.1.0.ref_ptr.1 a.1.1.0.ghost_name a.1.1.0.now κs.1.1.0 qs.1.1.0 a.1.1.1.0.ref_ptr.0 a.1.1.1.0.ref_ptr.1 a.1.1.1.0.ghost_name a.1.1.1.0.now a.0 a.1.1.1.1.0 are.1.1.1.1.0.1 a.1.1.1.1.1.0 are.1.1.1.1.1.0.1 are.1.0.0.1 are.1.1.0.0.1 are.1.1.1.0.0.1 𝓣 known-size-at known-tally-place known-frame-or-zero known-deque-turn))
 
   meets : Triple 𝓤 (𝓣.C #size-at) (S-size-at.Asked 𝓛 mem run) → Triple 𝓤 (𝓣.C #tally-place) (S-tally-place.Asked 𝓛 mem run) → Triple 𝓤 (𝓣.C #frame-or-zero) (S-frame-or-zero.Asked 𝓛 mem run) → Triple 𝓤 (𝓣.C #deque-turn) (S-deque-turn.Asked 𝓛 mem run) → Meets 𝓛 f'.signature (WpFn 𝓤 H 𝓣.C 𝓣.Λ code.function) (f'.spec 𝓛 mem run)
@@ -243,4 +243,4 @@ tally-deque-spec 𝓤 𝓛 𝓜 𝓡 =
     (cited 𝓤 𝓛.H (S-size-at.Asked 𝓛 𝓜.mem 𝓡.run) 𝓜 𝓡 code.env #size-at D-size-at.routine code.calls-frames::size-at (T-size-at.met 𝓤 𝓛 𝓜 𝓡))
     (cited 𝓤 𝓛.H (S-tally-place.Asked 𝓛 𝓜.mem 𝓡.run) 𝓜 𝓡 code.env #tally-place D-tally-place.routine code.calls-frame-check::deques::tally-place (T-tally-place.met 𝓤 𝓛 𝓜 𝓡))
     (cited 𝓤 𝓛.H (S-frame-or-zero.Asked 𝓛 𝓜.mem 𝓡.run) 𝓜 𝓡 code.env #frame-or-zero D-frame-or-zero.routine code.calls-frames::frame-or-zero (T-frame-or-zero.met 𝓤 𝓛 𝓜 𝓡))
-    (cited 𝓤 𝓛.H (S-deque-turn.Asked 𝓛 𝓜.mem 𝓡.run) 𝓜 𝓡 code.env #deque-turn D-deque-turn.routine code.calls-frame-check::deques::deque-turn (T-deque-turn.met 𝓤 𝓛 𝓜 𝓡)))
+    (cited 𝓤 𝓛.H (S-deque-turn.Asked 𝓛 𝓜.mem 𝓡.run) 𝓜 𝓡 code.env #deque-turn D-deque-turn.routine code.calls-frame-check::deques::deque_turn (T-deque-turn.met 𝓤 𝓛 𝓜 𝓡)))

@@ -45,17 +45,17 @@ use denote.Triple.Statement.{Triple}
 use denote.Triple.Table.{entered, cited}
 use denote.Triple.Walked.{says, needs, Stays, stay_slice, stay_none, stay_none_slice, walk_of, Walks, ends_at, walked, Goes-slice, Goes-none, Goes-none_slice, walk_Meets}
 use borrow.Author.Rules.{scaled_Fits}
-use Rattle.frames.proofs.Lent.{at-list, Mine, Yours, ty_at, exit-unless, exit-if, leave-if, fork, skipped, regroup, matched, matched-last, const, is_true, is_false, not-not, differ, widen, less-fits, after, turn-of, take_out, put_in, put_back, look-out, look-back, free_all}
-use Rattle.frames.specs.Widths.{maxWorkers, dequePlaces, dequeWords}
+use Rattle.frames.proofs.Lent.{at_list, Mine, Yours, ty_at, exit_unless, exit_if, leave_if, fork, skipped, regroup, matched, matched_last, const, is_true, is_false, not_not, differ, widen, less_fits, after, turn_of_lem, take_out, put_in, put_back, look_out, look_back, free_all}
+use Rattle.frames.specs.Widths.{max_workers, deque_places, deque_words}
 use Rattle.frames.specs.Deques.{size}
 use Rattle.words.specs.Basics.{all}
-use Rattle.frame_check.specs.Algorithm.{tallyDeques, dequeSound}
+use Rattle.frame_check.specs.Algorithm.{tally_deques, deque_sound}
 use Rattle.frame_check.proofs.Called.tally_deque as S-tally-deque
 use Rattle.frame_check.proofs.deques.tally_deque.Symbol as D-tally-deque
 use Rattle.frame_check.proofs.deques.tally_deque.Symbol.{name as #tally-deque}
 use Rattle.frame_check.proofs.deques.tally_deque.Met as T-tally-deque
 use mathlib.Core.Bool.{◌&&◌}
-use Rattle.frame_check.specs.Algorithm.{tallyDeque}
+use Rattle.frame_check.specs.Algorithm.{tally_deque}
 use Rattle.frame_check.specs.contracts.deques.tally_deques.Key.{name as #own}
 use Rattle.frame_check.specs.contracts.deques.tally_deques as f'
 use Rattle.frame_check.proofs.deques.tally_deques.Statement as stated
@@ -79,13 +79,13 @@ ty' i = ty_at (code.function).locals i
 
 -- the loop's body, and what runs after the loop
 abbrev turned' : Code
-turned' = turn-of (after 2 (code.function).body)
+turned' = turn_of_lem (after 2 (code.function).body)
 
 abbrev rest' : Code
 rest' = after 3 (code.function).body
 
 -- where a turn of the loop begins
-record State' (tallies : List ℕ) (deques : List ℕ) (frames : List Frame) (places : ℕ) (tallies-fits : length tallies < 2 ^ 64) (deques-fits : length deques < 2 ^ 64) (frames-fits : length frames < 2 ^ 64) (places-fits : places < 2 ^ 32) (ok : (length deques ≡ dequeWords) × (places ≡ length frames) × ((w : ℕ) → w < maxWorkers → size deques w ≤ dequePlaces)) : Type 0 where
+record State' (tallies : List ℕ) (deques : List ℕ) (frames : List Frame) (places : ℕ) (tallies-fits : length tallies < 2 ^ 64) (deques-fits : length deques < 2 ^ 64) (frames-fits : length frames < 2 ^ 64) (places-fits : places < 2 ^ 32) (ok : (length deques ≡ deque_words) × (places ≡ length frames) × ((w : ℕ) → w < max_workers → size deques w ≤ deque_places)) : Type 0 where
   v-sound : Bool
   v-w : ℕ
   g-w : v-w < 2 ^ 32
@@ -107,7 +107,7 @@ module _ {M : Type 1} {𝓤 : Ura M} (𝓛 : Logic 𝓤) (mem : Memory → SProp
   n-frames = length frames
 
   abbrev args' : Bor (List ℕ) × (Bor (List ℕ) × (Bor (List Frame) × (ℕ × Unit {0})))
-  args' = (at-list b-tallies o-tallies γ-tallies tallies, (at-list b-deques o-deques γ-deques deques, (at-list b-frames o-frames γ-frames frames, (places, tt))))
+  args' = (at_list b-tallies o-tallies γ-tallies tallies, (at_list b-deques o-deques γ-deques deques, (at_list b-frames o-frames γ-frames frames, (places, tt))))
 
   abbrev vals' : Vals f'.signature (κ-tallies, (κ-deques, (κ-frames, tt)))
   vals' = (slice_val (b-tallies, o-tallies) (length tallies) ∷ [], (slice_val (b-deques, o-deques) (length deques) ∷ [], (slice_val (b-frames, o-frames) (length frames) ∷ [], (vint w32 places ∷ [], tt))))
@@ -118,7 +118,7 @@ module _ {M : Type 1} {𝓤 : Ura M} (𝓛 : Logic 𝓤) (mem : Memory → SProp
   abbrev Post : Val → SProp 𝓤
   Post = (walk_of 𝓛 f'.ended stayed (f'.clauses 𝓛 mem run)).post bound'
 
-  exits' : (res' : Bool) (zs-tallies : List ℕ) → (zs-tallies ≡ tallyDeques maxWorkers deques tallies) × (res' ≡ all maxWorkers (dequeSound deques frames)) → length zs-tallies ≡ length tallies → ent 𝓤 (⋆ 𝓛 (‵ (Mine u32 κ-tallies q-tallies γ-tallies b-tallies o-tallies n-tallies zs-tallies) ∷ ‵ (Yours u32 κ-deques q-deques γ-deques b-deques o-deques n-deques deques) ∷ ‵ (Yours R-Frame κ-frames q-frames γ-frames b-frames o-frames n-frames frames) ∷ [])) (Post (vbool res'))
+  exits' : (res' : Bool) (zs-tallies : List ℕ) → (zs-tallies ≡ tally_deques max_workers deques tallies) × (res' ≡ all max_workers (deque_sound deques frames)) → length zs-tallies ≡ length tallies → ent 𝓤 (⋆ 𝓛 (‵ (Mine u32 κ-tallies q-tallies γ-tallies b-tallies o-tallies n-tallies zs-tallies) ∷ ‵ (Yours u32 κ-deques q-deques γ-deques b-deques o-deques n-deques deques) ∷ ‵ (Yours R-Frame κ-frames q-frames γ-frames b-frames o-frames n-frames frames) ∷ [])) (Post (vbool res'))
   exits' res' zs-tallies e' same-tallies =
       qed 𝓛 (‵ (Mine u32 κ-tallies q-tallies γ-tallies b-tallies o-tallies n-tallies zs-tallies) ∷ ‵ (Yours u32 κ-deques q-deques γ-deques b-deques o-deques n-deques deques) ∷ ‵ (Yours R-Frame κ-frames q-frames γ-frames b-frames o-frames n-frames frames) ∷ []) ∵
       suffices ! _ (ends_at 𝓛 f'.ended stayed (f'.clauses 𝓛 mem run) bound' (vbool res') res' (zs-tallies, (tt, (tt, (tt, tt)))) (same-tallies, (tt, (tt, (tt, tt))))) $ says ! e' $
@@ -130,7 +130,7 @@ module _ {M : Type 1} {𝓤 : Ura M} (𝓛 : Logic 𝓤) (mem : Memory → SProp
     abbrev fm : FmC 𝓤 H 𝓛.laws 𝓣.C
     fm = fm_of 𝓤 H 𝓛.laws 𝓣
 
-    module _ (ok' : (length deques ≡ dequeWords) × (places ≡ length frames) × ((w : ℕ) → w < maxWorkers → size deques w ≤ dequePlaces)) (l₀ l₁ l₂ l₃ l₄ l₅ l₆ l₇ l₈ l₉ : ℕ) where
+    module _ (ok' : (length deques ≡ deque_words) × (places ≡ length frames) × ((w : ℕ) → w < max_workers → size deques w ≤ deque_places)) (l₀ l₁ l₂ l₃ l₄ l₅ l₆ l₇ l₈ l₉ : ℕ) where
       abbrev S' : Type 0
       S' = State' tallies deques frames places room-tallies.0 room-deques.0 room-frames.0 places-fits ok'
 
@@ -155,7 +155,7 @@ module _ {M : Type 1} {𝓤 : Ura M} (𝓛 : Logic 𝓤) (mem : Memory → SProp
         unfolding after_turn
         turn' =
             assigns ! (bin ! (load ! (from ! (stop !)) (look ! 9 refl)) (const ! _ tt) tt) (from ! (stop !)) (init ! 7 refl (tt, tt)) $
-            exit-unless ! (load ! (from ! (stop !)) (look ! 7 refl))
+            exit_unless ! (load ! (from ! (stop !)) (look ! 7 refl))
             (λ test-3.
             exec ! 𝓣.C 𝓣.Λ En' rest' (at_ret En' Post) $
             assigns ! (of_opd ! (load ! (from ! (stop !)) (look ! 11 refl))) (from ! (stop !)) (init ! 21 refl (tt, tt)) $
@@ -177,7 +177,7 @@ module _ {M : Type 1} {𝓤 : Ura M} (𝓛 : Logic 𝓤) (mem : Memory → SProp
       unfolding after_turn
       loop' = loops ! 𝓣 Less' less_wf Inv' (λ s'. turn' s'.v-sound s'.v-w s'.l-tallies s'.g-w s'.s-tallies s'.holds) (record { v-sound = true; v-w = 0; g-w = (lit< tt); l-tallies = tallies; s-tallies = refl; holds = (F.begins tallies deques frames places room-tallies.0 room-deques.0 room-frames.0 places-fits ok') })
 
-    walk : (length deques ≡ dequeWords) × (places ≡ length frames) × ((w : ℕ) → w < maxWorkers → size deques w ≤ dequePlaces) → ent 𝓤 (on_entry 𝓛 f'.signature (κ-tallies, (κ-deques, (κ-frames, tt))) (q-tallies, (q-deques, (q-frames, tt))) args' vals') (WpFn 𝓤 H 𝓣.C 𝓣.Λ code.function (slice_val (b-tallies, o-tallies) (length tallies) ∷ slice_val (b-deques, o-deques) (length deques) ∷ slice_val (b-frames, o-frames) (length frames) ∷ vint w32 places ∷ []) Post)
+    walk : (length deques ≡ deque_words) × (places ≡ length frames) × ((w : ℕ) → w < max_workers → size deques w ≤ deque_places) → ent 𝓤 (on_entry 𝓛 f'.signature (κ-tallies, (κ-deques, (κ-frames, tt))) (q-tallies, (q-deques, (q-frames, tt))) args' vals') (WpFn 𝓤 H 𝓣.C 𝓣.Λ code.function (slice_val (b-tallies, o-tallies) (length tallies) ∷ slice_val (b-deques, o-deques) (length deques) ∷ slice_val (b-frames, o-frames) (length frames) ∷ vint w32 places ∷ []) Post)
     walk ok' =
         qed 𝓛 ((‵ (flft κ-tallies q-tallies) ⊛ ‵ (flft κ-deques q-deques) ⊛ ‵ (flft κ-frames q-frames) ⊛ ‵ ftrue) ∷ ‵ (owns (MutSlice (named 0) κ-tallies u32 ∷ ShrSlice (named 1) κ-deques u32 ∷ ShrSlice (named 2) κ-frames R-Frame ∷ u32 ∷ []) args' vals') ∷ []) ∵ enter ! 𝓣.C 𝓣.Λ code.function (slice_val (b-tallies, o-tallies) (length tallies) ∷ slice_val (b-deques, o-deques) (length deques) ∷ slice_val (b-frames, o-frames) (length frames) ∷ vint w32 places ∷ []) _ $
         alloc1 ! (λ l₀. alloc1 ! (λ l₁. alloc1 ! (λ l₂. alloc1 ! (λ l₃. alloc1 ! (λ l₄. alloc1 ! (λ l₅. alloc1 ! (λ l₆. alloc1 ! (λ l₇. alloc1 ! (λ l₈. alloc1 ! (λ l₉. alloc0 ! $ params1 ! $
@@ -195,7 +195,7 @@ module _ {M : Type 1} {𝓤 : Ura M} (𝓛 : Logic 𝓤) (mem : Memory → SProp
   walks known-tally-deque = walked 𝓛 f'.ended stayed (f'.clauses 𝓛 mem run) (WpFn 𝓤 H 𝓣.C 𝓣.Λ code.function)
       (λ κs. (shr_slice_vals, (shr_slice_vals, (shr_slice_vals, (uint_vals w32, tt)))))
       (λ κs. (mut_slice_Tells (named 0) κs.0 u32, (shr_slice_Tells (named 1) κs.1.0 u32, (shr_slice_Tells (named 2) κs.1.1.0 R-Frame, (uint_Tells w32, tt)))))
-      (λ κs qs bounds a g are. needs 𝓤 ((length a.1.0.now ≡ dequeWords) × (a.1.1.1.0 ≡ length a.1.1.0.now) × ((w : ℕ) → w < maxWorkers → size a.1.0.now w ≤ dequePlaces)) _
+      (λ κs qs bounds a g are. needs 𝓤 ((length a.1.0.now ≡ deque_words) × (a.1.1.1.0 ≡ length a.1.1.0.now) × ((w : ℕ) → w < max_workers → size a.1.0.now w ≤ deque_places)) _
       (walk 𝓛 mem run κs.0 qs.0 a.0.ref_ptr.0 a.0.ref_ptr.1 a.0.ghost_name a.0.now κs.1.0 qs.1.0 a.1.0.ref_ptr.0 a.1.0.ref_ptr.1 a.1.0.ghost_name a.1.0.now κs.1.1.0 qs.1.1.0 a.1.1.0.ref_ptr.0 a.1.1.0.ref_ptr.1 a.1.1.0.ghost_name a.1.1.0.now a.1.1.1.0 are.1.1.1.0.1 are.0.0.1 are.1.0.0.1 are.1.1.0.0.1 𝓣 known-tally-deque))
 
   meets : Triple 𝓤 (𝓣.C #tally-deque) (S-tally-deque.Asked 𝓛 mem run) → Meets 𝓛 f'.signature (WpFn 𝓤 H 𝓣.C 𝓣.Λ code.function) (f'.spec 𝓛 mem run)

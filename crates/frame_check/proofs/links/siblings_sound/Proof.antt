@@ -45,24 +45,24 @@ use denote.Triple.Statement.{Triple}
 use denote.Triple.Table.{entered, cited}
 use denote.Triple.Walked.{says, needs, Stays, stay_slice, stay_none, stay_none_slice, walk_of, Walks, ends_at, walked, Goes-slice, Goes-none, Goes-none_slice, walk_Meets}
 use borrow.Author.Rules.{scaled_Fits}
-use Rattle.frames.proofs.Lent.{at-list, Mine, Yours, ty_at, exit-unless, exit-if, leave-if, fork, skipped, regroup, matched, matched-last, const, is_true, is_false, not-not, differ, widen, less-fits, after, turn-of, take_out, put_in, put_back, look-out, look-back, free_all}
-use Rattle.frames.specs.Widths.{maxPlaces}
-use Rattle.frame_check.specs.Algorithm.{linksTallied}
+use Rattle.frames.proofs.Lent.{at_list, Mine, Yours, ty_at, exit_unless, exit_if, leave_if, fork, skipped, regroup, matched, matched_last, const, is_true, is_false, not_not, differ, widen, less_fits, after, turn_of_lem, take_out, put_in, put_back, look_out, look_back, free_all}
+use Rattle.frames.specs.Widths.{max_places}
+use Rattle.frame_check.specs.Algorithm.{links_tallied}
 use Rattle.frame_check.proofs.Called.frame_at as S-frame-at
 use Rattle.frames.proofs.frame_at.Symbol as D-frame-at
 use Rattle.frames.proofs.frame_at.Symbol.{name as #frame-at}
 use Rattle.frames.proofs.frame_at.Met as T-frame-at
-use Rattle.frames.specs.Frames.{frameAt}
+use Rattle.frames.specs.Frames.{frame_at}
 use Rattle.frame_check.proofs.Called.link_count as S-link-count
 use Rattle.frame_check.proofs.links.link_count.Symbol as D-link-count
 use Rattle.frame_check.proofs.links.link_count.Symbol.{name as #link-count}
 use Rattle.frame_check.proofs.links.link_count.Met as T-link-count
-use Rattle.frame_check.specs.Algorithm.{linkCount}
+use Rattle.frame_check.specs.Algorithm.{link_count}
 use Rattle.frame_check.proofs.Called.link_first as S-link-first
 use Rattle.frame_check.proofs.links.link_first.Symbol as D-link-first
 use Rattle.frame_check.proofs.links.link_first.Symbol.{name as #link-first}
 use Rattle.frame_check.proofs.links.link_first.Met as T-link-first
-use Rattle.frame_check.specs.Algorithm.{linkFirst}
+use Rattle.frame_check.specs.Algorithm.{link_first}
 use Rattle.frame_check.proofs.Called.at_end as S-at-end
 use Rattle.frame_check.proofs.links.at_end.Symbol as D-at-end
 use Rattle.frame_check.proofs.links.at_end.Symbol.{name as #at-end}
@@ -76,7 +76,7 @@ use Rattle.frame_check.proofs.Called.link_next as S-link-next
 use Rattle.frame_check.proofs.links.link_next.Symbol as D-link-next
 use Rattle.frame_check.proofs.links.link_next.Symbol.{name as #link-next}
 use Rattle.frame_check.proofs.links.link_next.Met as T-link-next
-use Rattle.frame_check.specs.Algorithm.{linkNext}
+use Rattle.frame_check.specs.Algorithm.{link_next}
 use Rattle.frame_check.specs.contracts.links.siblings_sound.Key.{name as #own}
 use Rattle.frame_check.specs.contracts.links.siblings_sound as f'
 use Rattle.frame_check.proofs.links.siblings_sound.Statement as stated
@@ -100,13 +100,13 @@ ty' i = ty_at (code.function).locals i
 
 -- the loop's body, and what runs after the loop
 abbrev turned' : Code
-turned' = turn-of (after 4 (code.function).body)
+turned' = turn_of_lem (after 4 (code.function).body)
 
 abbrev rest' : Code
 rest' = after 5 (code.function).body
 
 -- where a turn of the loop begins
-record State' (frames : List Frame) (tallies : List ℕ) (places : ℕ) (q : ℕ) (frames-fits : length frames < 2 ^ 64) (tallies-fits : length tallies < 2 ^ 64) (places-fits : places < 2 ^ 32) (q-fits : q < 2 ^ 32) (ok : (places ≡ length frames) × (places ≤ maxPlaces) × (q < places)) (f : Frame) (f-is : f ≡ frameAt frames q) (count : ℕ) (count_fits : count < 2 ^ 32) (count-is : count ≡ linkCount f (get_or tallies q 0)) (c : ℕ) (c-fits : c < 2 ^ 32) (c-is : c ≡ linkFirst f (get_or tallies q 0)) : Type 0 where
+record State' (frames : List Frame) (tallies : List ℕ) (places : ℕ) (q : ℕ) (frames-fits : length frames < 2 ^ 64) (tallies-fits : length tallies < 2 ^ 64) (places-fits : places < 2 ^ 32) (q-fits : q < 2 ^ 32) (ok : (places ≡ length frames) × (places ≤ max_places) × (q < places)) (f : Frame) (f-is : f ≡ frame_at frames q) (count : ℕ) (count_fits : count < 2 ^ 32) (count-is : count ≡ link_count f (get_or tallies q 0)) (c : ℕ) (c-fits : c < 2 ^ 32) (c-is : c ≡ link_first f (get_or tallies q 0)) : Type 0 where
   v-c' : ℕ
   g-c' : v-c' < 2 ^ 32
   v-k : ℕ
@@ -124,7 +124,7 @@ module _ {M : Type 1} {𝓤 : Ura M} (𝓛 : Logic 𝓤) (mem : Memory → SProp
   n-tallies = length tallies
 
   abbrev args' : Bor (List Frame) × (Bor (List ℕ) × (ℕ × (ℕ × Unit {0})))
-  args' = (at-list b-frames o-frames γ-frames frames, (at-list b-tallies o-tallies γ-tallies tallies, (places, (q, tt))))
+  args' = (at_list b-frames o-frames γ-frames frames, (at_list b-tallies o-tallies γ-tallies tallies, (places, (q, tt))))
 
   abbrev vals' : Vals f'.signature (κ-frames, (κ-tallies, tt))
   vals' = (slice_val (b-frames, o-frames) (length frames) ∷ [], (slice_val (b-tallies, o-tallies) (length tallies) ∷ [], (vint w32 places ∷ [], (vint w32 q ∷ [], tt))))
@@ -135,7 +135,7 @@ module _ {M : Type 1} {𝓤 : Ura M} (𝓛 : Logic 𝓤) (mem : Memory → SProp
   abbrev Post : Val → SProp 𝓤
   Post = (walk_of 𝓛 f'.ended stayed (f'.clauses 𝓛 mem run)).post bound'
 
-  exits' : (res' : Bool) → res' ≡ linksTallied frames tallies q → ent 𝓤 (⋆ 𝓛 (‵ (Yours R-Frame κ-frames q-frames γ-frames b-frames o-frames n-frames frames) ∷ ‵ (Yours u32 κ-tallies q-tallies γ-tallies b-tallies o-tallies n-tallies tallies) ∷ [])) (Post (vbool res'))
+  exits' : (res' : Bool) → res' ≡ links_tallied frames tallies q → ent 𝓤 (⋆ 𝓛 (‵ (Yours R-Frame κ-frames q-frames γ-frames b-frames o-frames n-frames frames) ∷ ‵ (Yours u32 κ-tallies q-tallies γ-tallies b-tallies o-tallies n-tallies tallies) ∷ [])) (Post (vbool res'))
   exits' res' e' =
       qed 𝓛 (‵ (Yours R-Frame κ-frames q-frames γ-frames b-frames o-frames n-frames frames) ∷ ‵ (Yours u32 κ-tallies q-tallies γ-tallies b-tallies o-tallies n-tallies tallies) ∷ []) ∵
       suffices ! _ (ends_at 𝓛 f'.ended stayed (f'.clauses 𝓛 mem run) bound' (vbool res') res' (tt, (tt, (tt, (tt, tt)))) (tt, (tt, (tt, (tt, tt))))) $ says ! e' $
@@ -147,7 +147,7 @@ module _ {M : Type 1} {𝓤 : Ura M} (𝓛 : Logic 𝓤) (mem : Memory → SProp
     abbrev fm : FmC 𝓤 H 𝓛.laws 𝓣.C
     fm = fm_of 𝓤 H 𝓛.laws 𝓣
 
-    module _ (ok' : (places ≡ length frames) × (places ≤ maxPlaces) × (q < places)) (f : Frame) (f-is : f ≡ frameAt frames q) (count : ℕ) (count_fits : count < 2 ^ 32) (count-is : count ≡ linkCount f (get_or tallies q 0)) (c : ℕ) (c-fits : c < 2 ^ 32) (c-is : c ≡ linkFirst f (get_or tallies q 0)) (f-good : Is R-Frame f (val-Frame f ∷ [])) (l₀ l₁ l₂ l₃ l₄ l₅ l₆ l₇ l₈ l₉ l₁₀ : ℕ) where
+    module _ (ok' : (places ≡ length frames) × (places ≤ max_places) × (q < places)) (f : Frame) (f-is : f ≡ frame_at frames q) (count : ℕ) (count_fits : count < 2 ^ 32) (count-is : count ≡ link_count f (get_or tallies q 0)) (c : ℕ) (c-fits : c < 2 ^ 32) (c-is : c ≡ link_first f (get_or tallies q 0)) (f-good : Is R-Frame f (val-Frame f ∷ [])) (l₀ l₁ l₂ l₃ l₄ l₅ l₆ l₇ l₈ l₉ l₁₀ : ℕ) where
       abbrev S' : Type 0
       S' = State' frames tallies places q room-frames.0 room-tallies.0 places-fits q-fits ok' f f-is count count_fits count-is c c-fits c-is
 
@@ -172,7 +172,7 @@ module _ {M : Type 1} {𝓤 : Ura M} (𝓛 : Logic 𝓤) (mem : Memory → SProp
         unfolding after_turn
         turn' =
             assigns ! (bin ! (load ! (from ! (stop !)) (look ! 6 refl)) (load ! (from ! (stop !)) (look ! 10 refl)) tt) (from ! (stop !)) (init ! 2 refl (tt, tt)) $
-            exit-unless ! (load ! (from ! (stop !)) (look ! 2 refl))
+            exit_unless ! (load ! (from ! (stop !)) (look ! 2 refl))
             (λ test-6.
             exec ! 𝓣.C 𝓣.Λ En' rest' (at_ret En' Post) $
             -- _0 = frame_check::links::at_end(_7)
@@ -199,7 +199,7 @@ module _ {M : Type 1} {𝓤 : Ura M} (𝓛 : Logic 𝓤) (mem : Memory → SProp
       unfolding after_turn
       loop' = loops ! 𝓣 Less' less_wf Inv' (λ s'. turn' s'.v-c' s'.v-k s'.g-c' s'.g-k s'.holds) (record { v-c' = c; g-c' = c-fits; v-k = 0; g-k = (lit< tt); holds = (F.begins frames tallies places q room-frames.0 room-tallies.0 places-fits q-fits ok' f f-is count count_fits count-is c c-fits c-is) })
 
-    walk : (places ≡ length frames) × (places ≤ maxPlaces) × (q < places) → ent 𝓤 (on_entry 𝓛 f'.signature (κ-frames, (κ-tallies, tt)) (q-frames, (q-tallies, tt)) args' vals') (WpFn 𝓤 H 𝓣.C 𝓣.Λ code.function (slice_val (b-frames, o-frames) (length frames) ∷ slice_val (b-tallies, o-tallies) (length tallies) ∷ vint w32 places ∷ vint w32 q ∷ []) Post)
+    walk : (places ≡ length frames) × (places ≤ max_places) × (q < places) → ent 𝓤 (on_entry 𝓛 f'.signature (κ-frames, (κ-tallies, tt)) (q-frames, (q-tallies, tt)) args' vals') (WpFn 𝓤 H 𝓣.C 𝓣.Λ code.function (slice_val (b-frames, o-frames) (length frames) ∷ slice_val (b-tallies, o-tallies) (length tallies) ∷ vint w32 places ∷ vint w32 q ∷ []) Post)
     walk ok' =
         qed 𝓛 ((‵ (flft κ-frames q-frames) ⊛ ‵ (flft κ-tallies q-tallies) ⊛ ‵ ftrue) ∷ ‵ (owns (ShrSlice (named 0) κ-frames R-Frame ∷ ShrSlice (named 1) κ-tallies u32 ∷ u32 ∷ u32 ∷ []) args' vals') ∷ []) ∵ enter ! 𝓣.C 𝓣.Λ code.function (slice_val (b-frames, o-frames) (length frames) ∷ slice_val (b-tallies, o-tallies) (length tallies) ∷ vint w32 places ∷ vint w32 q ∷ []) _ $
         alloc1 ! (λ l₀. alloc1 ! (λ l₁. alloc1 ! (λ l₂. alloc1 ! (λ l₃. alloc1 ! (λ l₄. alloc1 ! (λ l₅. alloc1 ! (λ l₆. alloc1 ! (λ l₇. alloc1 ! (λ l₈. alloc1 ! (λ l₉. alloc1 ! (λ l₁₀. alloc0 ! $ params1 ! $
@@ -230,7 +230,7 @@ module _ {M : Type 1} {𝓤 : Ura M} (𝓛 : Logic 𝓤) (mem : Memory → SProp
   walks known-frame-at known-link-count known-link-first known-at-end known-frame-or-zero known-link-next = walked 𝓛 f'.ended stayed (f'.clauses 𝓛 mem run) (WpFn 𝓤 H 𝓣.C 𝓣.Λ code.function)
       (λ κs. (shr_slice_vals, (shr_slice_vals, (uint_vals w32, (uint_vals w32, tt)))))
       (λ κs. (shr_slice_Tells (named 0) κs.0 R-Frame, (shr_slice_Tells (named 1) κs.1.0 u32, (uint_Tells w32, (uint_Tells w32, tt)))))
-      (λ κs qs bounds a g are. needs 𝓤 ((a.1.1.0 ≡ length a.0.now) × (a.1.1.0 ≤ maxPlaces) × (a.1.1.1.0 < a.1.1.0)) _
+      (λ κs qs bounds a g are. needs 𝓤 ((a.1.1.0 ≡ length a.0.now) × (a.1.1.0 ≤ max_places) × (a.1.1.1.0 < a.1.1.0)) _
       (walk 𝓛 mem run κs.0 qs.0 a.0.ref_ptr.0 a.0.ref_ptr.1 0 a.0.now κs.1.0 qs.1.0 a.1.0.ref_ptr.0 a.1.0.ref_ptr.1 0 a.1.0.now a.1.1.0 are.1.1.0.1 a.1.1.1.0 are.1.1.1.0.1 are.0.0.1 are.1.0.0.1 𝓣 known-frame-at known-link-count known-link-first known-at-end known-frame-or-zero known-link-next))
 
   meets : Triple 𝓤 (𝓣.C #frame-at) (S-frame-at.Asked 𝓛 mem run) → Triple 𝓤 (𝓣.C #link-count) (S-link-count.Asked 𝓛 mem run) → Triple 𝓤 (𝓣.C #link-first) (S-link-first.Asked 𝓛 mem run) → Triple 𝓤 (𝓣.C #at-end) (S-at-end.Asked 𝓛 mem run) → Triple 𝓤 (𝓣.C #frame-or-zero) (S-frame-or-zero.Asked 𝓛 mem run) → Triple 𝓤 (𝓣.C #link-next) (S-link-next.Asked 𝓛 mem run) → Meets 𝓛 f'.signature (WpFn 𝓤 H 𝓣.C 𝓣.Λ code.function) (f'.spec 𝓛 mem run)
@@ -247,6 +247,6 @@ siblings-sound-spec 𝓤 𝓛 𝓜 𝓡 =
     (cited 𝓤 𝓛.H (S-frame-at.Asked 𝓛 𝓜.mem 𝓡.run) 𝓜 𝓡 code.env #frame-at D-frame-at.routine code.calls-frames::frame-at (T-frame-at.met 𝓤 𝓛 𝓜 𝓡))
     (cited 𝓤 𝓛.H (S-link-count.Asked 𝓛 𝓜.mem 𝓡.run) 𝓜 𝓡 code.env #link-count D-link-count.routine code.calls-frame-check::links::link-count (T-link-count.met 𝓤 𝓛 𝓜 𝓡))
     (cited 𝓤 𝓛.H (S-link-first.Asked 𝓛 𝓜.mem 𝓡.run) 𝓜 𝓡 code.env #link-first D-link-first.routine code.calls-frame-check::links::link-first (T-link-first.met 𝓤 𝓛 𝓜 𝓡))
-    (cited 𝓤 𝓛.H (S-at-end.Asked 𝓛 𝓜.mem 𝓡.run) 𝓜 𝓡 code.env #at-end D-at-end.routine code.calls-frame-check::links::at-end (T-at-end.met 𝓤 𝓛 𝓜 𝓡))
+    (cited 𝓤 𝓛.H (S-at-end.Asked 𝓛 𝓜.mem 𝓡.run) 𝓜 𝓡 code.env #at-end D-at-end.routine code.calls-frame-check::links::at_end (T-at-end.met 𝓤 𝓛 𝓜 𝓡))
     (cited 𝓤 𝓛.H (S-frame-or-zero.Asked 𝓛 𝓜.mem 𝓡.run) 𝓜 𝓡 code.env #frame-or-zero D-frame-or-zero.routine code.calls-frames::frame-or-zero (T-frame-or-zero.met 𝓤 𝓛 𝓜 𝓡))
     (cited 𝓤 𝓛.H (S-link-next.Asked 𝓛 𝓜.mem 𝓡.run) 𝓜 𝓡 code.env #link-next D-link-next.routine code.calls-frame-check::links::link-next (T-link-next.met 𝓤 𝓛 𝓜 𝓡)))

@@ -45,9 +45,9 @@ use denote.Triple.Statement.{Triple}
 use denote.Triple.Table.{entered, cited}
 use denote.Triple.Walked.{says, needs, Stays, stay_slice, stay_none, stay_none_slice, walk_of, Walks, ends_at, walked, Goes-slice, Goes-none, Goes-none_slice, walk_Meets}
 use borrow.Author.Rules.{scaled_Fits}
-use Rattle.frames.proofs.Lent.{at-list, Mine, Yours, ty_at, exit-unless, exit-if, leave-if, fork, skipped, regroup, matched, matched-last, const, is_true, is_false, not-not, differ, widen, less-fits, after, turn-of, take_out, put_in, put_back, look-out, look-back, free_all}
-use Rattle.frames.specs.Widths.{maxPlaces}
-use Rattle.frame_check.specs.Algorithm.{chainFrom}
+use Rattle.frames.proofs.Lent.{at_list, Mine, Yours, ty_at, exit_unless, exit_if, leave_if, fork, skipped, regroup, matched, matched_last, const, is_true, is_false, not_not, differ, widen, less_fits, after, turn_of_lem, take_out, put_in, put_back, look_out, look_back, free_all}
+use Rattle.frames.specs.Widths.{max_places}
+use Rattle.frame_check.specs.Algorithm.{chain_from}
 use Rattle.frame_check.proofs.Called.at_end as S-at-end
 use Rattle.frame_check.proofs.links.at_end.Symbol as D-at-end
 use Rattle.frame_check.proofs.links.at_end.Symbol.{name as #at-end}
@@ -57,12 +57,12 @@ use Rattle.frame_check.proofs.Called.frame_or_zero as S-frame-or-zero
 use Rattle.frames.proofs.frame_or_zero.Symbol as D-frame-or-zero
 use Rattle.frames.proofs.frame_or_zero.Symbol.{name as #frame-or-zero}
 use Rattle.frames.proofs.frame_or_zero.Met as T-frame-or-zero
-use Rattle.frames.specs.Frames.{frameAt}
+use Rattle.frames.specs.Frames.{frame_at}
 use Rattle.frame_check.proofs.Called.free_next as S-free-next
 use Rattle.frame_check.proofs.places.free_next.Symbol as D-free-next
 use Rattle.frame_check.proofs.places.free_next.Symbol.{name as #free-next}
 use Rattle.frame_check.proofs.places.free_next.Met as T-free-next
-use Rattle.frame_check.specs.Algorithm.{freeNext}
+use Rattle.frame_check.specs.Algorithm.{free_next}
 use Rattle.frame_check.specs.contracts.places.follow_free.Key.{name as #own}
 use Rattle.frame_check.specs.contracts.places.follow_free as f'
 use Rattle.frame_check.proofs.places.follow_free.Statement as stated
@@ -86,13 +86,13 @@ ty' i = ty_at (code.function).locals i
 
 -- the loop's body, and what runs after the loop
 abbrev turned' : Code
-turned' = turn-of (after 2 (code.function).body)
+turned' = turn_of_lem (after 2 (code.function).body)
 
 abbrev rest' : Code
 rest' = after 3 (code.function).body
 
 -- where a turn of the loop begins
-record State' (frames : List Frame) (places : ℕ) (count : ℕ) (first' : ℕ) (frames-fits : length frames < 2 ^ 64) (places-fits : places < 2 ^ 32) (count_fits : count < 2 ^ 32) (first'-fits : first' < 2 ^ 32) (ok : (places ≡ length frames) × (places ≤ maxPlaces)) : Type 0 where
+record State' (frames : List Frame) (places : ℕ) (count : ℕ) (first' : ℕ) (frames-fits : length frames < 2 ^ 64) (places-fits : places < 2 ^ 32) (count_fits : count < 2 ^ 32) (first'-fits : first' < 2 ^ 32) (ok : (places ≡ length frames) × (places ≤ max_places)) : Type 0 where
   v-p : ℕ
   g-p : v-p < 2 ^ 32
   v-k : ℕ
@@ -107,7 +107,7 @@ module _ {M : Type 1} {𝓤 : Ura M} (𝓛 : Logic 𝓤) (mem : Memory → SProp
   n-frames = length frames
 
   abbrev args' : Bor (List Frame) × (ℕ × (ℕ × (ℕ × Unit {0})))
-  args' = (at-list b-frames o-frames γ-frames frames, (places, (count, (first', tt))))
+  args' = (at_list b-frames o-frames γ-frames frames, (places, (count, (first', tt))))
 
   abbrev vals' : Vals f'.signature (κ-frames, tt)
   vals' = (slice_val (b-frames, o-frames) (length frames) ∷ [], (vint w32 places ∷ [], (vint w32 count ∷ [], (vint w32 first' ∷ [], tt))))
@@ -118,7 +118,7 @@ module _ {M : Type 1} {𝓤 : Ura M} (𝓛 : Logic 𝓤) (mem : Memory → SProp
   abbrev Post : Val → SProp 𝓤
   Post = (walk_of 𝓛 f'.ended stayed (f'.clauses 𝓛 mem run)).post bound'
 
-  exits' : (res' : Bool) → res' ≡ chainFrom frames count first' → ent 𝓤 (⋆ 𝓛 (‵ (Yours R-Frame κ-frames q-frames γ-frames b-frames o-frames n-frames frames) ∷ [])) (Post (vbool res'))
+  exits' : (res' : Bool) → res' ≡ chain_from frames count first' → ent 𝓤 (⋆ 𝓛 (‵ (Yours R-Frame κ-frames q-frames γ-frames b-frames o-frames n-frames frames) ∷ [])) (Post (vbool res'))
   exits' res' e' =
       qed 𝓛 (‵ (Yours R-Frame κ-frames q-frames γ-frames b-frames o-frames n-frames frames) ∷ []) ∵
       suffices ! _ (ends_at 𝓛 f'.ended stayed (f'.clauses 𝓛 mem run) bound' (vbool res') res' (tt, (tt, (tt, (tt, tt)))) (tt, (tt, (tt, (tt, tt))))) $ says ! e' $
@@ -130,7 +130,7 @@ module _ {M : Type 1} {𝓤 : Ura M} (𝓛 : Logic 𝓤) (mem : Memory → SProp
     abbrev fm : FmC 𝓤 H 𝓛.laws 𝓣.C
     fm = fm_of 𝓤 H 𝓛.laws 𝓣
 
-    module _ (ok' : (places ≡ length frames) × (places ≤ maxPlaces)) (l₀ l₁ l₂ l₃ l₄ l₅ l₆ l₇ l₈ : ℕ) where
+    module _ (ok' : (places ≡ length frames) × (places ≤ max_places)) (l₀ l₁ l₂ l₃ l₄ l₅ l₆ l₇ l₈ : ℕ) where
       abbrev S' : Type 0
       S' = State' frames places count first' room-frames.0 places-fits count_fits first'-fits ok'
 
@@ -155,7 +155,7 @@ module _ {M : Type 1} {𝓤 : Ura M} (𝓛 : Logic 𝓤) (mem : Memory → SProp
         unfolding after_turn
         turn' =
             assigns ! (bin ! (load ! (from ! (stop !)) (look ! 5 refl)) (load ! (from ! (stop !)) (look ! 11 refl)) tt) (from ! (stop !)) (init ! 1 refl (tt, tt)) $
-            exit-unless ! (load ! (from ! (stop !)) (look ! 1 refl))
+            exit_unless ! (load ! (from ! (stop !)) (look ! 1 refl))
             (λ test-3.
             exec ! 𝓣.C 𝓣.Λ En' rest' (at_ret En' Post) $
             -- _0 = frame_check::links::at_end(_5)
@@ -182,7 +182,7 @@ module _ {M : Type 1} {𝓤 : Ura M} (𝓛 : Logic 𝓤) (mem : Memory → SProp
       unfolding after_turn
       loop' = loops ! 𝓣 Less' less_wf Inv' (λ s'. turn' s'.v-p s'.v-k s'.g-p s'.g-k s'.holds) (record { v-p = first'; g-p = first'-fits; v-k = 0; g-k = (lit< tt); holds = (F.begins frames places count first' room-frames.0 places-fits count_fits first'-fits ok') })
 
-    walk : (places ≡ length frames) × (places ≤ maxPlaces) → ent 𝓤 (on_entry 𝓛 f'.signature (κ-frames, tt) (q-frames, tt) args' vals') (WpFn 𝓤 H 𝓣.C 𝓣.Λ code.function (slice_val (b-frames, o-frames) (length frames) ∷ vint w32 places ∷ vint w32 count ∷ vint w32 first' ∷ []) Post)
+    walk : (places ≡ length frames) × (places ≤ max_places) → ent 𝓤 (on_entry 𝓛 f'.signature (κ-frames, tt) (q-frames, tt) args' vals') (WpFn 𝓤 H 𝓣.C 𝓣.Λ code.function (slice_val (b-frames, o-frames) (length frames) ∷ vint w32 places ∷ vint w32 count ∷ vint w32 first' ∷ []) Post)
     walk ok' =
         qed 𝓛 ((‵ (flft κ-frames q-frames) ⊛ ‵ ftrue) ∷ ‵ (owns (ShrSlice (named 0) κ-frames R-Frame ∷ u32 ∷ u32 ∷ u32 ∷ []) args' vals') ∷ []) ∵ enter ! 𝓣.C 𝓣.Λ code.function (slice_val (b-frames, o-frames) (length frames) ∷ vint w32 places ∷ vint w32 count ∷ vint w32 first' ∷ []) _ $
         alloc1 ! (λ l₀. alloc1 ! (λ l₁. alloc1 ! (λ l₂. alloc1 ! (λ l₃. alloc1 ! (λ l₄. alloc1 ! (λ l₅. alloc1 ! (λ l₆. alloc1 ! (λ l₇. alloc1 ! (λ l₈. alloc0 ! $ params1 ! $
@@ -200,7 +200,7 @@ module _ {M : Type 1} {𝓤 : Ura M} (𝓛 : Logic 𝓤) (mem : Memory → SProp
   walks known-at-end known-frame-or-zero known-free-next = walked 𝓛 f'.ended stayed (f'.clauses 𝓛 mem run) (WpFn 𝓤 H 𝓣.C 𝓣.Λ code.function)
       (λ κs. (shr_slice_vals, (uint_vals w32, (uint_vals w32, (uint_vals w32, tt)))))
       (λ κs. (shr_slice_Tells (named 0) κs.0 R-Frame, (uint_Tells w32, (uint_Tells w32, (uint_Tells w32, tt)))))
-      (λ κs qs bounds a g are. needs 𝓤 ((a.1.0 ≡ length a.0.now) × (a.1.0 ≤ maxPlaces)) _
+      (λ κs qs bounds a g are. needs 𝓤 ((a.1.0 ≡ length a.0.now) × (a.1.0 ≤ max_places)) _
       (walk 𝓛 mem run κs.0 qs.0 a.0.ref_ptr.0 a.0.ref_ptr.1 0 a.0.now a.1.0 are.1.0.1 a.1.1.0 are.1.1.0.1 a.1.1.1.0 are.1.1.1.0.1 are.0.0.1 𝓣 known-at-end known-frame-or-zero known-free-next))
 
   meets : Triple 𝓤 (𝓣.C #at-end) (S-at-end.Asked 𝓛 mem run) → Triple 𝓤 (𝓣.C #frame-or-zero) (S-frame-or-zero.Asked 𝓛 mem run) → Triple 𝓤 (𝓣.C #free-next) (S-free-next.Asked 𝓛 mem run) → Meets 𝓛 f'.signature (WpFn 𝓤 H 𝓣.C 𝓣.Λ code.function) (f'.spec 𝓛 mem run)
@@ -214,6 +214,6 @@ follow-free-spec 𝓤 𝓛 𝓜 𝓡 =
     entered 𝓤 𝓛.H (triple_of 𝓛 f'.signature (f'.spec 𝓛 𝓜.mem 𝓡.run))
     (tables 𝓤 𝓛.H 𝓜 𝓡 code.env).C (tables 𝓤 𝓛.H 𝓜 𝓡 code.env).Λ #own code.function (code.unfolded 𝓤 𝓛.H 𝓜 𝓡)
     (meets 𝓛 𝓜.mem 𝓡.run (tables_of 𝓤 𝓛.H 𝓜 (tables 𝓤 𝓛.H 𝓜 𝓡 code.env))
-    (cited 𝓤 𝓛.H (S-at-end.Asked 𝓛 𝓜.mem 𝓡.run) 𝓜 𝓡 code.env #at-end D-at-end.routine code.calls-frame-check::links::at-end (T-at-end.met 𝓤 𝓛 𝓜 𝓡))
+    (cited 𝓤 𝓛.H (S-at-end.Asked 𝓛 𝓜.mem 𝓡.run) 𝓜 𝓡 code.env #at-end D-at-end.routine code.calls-frame-check::links::at_end (T-at-end.met 𝓤 𝓛 𝓜 𝓡))
     (cited 𝓤 𝓛.H (S-frame-or-zero.Asked 𝓛 𝓜.mem 𝓡.run) 𝓜 𝓡 code.env #frame-or-zero D-frame-or-zero.routine code.calls-frames::frame-or-zero (T-frame-or-zero.met 𝓤 𝓛 𝓜 𝓡))
-    (cited 𝓤 𝓛.H (S-free-next.Asked 𝓛 𝓜.mem 𝓡.run) 𝓜 𝓡 code.env #free-next D-free-next.routine code.calls-frame-check::places::free-next (T-free-next.met 𝓤 𝓛 𝓜 𝓡)))
+    (cited 𝓤 𝓛.H (S-free-next.Asked 𝓛 𝓜.mem 𝓡.run) 𝓜 𝓡 code.env #free-next D-free-next.routine code.calls-frame-check::places::free_next_lem (T-free-next.met 𝓤 𝓛 𝓜 𝓡)))

@@ -45,20 +45,20 @@ use denote.Triple.Statement.{Triple}
 use denote.Triple.Table.{entered, cited}
 use denote.Triple.Walked.{says, needs, Stays, stay_slice, stay_none, stay_none_slice, walk_of, Walks, ends_at, walked, Goes-slice, Goes-none, Goes-none_slice, walk_Meets}
 use borrow.Author.Rules.{scaled_Fits}
-use Rattle.frames.proofs.Lent.{at-list, Mine, Yours, ty_at, exit-unless, exit-if, leave-if, fork, skipped, regroup, matched, matched-last, const, is_true, is_false, not-not, differ, widen, less-fits, after, turn-of, take_out, put_in, put_back, look-out, look-back, free_all}
+use Rattle.frames.proofs.Lent.{at_list, Mine, Yours, ty_at, exit_unless, exit_if, leave_if, fork, skipped, regroup, matched, matched_last, const, is_true, is_false, not_not, differ, widen, less_fits, after, turn_of_lem, take_out, put_in, put_back, look_out, look_back, free_all}
 use Rattle.words.specs.Basics.{all}
-use Rattle.frames.specs.Widths.{maxPlaces}
-use Rattle.frame_check.specs.Algorithm.{liveEnd, placeTallied}
+use Rattle.frames.specs.Widths.{max_places}
+use Rattle.frame_check.specs.Algorithm.{live_end, place_tallied}
 use Rattle.frame_check.proofs.Called.siblings_sound as S-siblings-sound
 use Rattle.frame_check.proofs.links.siblings_sound.Symbol as D-siblings-sound
 use Rattle.frame_check.proofs.links.siblings_sound.Symbol.{name as #siblings-sound}
 use Rattle.frame_check.proofs.links.siblings_sound.Met as T-siblings-sound
-use Rattle.frame_check.specs.Algorithm.{linksTallied}
+use Rattle.frame_check.specs.Algorithm.{links_tallied}
 use Rattle.frame_check.proofs.Called.frame_at as S-frame-at
 use Rattle.frames.proofs.frame_at.Symbol as D-frame-at
 use Rattle.frames.proofs.frame_at.Symbol.{name as #frame-at}
 use Rattle.frames.proofs.frame_at.Met as T-frame-at
-use Rattle.frames.specs.Frames.{frameAt}
+use Rattle.frames.specs.Frames.{frame_at}
 use Rattle.frame_check.proofs.Called.parent_of as S-parent-of
 use Rattle.frame_check.proofs.places.parent_of.Symbol as D-parent-of
 use Rattle.frame_check.proofs.places.parent_of.Symbol.{name as #parent-of}
@@ -72,7 +72,7 @@ use Rattle.frame_check.proofs.places.place_turn.Symbol as D-place-turn
 use Rattle.frame_check.proofs.places.place_turn.Symbol.{name as #place-turn}
 use Rattle.frame_check.proofs.places.place_turn.Met as T-place-turn
 use mathlib.Core.Bool.{◌&&◌}
-use Rattle.frame_check.specs.Algorithm.{recordSound}
+use Rattle.frame_check.specs.Algorithm.{record_sound}
 use Rattle.frame_check.specs.contracts.places.places_sound.Key.{name as #own}
 use Rattle.frame_check.specs.contracts.places.places_sound as f'
 use Rattle.frame_check.proofs.places.places_sound.Statement as stated
@@ -96,13 +96,13 @@ ty' i = ty_at (code.function).locals i
 
 -- the loop's body, and what runs after the loop
 abbrev turned' : Code
-turned' = turn-of (after 2 (code.function).body)
+turned' = turn_of_lem (after 2 (code.function).body)
 
 abbrev rest' : Code
 rest' = after 3 (code.function).body
 
 -- where a turn of the loop begins
-record State' (frames : List Frame) (tallies : List ℕ) (places : ℕ) (end : ℕ) (frames-fits : length frames < 2 ^ 64) (tallies-fits : length tallies < 2 ^ 64) (places-fits : places < 2 ^ 32) (end_fits : end < 2 ^ 32) (ok : (places ≡ length frames) × (places ≤ maxPlaces) × (end ≡ liveEnd frames)) : Type 0 where
+record State' (frames : List Frame) (tallies : List ℕ) (places : ℕ) (end : ℕ) (frames-fits : length frames < 2 ^ 64) (tallies-fits : length tallies < 2 ^ 64) (places-fits : places < 2 ^ 32) (end_fits : end < 2 ^ 32) (ok : (places ≡ length frames) × (places ≤ max_places) × (end ≡ live_end frames)) : Type 0 where
   v-sound : Bool
   v-p : ℕ
   g-p : v-p < 2 ^ 32
@@ -119,7 +119,7 @@ module _ {M : Type 1} {𝓤 : Ura M} (𝓛 : Logic 𝓤) (mem : Memory → SProp
   n-tallies = length tallies
 
   abbrev args' : Bor (List Frame) × (Bor (List ℕ) × (ℕ × (ℕ × Unit {0})))
-  args' = (at-list b-frames o-frames γ-frames frames, (at-list b-tallies o-tallies γ-tallies tallies, (places, (end, tt))))
+  args' = (at_list b-frames o-frames γ-frames frames, (at_list b-tallies o-tallies γ-tallies tallies, (places, (end, tt))))
 
   abbrev vals' : Vals f'.signature (κ-frames, (κ-tallies, tt))
   vals' = (slice_val (b-frames, o-frames) (length frames) ∷ [], (slice_val (b-tallies, o-tallies) (length tallies) ∷ [], (vint w32 places ∷ [], (vint w32 end ∷ [], tt))))
@@ -130,7 +130,7 @@ module _ {M : Type 1} {𝓤 : Ura M} (𝓛 : Logic 𝓤) (mem : Memory → SProp
   abbrev Post : Val → SProp 𝓤
   Post = (walk_of 𝓛 f'.ended stayed (f'.clauses 𝓛 mem run)).post bound'
 
-  exits' : (res' : Bool) → res' ≡ all (length frames) (placeTallied frames tallies) → ent 𝓤 (⋆ 𝓛 (‵ (Yours R-Frame κ-frames q-frames γ-frames b-frames o-frames n-frames frames) ∷ ‵ (Yours u32 κ-tallies q-tallies γ-tallies b-tallies o-tallies n-tallies tallies) ∷ [])) (Post (vbool res'))
+  exits' : (res' : Bool) → res' ≡ all (length frames) (place_tallied frames tallies) → ent 𝓤 (⋆ 𝓛 (‵ (Yours R-Frame κ-frames q-frames γ-frames b-frames o-frames n-frames frames) ∷ ‵ (Yours u32 κ-tallies q-tallies γ-tallies b-tallies o-tallies n-tallies tallies) ∷ [])) (Post (vbool res'))
   exits' res' e' =
       qed 𝓛 (‵ (Yours R-Frame κ-frames q-frames γ-frames b-frames o-frames n-frames frames) ∷ ‵ (Yours u32 κ-tallies q-tallies γ-tallies b-tallies o-tallies n-tallies tallies) ∷ []) ∵
       suffices ! _ (ends_at 𝓛 f'.ended stayed (f'.clauses 𝓛 mem run) bound' (vbool res') res' (tt, (tt, (tt, (tt, tt)))) (tt, (tt, (tt, (tt, tt))))) $ says ! e' $
@@ -142,7 +142,7 @@ module _ {M : Type 1} {𝓤 : Ura M} (𝓛 : Logic 𝓤) (mem : Memory → SProp
     abbrev fm : FmC 𝓤 H 𝓛.laws 𝓣.C
     fm = fm_of 𝓤 H 𝓛.laws 𝓣
 
-    module _ (ok' : (places ≡ length frames) × (places ≤ maxPlaces) × (end ≡ liveEnd frames)) (l₀ l₁ l₂ l₃ l₄ l₅ l₆ l₇ l₈ l₉ l₁₀ l₁₁ : ℕ) where
+    module _ (ok' : (places ≡ length frames) × (places ≤ max_places) × (end ≡ live_end frames)) (l₀ l₁ l₂ l₃ l₄ l₅ l₆ l₇ l₈ l₉ l₁₀ l₁₁ : ℕ) where
       abbrev S' : Type 0
       S' = State' frames tallies places end room-frames.0 room-tallies.0 places-fits end_fits ok'
 
@@ -167,7 +167,7 @@ module _ {M : Type 1} {𝓤 : Ura M} (𝓛 : Logic 𝓤) (mem : Memory → SProp
         unfolding after_turn
         turn' =
             assigns ! (bin ! (load ! (from ! (stop !)) (look ! 12 refl)) (load ! (from ! (stop !)) (look ! 16 refl)) tt) (from ! (stop !)) (init ! 4 refl (tt, tt)) $
-            exit-unless ! (load ! (from ! (stop !)) (look ! 4 refl))
+            exit_unless ! (load ! (from ! (stop !)) (look ! 4 refl))
             (λ test-3.
             exec ! 𝓣.C 𝓣.Λ En' rest' (at_ret En' Post) $
             assigns ! (of_opd ! (load ! (from ! (stop !)) (look ! 14 refl))) (from ! (stop !)) (init ! 24 refl (tt, tt)) $
@@ -177,10 +177,10 @@ module _ {M : Type 1} {𝓤 : Ura M} (𝓛 : Logic 𝓤) (mem : Memory → SProp
             (λ test-3.
             -- _7 = frame_check::links::siblings_sound(_1, _2, _3, _6)
             S-siblings-sound.step-gg mem run ! fm known-siblings-sound b-frames o-frames n-frames frames b-tallies o-tallies n-tallies tallies places p places-fits p-fits (F.needs-5 frames tallies places end room-frames.0 room-tallies.0 places-fits end_fits ok' sound p p-fits inv' (ltb→lt p end test-3))
-            (and_then ! (load ! (from ! (stop !)) (look ! 23 refl)) (and_then ! (load ! (from ! (stop !)) (look ! 21 refl)) (and_then ! (load ! (from ! (stop !)) (look ! 19 refl)) (and_then ! (load ! (from ! (stop !)) (look ! 13 refl)) (no_more !))))) (λ linked linked-is.
+            (and_then ! (load ! (from ! (stop !)) (look ! 23 refl)) (and_then ! (load ! (from ! (stop !)) (look ! 21 refl)) (and_then ! (load ! (from ! (stop !)) (look ! 19 refl)) (and_then ! (load ! (from ! (stop !)) (look ! 13 refl)) (no_more !))))) (λ linked linked_is.
             land ! (from ! (stop !)) (init ! 10 refl (tt, tt)) $
             -- _8 = frames::table::frame_at(_1, _6)
-            S-frame-at.step-g mem run ! fm known-frame-at b-frames o-frames n-frames frames p p-fits (F.needs-6 frames tallies places end room-frames.0 room-tallies.0 places-fits end_fits ok' sound p p-fits inv' (ltb→lt p end test-3) linked linked-is)
+            S-frame-at.step-g mem run ! fm known-frame-at b-frames o-frames n-frames frames p p-fits (F.needs-6 frames tallies places end room-frames.0 room-tallies.0 places-fits end_fits ok' sound p p-fits inv' (ltb→lt p end test-3) linked linked_is)
             (and_then ! (load ! (from ! (stop !)) (look ! 23 refl)) (and_then ! (load ! (from ! (stop !)) (look ! 13 refl)) (no_more !))) (λ f f-good f-is.
             land ! (from ! (stop !)) (init ! 8 refl ((LL.lawful M-Frame.the_type L-Frame.the_laws 𝓛).typed f _ f-good).0) $
             -- _11 = frame_check::places::parent_of(_8)
@@ -196,16 +196,16 @@ module _ {M : Type 1} {𝓤 : Ura M} (𝓛 : Logic 𝓤) (mem : Memory → SProp
             S-place-turn.step-g mem run ! fm known-place-turn b-tallies o-tallies n-tallies tallies sound linked places f g p places-fits f-good g-good p-fits
             (and_then ! (load ! (from ! (stop !)) (look ! 15 refl)) (and_then ! (load ! (from ! (stop !)) (look ! 11 refl)) (and_then ! (load ! (from ! (stop !)) (look ! 19 refl)) (and_then ! (load ! (from ! (stop !)) (look ! 9 refl)) (and_then ! (load ! (from ! (stop !)) (look ! 7 refl)) (and_then ! (load ! (from ! (stop !)) (look ! 21 refl)) (and_then ! (load ! (from ! (stop !)) (look ! 13 refl)) (no_more !)))))))) (λ sound' sound'-is.
             land ! (from ! (stop !)) (store ! 14 refl (tt, tt)) $
-            assigns_last ! (bin ! (load ! (from ! (stop !)) (look ! 12 refl)) (const ! _ tt) (record { fits = (F.small-10 frames tallies places end room-frames.0 room-tallies.0 places-fits end_fits ok' sound p p-fits inv' (ltb→lt p end test-3) linked linked-is f f-is r-7 r-7-fits r-7-is g g-is sound' sound'-is) })) (from ! (stop !)) (store ! 12 refl (tt, record { fits = (F.small-10 frames tallies places end room-frames.0 room-tallies.0 places-fits end_fits ok' sound p p-fits inv' (ltb→lt p end test-3) linked linked-is f f-is r-7 r-7-fits r-7-is g g-is sound' sound'-is) })) $
+            assigns_last ! (bin ! (load ! (from ! (stop !)) (look ! 12 refl)) (const ! _ tt) (record { fits = (F.small-10 frames tallies places end room-frames.0 room-tallies.0 places-fits end_fits ok' sound p p-fits inv' (ltb→lt p end test-3) linked linked_is f f-is r-7 r-7-fits r-7-is g g-is sound' sound'-is) })) (from ! (stop !)) (store ! 12 refl (tt, record { fits = (F.small-10 frames tallies places end room-frames.0 room-tallies.0 places-fits end_fits ok' sound p p-fits inv' (ltb→lt p end test-3) linked linked_is f f-is r-7 r-7-fits r-7-is g g-is sound' sound'-is) })) $
             forget ! 2 refl $ forget ! 4 refl $ forget ! 6 refl $ forget ! 8 refl $ forget ! 10 refl $
             move ! (1 ∷ 0 ∷ []) $
-            again ! Less' Inv' here' (record { v-sound = sound'; v-p = (p + 1); g-p = (F.small-10 frames tallies places end room-frames.0 room-tallies.0 places-fits end_fits ok' sound p p-fits inv' (ltb→lt p end test-3) linked linked-is f f-is r-7 r-7-fits r-7-is g g-is sound' sound'-is); holds = (F.goes_on frames tallies places end room-frames.0 room-tallies.0 places-fits end_fits ok' sound p p-fits inv' (ltb→lt p end test-3) linked linked-is f f-is r-7 r-7-fits r-7-is g g-is sound' sound'-is) }) (F.falls frames tallies places end room-frames.0 room-tallies.0 places-fits end_fits ok' sound p p-fits inv' (ltb→lt p end test-3) linked linked-is f f-is r-7 r-7-fits r-7-is g g-is sound' sound'-is)))))))
+            again ! Less' Inv' here' (record { v-sound = sound'; v-p = (p + 1); g-p = (F.small-10 frames tallies places end room-frames.0 room-tallies.0 places-fits end_fits ok' sound p p-fits inv' (ltb→lt p end test-3) linked linked_is f f-is r-7 r-7-fits r-7-is g g-is sound' sound'-is); holds = (F.goes_on frames tallies places end room-frames.0 room-tallies.0 places-fits end_fits ok' sound p p-fits inv' (ltb→lt p end test-3) linked linked_is f f-is r-7 r-7-fits r-7-is g g-is sound' sound'-is) }) (F.falls frames tallies places end room-frames.0 room-tallies.0 places-fits end_fits ok' sound p p-fits inv' (ltb→lt p end test-3) linked linked_is f f-is r-7 r-7-fits r-7-is g g-is sound' sound'-is)))))))
 
       loop' : Seq (Go {0}) 𝓛 (Inv' (record { v-sound = true; v-p = 0; g-p = (lit< tt); holds = (F.begins frames tallies places end room-frames.0 room-tallies.0 places-fits end_fits ok') })) (runs 𝓣.C 𝓣.Λ En' (loopᴹ turned') (any_q (after_block 𝓤 H (after_seq 𝓤 H (Wp 𝓤 H 𝓣.C 𝓣.Λ En' rest' (at_return 𝓤 H En' Post)) (at_return 𝓤 H En' Post)))))
       unfolding after_turn
       loop' = loops ! 𝓣 Less' less_wf Inv' (λ s'. turn' s'.v-sound s'.v-p s'.g-p s'.holds) (record { v-sound = true; v-p = 0; g-p = (lit< tt); holds = (F.begins frames tallies places end room-frames.0 room-tallies.0 places-fits end_fits ok') })
 
-    walk : (places ≡ length frames) × (places ≤ maxPlaces) × (end ≡ liveEnd frames) → ent 𝓤 (on_entry 𝓛 f'.signature (κ-frames, (κ-tallies, tt)) (q-frames, (q-tallies, tt)) args' vals') (WpFn 𝓤 H 𝓣.C 𝓣.Λ code.function (slice_val (b-frames, o-frames) (length frames) ∷ slice_val (b-tallies, o-tallies) (length tallies) ∷ vint w32 places ∷ vint w32 end ∷ []) Post)
+    walk : (places ≡ length frames) × (places ≤ max_places) × (end ≡ live_end frames) → ent 𝓤 (on_entry 𝓛 f'.signature (κ-frames, (κ-tallies, tt)) (q-frames, (q-tallies, tt)) args' vals') (WpFn 𝓤 H 𝓣.C 𝓣.Λ code.function (slice_val (b-frames, o-frames) (length frames) ∷ slice_val (b-tallies, o-tallies) (length tallies) ∷ vint w32 places ∷ vint w32 end ∷ []) Post)
     walk ok' =
         qed 𝓛 ((‵ (flft κ-frames q-frames) ⊛ ‵ (flft κ-tallies q-tallies) ⊛ ‵ ftrue) ∷ ‵ (owns (ShrSlice (named 0) κ-frames R-Frame ∷ ShrSlice (named 1) κ-tallies u32 ∷ u32 ∷ u32 ∷ []) args' vals') ∷ []) ∵ enter ! 𝓣.C 𝓣.Λ code.function (slice_val (b-frames, o-frames) (length frames) ∷ slice_val (b-tallies, o-tallies) (length tallies) ∷ vint w32 places ∷ vint w32 end ∷ []) _ $
         alloc1 ! (λ l₀. alloc1 ! (λ l₁. alloc1 ! (λ l₂. alloc1 ! (λ l₃. alloc1 ! (λ l₄. alloc1 ! (λ l₅. alloc1 ! (λ l₆. alloc1 ! (λ l₇. alloc1 ! (λ l₈. alloc1 ! (λ l₉. alloc1 ! (λ l₁₀. alloc1 ! (λ l₁₁. alloc0 ! $ params1 ! $
@@ -223,7 +223,7 @@ module _ {M : Type 1} {𝓤 : Ura M} (𝓛 : Logic 𝓤) (mem : Memory → SProp
   walks known-siblings-sound known-frame-at known-parent-of known-frame-or-zero known-place-turn = walked 𝓛 f'.ended stayed (f'.clauses 𝓛 mem run) (WpFn 𝓤 H 𝓣.C 𝓣.Λ code.function)
       (λ κs. (shr_slice_vals, (shr_slice_vals, (uint_vals w32, (uint_vals w32, tt)))))
       (λ κs. (shr_slice_Tells (named 0) κs.0 R-Frame, (shr_slice_Tells (named 1) κs.1.0 u32, (uint_Tells w32, (uint_Tells w32, tt)))))
-      (λ κs qs bounds a g are. needs 𝓤 ((a.1.1.0 ≡ length a.0.now) × (a.1.1.0 ≤ maxPlaces) × (a.1.1.1.0 ≡ liveEnd a.0.now)) _
+      (λ κs qs bounds a g are. needs 𝓤 ((a.1.1.0 ≡ length a.0.now) × (a.1.1.0 ≤ max_places) × (a.1.1.1.0 ≡ live_end a.0.now)) _
       (walk 𝓛 mem run κs.0 qs.0 a.0.ref_ptr.0 a.0.ref_ptr.1 0 a.0.now κs.1.0 qs.1.0 a.1.0.ref_ptr.0 a.1.0.ref_ptr.1 0 a.1.0.now a.1.1.0 are.1.1.0.1 a.1.1.1.0 are.1.1.1.0.1 are.0.0.1 are.1.0.0.1 𝓣 known-siblings-sound known-frame-at known-parent-of known-frame-or-zero known-place-turn))
 
   meets : Triple 𝓤 (𝓣.C #siblings-sound) (S-siblings-sound.Asked 𝓛 mem run) → Triple 𝓤 (𝓣.C #frame-at) (S-frame-at.Asked 𝓛 mem run) → Triple 𝓤 (𝓣.C #parent-of) (S-parent-of.Asked 𝓛 mem run) → Triple 𝓤 (𝓣.C #frame-or-zero) (S-frame-or-zero.Asked 𝓛 mem run) → Triple 𝓤 (𝓣.C #place-turn) (S-place-turn.Asked 𝓛 mem run) → Meets 𝓛 f'.signature (WpFn 𝓤 H 𝓣.C 𝓣.Λ code.function) (f'.spec 𝓛 mem run)
@@ -241,4 +241,4 @@ places-sound-spec 𝓤 𝓛 𝓜 𝓡 =
     (cited 𝓤 𝓛.H (S-frame-at.Asked 𝓛 𝓜.mem 𝓡.run) 𝓜 𝓡 code.env #frame-at D-frame-at.routine code.calls-frames::frame-at (T-frame-at.met 𝓤 𝓛 𝓜 𝓡))
     (cited 𝓤 𝓛.H (S-parent-of.Asked 𝓛 𝓜.mem 𝓡.run) 𝓜 𝓡 code.env #parent-of D-parent-of.routine code.calls-frame-check::places::parent-of (T-parent-of.met 𝓤 𝓛 𝓜 𝓡))
     (cited 𝓤 𝓛.H (S-frame-or-zero.Asked 𝓛 𝓜.mem 𝓡.run) 𝓜 𝓡 code.env #frame-or-zero D-frame-or-zero.routine code.calls-frames::frame-or-zero (T-frame-or-zero.met 𝓤 𝓛 𝓜 𝓡))
-    (cited 𝓤 𝓛.H (S-place-turn.Asked 𝓛 𝓜.mem 𝓡.run) 𝓜 𝓡 code.env #place-turn D-place-turn.routine code.calls-frame-check::places::place-turn (T-place-turn.met 𝓤 𝓛 𝓜 𝓡)))
+    (cited 𝓤 𝓛.H (S-place-turn.Asked 𝓛 𝓜.mem 𝓡.run) 𝓜 𝓡 code.env #place-turn D-place-turn.routine code.calls-frame-check::places::place_turn (T-place-turn.met 𝓤 𝓛 𝓜 𝓡)))

@@ -1,10 +1,10 @@
-use Rattle.frame_check.proofs.Laws.{child-dead, child-live}
+use Rattle.frame_check.proofs.Laws.{child_dead, child-live}
 use borrow.Author.Rules.{rules}
 use Rattle.frame_check.proofs.tallies.tally_child.Statement.{statement}
 use Rattle.frame_check.proofs.tallies.tally_child.Tie as tie
 
 returns : tie.Need-returns
-returns c = let a = c.before.before.before.args in child-dead a.tallies.now a.census a.p a.f c.if1.true
+returns c = let a = c.before.before.before.args in child_dead a.tallies.now a.census a.p a.f c.if1.true
 
 step-of-requires : tie.Need-step-of-requires
 step-of-requires c κs = search rules

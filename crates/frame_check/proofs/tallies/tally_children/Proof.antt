@@ -45,24 +45,24 @@ use denote.Triple.Statement.{Triple}
 use denote.Triple.Table.{entered, cited}
 use denote.Triple.Walked.{says, needs, Stays, stay_slice, stay_none, stay_none_slice, walk_of, Walks, ends_at, walked, Goes-slice, Goes-none, Goes-none_slice, walk_Meets}
 use borrow.Author.Rules.{scaled_Fits}
-use Rattle.frames.proofs.Lent.{at-list, Mine, Yours, ty_at, exit-unless, exit-if, leave-if, fork, skipped, regroup, matched, matched-last, const, is_true, is_false, not-not, differ, widen, less-fits, after, turn-of, take_out, put_in, put_back, look-out, look-back, free_all}
-use Rattle.frames.specs.Widths.{maxPlaces}
-use Rattle.frame_check.specs.Algorithm.{tallyChildren, censusTo}
+use Rattle.frames.proofs.Lent.{at_list, Mine, Yours, ty_at, exit_unless, exit_if, leave_if, fork, skipped, regroup, matched, matched_last, const, is_true, is_false, not_not, differ, widen, less_fits, after, turn_of_lem, take_out, put_in, put_back, look_out, look_back, free_all}
+use Rattle.frames.specs.Widths.{max_places}
+use Rattle.frame_check.specs.Algorithm.{tally_children, census_to}
 use Rattle.frame_check.proofs.Called.no_census as S-no-census
 use Rattle.frame_check.proofs.no_census.Symbol as D-no-census
 use Rattle.frame_check.proofs.no_census.Symbol.{name as #no-census}
 use Rattle.frame_check.proofs.no_census.Met as T-no-census
-use Rattle.frame_check.specs.Algorithm.{noCensus}
+use Rattle.frame_check.specs.Algorithm.{no_census}
 use Rattle.frame_check.proofs.Called.frame_at as S-frame-at
 use Rattle.frames.proofs.frame_at.Symbol as D-frame-at
 use Rattle.frames.proofs.frame_at.Symbol.{name as #frame-at}
 use Rattle.frames.proofs.frame_at.Met as T-frame-at
-use Rattle.frames.specs.Frames.{frameAt}
+use Rattle.frames.specs.Frames.{frame_at}
 use Rattle.frame_check.proofs.Called.tally_child as S-tally-child
 use Rattle.frame_check.proofs.tallies.tally_child.Symbol as D-tally-child
 use Rattle.frame_check.proofs.tallies.tally_child.Symbol.{name as #tally-child}
 use Rattle.frame_check.proofs.tallies.tally_child.Met as T-tally-child
-use Rattle.frame_check.specs.Algorithm.{counted, childTallied}
+use Rattle.frame_check.specs.Algorithm.{counted, child_tallied}
 use Rattle.frame_check.specs.contracts.tallies.tally_children.Key.{name as #own}
 use Rattle.frame_check.specs.contracts.tallies.tally_children as f'
 use Rattle.frame_check.proofs.tallies.tally_children.Statement as stated
@@ -95,13 +95,13 @@ ty' i = ty_at (code.function).locals i
 
 -- the loop's body, and what runs after the loop
 abbrev turned' : Code
-turned' = turn-of (after 2 (code.function).body)
+turned' = turn_of_lem (after 2 (code.function).body)
 
 abbrev rest' : Code
 rest' = after 3 (code.function).body
 
 -- where a turn of the loop begins
-record State' (tallies : List ℕ) (frames : List Frame) (places : ℕ) (tallies-fits : length tallies < 2 ^ 64) (frames-fits : length frames < 2 ^ 64) (places-fits : places < 2 ^ 32) (ok : (length tallies ≡ maxPlaces) × (places ≡ length frames) × (places ≤ maxPlaces)) (census : Census) (census-is : census ≡ noCensus) : Type 0 where
+record State' (tallies : List ℕ) (frames : List Frame) (places : ℕ) (tallies-fits : length tallies < 2 ^ 64) (frames-fits : length frames < 2 ^ 64) (places-fits : places < 2 ^ 32) (ok : (length tallies ≡ max_places) × (places ≡ length frames) × (places ≤ max_places)) (census : Census) (census-is : census ≡ no_census) : Type 0 where
   v-census' : Census
   g-census' : Is R-Census v-census' (val-Census v-census' ∷ [])
   v-p : ℕ
@@ -121,7 +121,7 @@ module _ {M : Type 1} {𝓤 : Ura M} (𝓛 : Logic 𝓤) (mem : Memory → SProp
   n-frames = length frames
 
   abbrev args' : Bor (List ℕ) × (Bor (List Frame) × (ℕ × Unit {0}))
-  args' = (at-list b-tallies o-tallies γ-tallies tallies, (at-list b-frames o-frames γ-frames frames, (places, tt)))
+  args' = (at_list b-tallies o-tallies γ-tallies tallies, (at_list b-frames o-frames γ-frames frames, (places, tt)))
 
   abbrev vals' : Vals f'.signature (κ-tallies, (κ-frames, tt))
   vals' = (slice_val (b-tallies, o-tallies) (length tallies) ∷ [], (slice_val (b-frames, o-frames) (length frames) ∷ [], (vint w32 places ∷ [], tt)))
@@ -132,7 +132,7 @@ module _ {M : Type 1} {𝓤 : Ura M} (𝓛 : Logic 𝓤) (mem : Memory → SProp
   abbrev Post : Val → SProp 𝓤
   Post = (walk_of 𝓛 f'.ended stayed (f'.clauses 𝓛 mem run)).post bound'
 
-  exits' : (res' : Census) (zs-tallies : List ℕ) → Is R-Census res' (val-Census res' ∷ []) → (zs-tallies ≡ tallyChildren frames tallies) × (res' ≡ censusTo frames (length frames)) → length zs-tallies ≡ length tallies → ent 𝓤 (⋆ 𝓛 (‵ (Mine u32 κ-tallies q-tallies γ-tallies b-tallies o-tallies n-tallies zs-tallies) ∷ ‵ (Yours R-Frame κ-frames q-frames γ-frames b-frames o-frames n-frames frames) ∷ [])) (Post (val-Census res'))
+  exits' : (res' : Census) (zs-tallies : List ℕ) → Is R-Census res' (val-Census res' ∷ []) → (zs-tallies ≡ tally_children frames tallies) × (res' ≡ census_to frames (length frames)) → length zs-tallies ≡ length tallies → ent 𝓤 (⋆ 𝓛 (‵ (Mine u32 κ-tallies q-tallies γ-tallies b-tallies o-tallies n-tallies zs-tallies) ∷ ‵ (Yours R-Frame κ-frames q-frames γ-frames b-frames o-frames n-frames frames) ∷ [])) (Post (val-Census res'))
   exits' res' zs-tallies good' e' same-tallies =
       qed 𝓛 (‵ (Mine u32 κ-tallies q-tallies γ-tallies b-tallies o-tallies n-tallies zs-tallies) ∷ ‵ (Yours R-Frame κ-frames q-frames γ-frames b-frames o-frames n-frames frames) ∷ []) ∵
       suffices ! _ (ends_at 𝓛 f'.ended stayed (f'.clauses 𝓛 mem run) bound' (val-Census res') res' (zs-tallies, (tt, (tt, tt))) (same-tallies, (tt, (tt, tt)))) $ says ! e' $
@@ -144,7 +144,7 @@ module _ {M : Type 1} {𝓤 : Ura M} (𝓛 : Logic 𝓤) (mem : Memory → SProp
     abbrev fm : FmC 𝓤 H 𝓛.laws 𝓣.C
     fm = fm_of 𝓤 H 𝓛.laws 𝓣
 
-    module _ (ok' : (length tallies ≡ maxPlaces) × (places ≡ length frames) × (places ≤ maxPlaces)) (census : Census) (census-is : census ≡ noCensus) (census-good : Is R-Census census (val-Census census ∷ [])) (l₀ l₁ l₂ l₃ l₄ l₅ l₆ l₇ l₈ l₉ : ℕ) where
+    module _ (ok' : (length tallies ≡ max_places) × (places ≡ length frames) × (places ≤ max_places)) (census : Census) (census-is : census ≡ no_census) (census-good : Is R-Census census (val-Census census ∷ [])) (l₀ l₁ l₂ l₃ l₄ l₅ l₆ l₇ l₈ l₉ : ℕ) where
       abbrev S' : Type 0
       S' = State' tallies frames places room-tallies.0 room-frames.0 places-fits ok' census census-is
 
@@ -169,7 +169,7 @@ module _ {M : Type 1} {𝓤 : Ura M} (𝓛 : Logic 𝓤) (mem : Memory → SProp
         unfolding after_turn
         turn' =
             assigns ! (bin ! (load ! (from ! (stop !)) (look ! 10 refl)) (load ! (from ! (stop !)) (look ! 14 refl)) tt) (from ! (stop !)) (init ! 6 refl (tt, tt)) $
-            exit-unless ! (load ! (from ! (stop !)) (look ! 6 refl))
+            exit_unless ! (load ! (from ! (stop !)) (look ! 6 refl))
             (λ test-4.
             exec ! 𝓣.C 𝓣.Λ En' rest' (at_ret En' Post) $
             assigns ! (of_opd ! (load ! (from ! (stop !)) (look ! 12 refl))) (from ! (stop !)) (init ! 20 refl ((LL.lawful M-Census.the_type L-Census.the_laws 𝓛).typed census' _ census'-good).0) $
@@ -197,7 +197,7 @@ module _ {M : Type 1} {𝓤 : Ura M} (𝓛 : Logic 𝓤) (mem : Memory → SProp
       unfolding after_turn
       loop' = loops ! 𝓣 Less' less_wf Inv' (λ s'. turn' s'.v-census' s'.v-p s'.l-tallies s'.g-census' s'.g-p s'.s-tallies s'.holds) (record { v-census' = census; g-census' = census-good; v-p = 0; g-p = (lit< tt); l-tallies = tallies; s-tallies = refl; holds = (F.begins tallies frames places room-tallies.0 room-frames.0 places-fits ok' census census-is) })
 
-    walk : (length tallies ≡ maxPlaces) × (places ≡ length frames) × (places ≤ maxPlaces) → ent 𝓤 (on_entry 𝓛 f'.signature (κ-tallies, (κ-frames, tt)) (q-tallies, (q-frames, tt)) args' vals') (WpFn 𝓤 H 𝓣.C 𝓣.Λ code.function (slice_val (b-tallies, o-tallies) (length tallies) ∷ slice_val (b-frames, o-frames) (length frames) ∷ vint w32 places ∷ []) Post)
+    walk : (length tallies ≡ max_places) × (places ≡ length frames) × (places ≤ max_places) → ent 𝓤 (on_entry 𝓛 f'.signature (κ-tallies, (κ-frames, tt)) (q-tallies, (q-frames, tt)) args' vals') (WpFn 𝓤 H 𝓣.C 𝓣.Λ code.function (slice_val (b-tallies, o-tallies) (length tallies) ∷ slice_val (b-frames, o-frames) (length frames) ∷ vint w32 places ∷ []) Post)
     walk ok' =
         qed 𝓛 ((‵ (flft κ-tallies q-tallies) ⊛ ‵ (flft κ-frames q-frames) ⊛ ‵ ftrue) ∷ ‵ (owns (MutSlice (named 0) κ-tallies u32 ∷ ShrSlice (named 1) κ-frames R-Frame ∷ u32 ∷ []) args' vals') ∷ []) ∵ enter ! 𝓣.C 𝓣.Λ code.function (slice_val (b-tallies, o-tallies) (length tallies) ∷ slice_val (b-frames, o-frames) (length frames) ∷ vint w32 places ∷ []) _ $
         alloc1 ! (λ l₀. alloc1 ! (λ l₁. alloc1 ! (λ l₂. alloc1 ! (λ l₃. alloc1 ! (λ l₄. alloc1 ! (λ l₅. alloc1 ! (λ l₆. alloc1 ! (λ l₇. alloc1 ! (λ l₈. alloc1 ! (λ l₉. alloc0 ! $ params1 ! $
@@ -218,7 +218,7 @@ module _ {M : Type 1} {𝓤 : Ura M} (𝓛 : Logic 𝓤) (mem : Memory → SProp
   walks known-no-census known-frame-at known-tally-child = walked 𝓛 f'.ended stayed (f'.clauses 𝓛 mem run) (WpFn 𝓤 H 𝓣.C 𝓣.Λ code.function)
       (λ κs. (shr_slice_vals, (shr_slice_vals, (uint_vals w32, tt))))
       (λ κs. (mut_slice_Tells (named 0) κs.0 u32, (shr_slice_Tells (named 1) κs.1.0 R-Frame, (uint_Tells w32, tt))))
-      (λ κs qs bounds a g are. needs 𝓤 ((length a.0.now ≡ maxPlaces) × (a.1.1.0 ≡ length a.1.0.now) × (a.1.1.0 ≤ maxPlaces)) _
+      (λ κs qs bounds a g are. needs 𝓤 ((length a.0.now ≡ max_places) × (a.1.1.0 ≡ length a.1.0.now) × (a.1.1.0 ≤ max_places)) _
       (walk 𝓛 mem run κs.0 qs.0 a.0.ref_ptr.0 a.0.ref_ptr.1 a.0.ghost_name a.0.now κs.1.0 qs.1.0 a.1.0.ref_ptr.0 a.1.0.ref_ptr.1 a.1.0.ghost_name a.1.0.now a.1.1.0 are.1.1.0.1 are.0.0.1 are.1.0.0.1 𝓣 known-no-census known-frame-at known-tally-child))
 
   meets : Triple 𝓤 (𝓣.C #no-census) (S-no-census.Asked 𝓛 mem run) → Triple 𝓤 (𝓣.C #frame-at) (S-frame-at.Asked 𝓛 mem run) → Triple 𝓤 (𝓣.C #tally-child) (S-tally-child.Asked 𝓛 mem run) → Meets 𝓛 f'.signature (WpFn 𝓤 H 𝓣.C 𝓣.Λ code.function) (f'.spec 𝓛 mem run)

@@ -5,8 +5,8 @@ use Prim.Native.Nat.{ℕ, ◌*◌}
 use lib.ListN.{get_or}
 use lib.Seq.{get_or-drop}
 use borrow.Author.Rules.{rules}
-use Rattle.frames.specs.Widths.{dequeStride}
-use Rattle.frames.specs.Theory.Sizes.{rest-is, bottom-is}
+use Rattle.frames.specs.Widths.{deque_stride}
+use Rattle.frames.specs.Theory.Sizes.{rest_is, bottom_is}
 use Rattle.frames.proofs.deques.acting_place.Statement.{statement}
 use Rattle.frames.proofs.deques.acting_place.Tie as tie
 
@@ -16,7 +16,7 @@ returns c =
     let ds = s.args.deques.now in
     let w = s.args.w in
     let n = s.args.n in
-    ap (λ (l : List ℕ). get_or l n 0) (rest-is (dequeStride * w) ds) ∙ get_or-drop (dequeStride * w) ds n 0 ∙ bottom-is ds w n s.requires.2 s.requires.3
+    ap (λ (l : List ℕ). get_or l n 0) (rest_is (deque_stride * w) ds) ∙ get_or-drop (deque_stride * w) ds n 0 ∙ bottom_is ds w n s.requires.2 s.requires.3
 
 pub acting-place-spec : {M : Type 1} → statement M
 acting-place-spec =

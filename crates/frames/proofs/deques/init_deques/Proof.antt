@@ -2,7 +2,7 @@
 use mathlib.Core.Path.{◌∙◌}
 use native.Mathlib.Omega.{arith}
 use borrow.Author.Rules.{rules}
-use Rattle.frames.specs.Deques.{size, initDeques}
+use Rattle.frames.specs.Deques.{size, init_deques}
 use Rattle.frames.proofs.deques.init_deques.Statement.{statement}
 use Rattle.frames.proofs.deques.init_deques.Tie as tie
 
@@ -16,7 +16,7 @@ push-on-requires c κs =
     (z.clear-all.auto.0 ∙ (start_of z).requires, omega arith, rw (z.clear-all.ensures, (start_of z).requires), omega arith)
 
 returns : tie.Need-returns
-unfolding initDeques
+unfolding init_deques
 returns c =
     let u = c.before.before in
     let z = u.before.before.before.before in

@@ -6,13 +6,13 @@ use Prim.Native.Nat.{ℕ, ◌+◌, ◌-◌, ◌≤◌}
 use native.Mathlib.Omega.{arith}
 use lib.ListN.{length, get_or, set, length-set}
 use borrow.Author.Rules.{rules}
-use Rattle.frames.specs.Deques.{shiftUp}
-use Rattle.frames.proofs.Loops.{sink-turn, sink-done}
+use Rattle.frames.specs.Deques.{shift_up}
+use Rattle.frames.proofs.Loops.{sink_turn, sink_done}
 use Rattle.frames.proofs.deques.take_in.Statement.{statement}
 use Rattle.frames.proofs.deques.take_in.Tie as tie
 
 abbrev invariant-loop : tie.invariant-loop
-invariant-loop deque₀ n k₀ deque k = (set (shiftUp (n - k) deque 0 (k - 1)) n 0 ≡ set (shiftUp (n - 1) deque₀ 0 0) n 0) × (length deque ≡ length deque₀) × (1 ≤ k)
+invariant-loop deque₀ n k₀ deque k = (set (shift_up (n - k) deque 0 (k - 1)) n 0 ≡ set (shift_up (n - 1) deque₀ 0 0) n 0) × (length deque ≡ length deque₀) × (1 ≤ k)
 
 abbrev decreases-loop : tie.decreases-loop
 decreases-loop deque₀ n k₀ deque k = n - k
@@ -31,7 +31,7 @@ loop-again c =
     let s = test.before.before.before in
     let a = get_or l.deque l.k 0 in
     let b = get_or l.deque (l.k + 1) 0 in (
-      sink-turn l.deque s.args.n l.k l.invariant.2 test.loop-test.true s.requires.2 ∙ l.invariant.0,
+      sink_turn l.deque s.args.n l.k l.invariant.2 test.loop-test.true s.requires.2 ∙ l.invariant.0,
       length-set (set l.deque (l.k + 1) a) l.k b ∙ length-set l.deque (l.k + 1) a ∙ l.invariant.1,
       omega (arith, l.invariant.2),
     )
@@ -54,7 +54,7 @@ returns c =
     let l = test.before.loop in
     let s = test.before.before.before in
     let n = s.args.n in
-    p.pop-in.ensures ∙ ap (λ (d : List ℕ). set d 0 (n - 1)) (ap (λ (d : List ℕ). set d n 0) (sym (sink-done l.deque n l.k test.loop-test.false)) ∙ l.invariant.0)
+    p.pop-in.ensures ∙ ap (λ (d : List ℕ). set d 0 (n - 1)) (ap (λ (d : List ℕ). set d n 0) (sym (sink_done l.deque n l.k test.loop-test.false)) ∙ l.invariant.0)
 
 pub take-in-spec : {M : Type 1} → statement M
 take-in-spec =

@@ -1,10 +1,10 @@
 use borrow.Author.Rules.{rules}
-use Rattle.frames.proofs.Ways.{not-added, is-added}
+use Rattle.frames.proofs.Ways.{not_added, is_added}
 use Rattle.frames.proofs.siblings.add_to_eldest.Statement.{statement}
 use Rattle.frames.proofs.siblings.add_to_eldest.Tie as tie
 
 returns : tie.Need-returns
-returns c = let a = c.before.before.before.args in not-added a.eldests.now a.c a.f c.if1.true
+returns c = let a = c.before.before.before.args in not_added a.eldests.now a.c a.f c.if1.true
 
 cast-q : tie.Need-overflow-cast-q
 cast-q c = search rules
@@ -30,7 +30,7 @@ returns-2 c =
     let w = s.before.before.before in
     let t = w.before.before.before in
     let a = t.before.before.before.args in
-    is-added a.eldests.now a.c a.f t.if1.false w.word.ensures s.before.add.ensures s.wrapping-sub.ensures c.before.before.put.ensures
+    is_added a.eldests.now a.c a.f t.if1.false w.word.ensures s.before.add.ensures s.wrapping-sub.ensures c.before.before.put.ensures
 
 pub add-to-eldest-spec : {M : Type 1} → statement M
 add-to-eldest-spec = tie.close (tie.spec returns cast-q word-requires add-requires wrapping-sub-requires put-requires same_length returns-2)

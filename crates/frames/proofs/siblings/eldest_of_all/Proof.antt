@@ -45,10 +45,10 @@ use denote.Triple.Statement.{Triple}
 use denote.Triple.Table.{entered, cited}
 use denote.Triple.Walked.{says, needs, Stays, stay_slice, stay_none, stay_none_slice, walk_of, Walks, ends_at, walked, Goes-slice, Goes-none, Goes-none_slice, walk_Meets}
 use borrow.Author.Rules.{scaled_Fits}
-use Rattle.frames.proofs.Lent.{at-list, Mine, Yours, ty_at, exit-unless, exit-if, leave-if, fork, skipped, regroup, matched, matched-last, const, is_true, is_false, not-not, differ, widen, less-fits, after, turn-of, take_out, put_in, put_back, look-out, look-back, free_all}
+use Rattle.frames.proofs.Lent.{at_list, Mine, Yours, ty_at, exit_unless, exit_if, leave_if, fork, skipped, regroup, matched, matched_last, const, is_true, is_false, not_not, differ, widen, less_fits, after, turn_of_lem, take_out, put_in, put_back, look_out, look_back, free_all}
 use lib.ListN.{replicate}
 use Rattle.words.specs.Basics.{none}
-use Rattle.frames.specs.Widths.{maxPlaces}
+use Rattle.frames.specs.Widths.{max_places}
 use Rattle.frames.specs.Siblings.{eldest}
 use Rattle.frames.proofs.Called.is_place as S-is-place
 use Rattle.frames.proofs.records.is_place.Symbol as D-is-place
@@ -58,7 +58,7 @@ use Rattle.frames.proofs.Called.frame_at as S-frame-at
 use Rattle.frames.proofs.table.frame_at.Symbol as D-frame-at
 use Rattle.frames.proofs.table.frame_at.Symbol.{name as #frame-at}
 use Rattle.frames.proofs.table.frame_at.Met as T-frame-at
-use Rattle.frames.specs.Frames.{frameAt}
+use Rattle.frames.specs.Frames.{frame_at}
 use Rattle.frames.proofs.Called.add_to_eldest as S-add-to-eldest
 use Rattle.frames.proofs.siblings.add_to_eldest.Symbol as D-add-to-eldest
 use Rattle.frames.proofs.siblings.add_to_eldest.Symbol.{name as #add-to-eldest}
@@ -88,13 +88,13 @@ ty' i = ty_at (code.function).locals i
 
 -- the loop's body, and what runs after the loop
 abbrev turned' : Code
-turned' = turn-of (after 1 (code.function).body)
+turned' = turn_of_lem (after 1 (code.function).body)
 
 abbrev rest' : Code
 rest' = after 2 (code.function).body
 
 -- where a turn of the loop begins
-record State' (frames : List Frame) (eldests : List ℕ) (frames-fits : length frames < 2 ^ 64) (eldests-fits : length eldests < 2 ^ 64) (ok : (length frames ≤ maxPlaces) × (eldests ≡ replicate maxPlaces none)) : Type 0 where
+record State' (frames : List Frame) (eldests : List ℕ) (frames-fits : length frames < 2 ^ 64) (eldests-fits : length eldests < 2 ^ 64) (ok : (length frames ≤ max_places) × (eldests ≡ replicate max_places none)) : Type 0 where
   v-c : ℕ
   g-c : v-c < 2 ^ 32
   l-eldests : List ℕ
@@ -112,7 +112,7 @@ module _ {M : Type 1} {𝓤 : Ura M} (𝓛 : Logic 𝓤) (mem : Memory → SProp
   n-eldests = length eldests
 
   abbrev args' : Bor (List Frame) × (Bor (List ℕ) × Unit {0})
-  args' = (at-list b-frames o-frames γ-frames frames, (at-list b-eldests o-eldests γ-eldests eldests, tt))
+  args' = (at_list b-frames o-frames γ-frames frames, (at_list b-eldests o-eldests γ-eldests eldests, tt))
 
   abbrev vals' : Vals f'.signature (κ-frames, (κ-eldests, tt))
   vals' = (slice_val (b-frames, o-frames) (length frames) ∷ [], (slice_val (b-eldests, o-eldests) (length eldests) ∷ [], tt))
@@ -123,7 +123,7 @@ module _ {M : Type 1} {𝓤 : Ura M} (𝓛 : Logic 𝓤) (mem : Memory → SProp
   abbrev Post : Val → SProp 𝓤
   Post = (walk_of 𝓛 f'.ended stayed (f'.clauses 𝓛 mem run)).post bound'
 
-  exits' : (zs-eldests : List ℕ) → ((q : ℕ) → q < maxPlaces → get_or zs-eldests q 0 ≡ eldest frames q) → length zs-eldests ≡ length eldests → ent 𝓤 (⋆ 𝓛 (‵ (Yours R-Frame κ-frames q-frames γ-frames b-frames o-frames n-frames frames) ∷ ‵ (Mine u32 κ-eldests q-eldests γ-eldests b-eldests o-eldests n-eldests zs-eldests) ∷ [])) (Post (vunit))
+  exits' : (zs-eldests : List ℕ) → ((q : ℕ) → q < max_places → get_or zs-eldests q 0 ≡ eldest frames q) → length zs-eldests ≡ length eldests → ent 𝓤 (⋆ 𝓛 (‵ (Yours R-Frame κ-frames q-frames γ-frames b-frames o-frames n-frames frames) ∷ ‵ (Mine u32 κ-eldests q-eldests γ-eldests b-eldests o-eldests n-eldests zs-eldests) ∷ [])) (Post (vunit))
   exits' zs-eldests e' same-eldests =
       qed 𝓛 (‵ (Yours R-Frame κ-frames q-frames γ-frames b-frames o-frames n-frames frames) ∷ ‵ (Mine u32 κ-eldests q-eldests γ-eldests b-eldests o-eldests n-eldests zs-eldests) ∷ []) ∵
       suffices ! _ (ends_at 𝓛 f'.ended stayed (f'.clauses 𝓛 mem run) bound' (vunit) tt (tt, (zs-eldests, tt)) (tt, (same-eldests, tt))) $ says ! e' $
@@ -135,7 +135,7 @@ module _ {M : Type 1} {𝓤 : Ura M} (𝓛 : Logic 𝓤) (mem : Memory → SProp
     abbrev fm : FmC 𝓤 H 𝓛.laws 𝓣.C
     fm = fm_of 𝓤 H 𝓛.laws 𝓣
 
-    module _ (ok' : (length frames ≤ maxPlaces) × (eldests ≡ replicate maxPlaces none)) (l₀ l₁ l₂ l₃ l₄ l₅ l₆ l₇ l₈ l₉ : ℕ) where
+    module _ (ok' : (length frames ≤ max_places) × (eldests ≡ replicate max_places none)) (l₀ l₁ l₂ l₃ l₄ l₅ l₆ l₇ l₈ l₉ : ℕ) where
       abbrev S' : Type 0
       S' = State' frames eldests room-frames.0 room-eldests.0 ok'
 
@@ -164,7 +164,7 @@ module _ {M : Type 1} {𝓤 : Ura M} (𝓛 : Logic 𝓤) (mem : Memory → SProp
             S-is-place.step mem run ! fm known-is-place c (length frames) c-fits room-frames.0
             (and_then ! (load ! (from ! (stop !)) (look ! 15 refl)) (and_then ! (load ! (from ! (stop !)) (look ! 9 refl)) (no_more !))) (λ r-2 r-2-is.
             land ! (from ! (stop !)) (init ! 10 refl (tt, tt)) $
-            exit-unless ! (load ! (from ! (stop !)) (look ! 10 refl))
+            exit_unless ! (load ! (from ! (stop !)) (look ! 10 refl))
             (λ test-3.
             exec ! 𝓣.C 𝓣.Λ En' rest' (at_ret En' Post) $
             assigns ! (of_opd ! (const ! _ tt)) (from ! (stop !)) (init ! 20 refl (tt, tt)) $
@@ -192,7 +192,7 @@ module _ {M : Type 1} {𝓤 : Ura M} (𝓛 : Logic 𝓤) (mem : Memory → SProp
       unfolding after_turn
       loop' = loops ! 𝓣 Less' less_wf Inv' (λ s'. turn' s'.v-c s'.l-eldests s'.g-c s'.s-eldests s'.holds) (record { v-c = 0; g-c = (lit< tt); l-eldests = eldests; s-eldests = refl; holds = (F.begins frames eldests room-frames.0 room-eldests.0 ok') })
 
-    walk : (length frames ≤ maxPlaces) × (eldests ≡ replicate maxPlaces none) → ent 𝓤 (on_entry 𝓛 f'.signature (κ-frames, (κ-eldests, tt)) (q-frames, (q-eldests, tt)) args' vals') (WpFn 𝓤 H 𝓣.C 𝓣.Λ code.function (slice_val (b-frames, o-frames) (length frames) ∷ slice_val (b-eldests, o-eldests) (length eldests) ∷ []) Post)
+    walk : (length frames ≤ max_places) × (eldests ≡ replicate max_places none) → ent 𝓤 (on_entry 𝓛 f'.signature (κ-frames, (κ-eldests, tt)) (q-frames, (q-eldests, tt)) args' vals') (WpFn 𝓤 H 𝓣.C 𝓣.Λ code.function (slice_val (b-frames, o-frames) (length frames) ∷ slice_val (b-eldests, o-eldests) (length eldests) ∷ []) Post)
     walk ok' =
         qed 𝓛 ((‵ (flft κ-frames q-frames) ⊛ ‵ (flft κ-eldests q-eldests) ⊛ ‵ ftrue) ∷ ‵ (owns (ShrSlice (named 0) κ-frames R-Frame ∷ MutSlice (named 1) κ-eldests u32 ∷ []) args' vals') ∷ []) ∵ enter ! 𝓣.C 𝓣.Λ code.function (slice_val (b-frames, o-frames) (length frames) ∷ slice_val (b-eldests, o-eldests) (length eldests) ∷ []) _ $
         alloc1 ! (λ l₀. alloc1 ! (λ l₁. alloc1 ! (λ l₂. alloc1 ! (λ l₃. alloc1 ! (λ l₄. alloc1 ! (λ l₅. alloc1 ! (λ l₆. alloc1 ! (λ l₇. alloc1 ! (λ l₈. alloc1 ! (λ l₉. alloc0 ! $ params1 ! $
@@ -209,7 +209,7 @@ module _ {M : Type 1} {𝓤 : Ura M} (𝓛 : Logic 𝓤) (mem : Memory → SProp
   walks known-is-place known-frame-at known-add-to-eldest = walked 𝓛 f'.ended stayed (f'.clauses 𝓛 mem run) (WpFn 𝓤 H 𝓣.C 𝓣.Λ code.function)
       (λ κs. (shr_slice_vals, (shr_slice_vals, tt)))
       (λ κs. (shr_slice_Tells (named 0) κs.0 R-Frame, (mut_slice_Tells (named 1) κs.1.0 u32, tt)))
-      (λ κs qs bounds a g are. needs 𝓤 ((length a.0.now ≤ maxPlaces) × (a.1.0.now ≡ replicate maxPlaces none)) _
+      (λ κs qs bounds a g are. needs 𝓤 ((length a.0.now ≤ max_places) × (a.1.0.now ≡ replicate max_places none)) _
       (walk 𝓛 mem run κs.0 qs.0 a.0.ref_ptr.0 a.0.ref_ptr.1 a.0.ghost_name a.0.now κs.1.0 qs.1.0 a.1.0.ref_ptr.0 a.1.0.ref_ptr.1 a.1.0.ghost_name a.1.0.now are.0.0.1 are.1.0.0.1 𝓣 known-is-place known-frame-at known-add-to-eldest))
 
   meets : Triple 𝓤 (𝓣.C #is-place) (S-is-place.Asked 𝓛 mem run) → Triple 𝓤 (𝓣.C #frame-at) (S-frame-at.Asked 𝓛 mem run) → Triple 𝓤 (𝓣.C #add-to-eldest) (S-add-to-eldest.Asked 𝓛 mem run) → Meets 𝓛 f'.signature (WpFn 𝓤 H 𝓣.C 𝓣.Λ code.function) (f'.spec 𝓛 mem run)

@@ -45,14 +45,14 @@ use denote.Triple.Statement.{Triple}
 use denote.Triple.Table.{entered, cited}
 use denote.Triple.Walked.{says, needs, Stays, stay_slice, stay_none, stay_none_slice, walk_of, Walks, ends_at, walked, Goes-slice, Goes-none, Goes-none_slice, walk_Meets}
 use borrow.Author.Rules.{scaled_Fits}
-use Rattle.frames.proofs.Lent.{at-list, Mine, Yours, ty_at, exit-unless, exit-if, leave-if, fork, skipped, regroup, matched, matched-last, const, is_true, is_false, not-not, differ, widen, less-fits, after, turn-of, take_out, put_in, put_back, look-out, look-back, free_all}
-use Rattle.frames.specs.Widths.{maxPlaces}
-use Rattle.frames.specs.Siblings.{eldest, firstFrom}
+use Rattle.frames.proofs.Lent.{at_list, Mine, Yours, ty_at, exit_unless, exit_if, leave_if, fork, skipped, regroup, matched, matched_last, const, is_true, is_false, not_not, differ, widen, less_fits, after, turn_of_lem, take_out, put_in, put_back, look_out, look_back, free_all}
+use Rattle.frames.specs.Widths.{max_places}
+use Rattle.frames.specs.Siblings.{eldest, first_from}
 use Rattle.frames.proofs.Called.frame_or_zero as S-frame-or-zero
 use Rattle.frames.proofs.table.frame_or_zero.Symbol as D-frame-or-zero
 use Rattle.frames.proofs.table.frame_or_zero.Symbol.{name as #frame-or-zero}
 use Rattle.frames.proofs.table.frame_or_zero.Met as T-frame-or-zero
-use Rattle.frames.specs.Frames.{frameAt}
+use Rattle.frames.specs.Frames.{frame_at}
 use Rattle.frames.specs.contracts.siblings.first_by.Key.{name as #own}
 use Rattle.frames.specs.contracts.siblings.first_by as f'
 use Rattle.frames.proofs.siblings.first_by.Statement as stated
@@ -85,13 +85,13 @@ ty' i = ty_at (code.function).locals i
 
 -- the loop's body, and what runs after the loop
 abbrev turned' : Code
-turned' = turn-of (after 2 (code.function).body)
+turned' = turn_of_lem (after 2 (code.function).body)
 
 abbrev rest' : Code
 rest' = after 3 (code.function).body
 
 -- where a turn of the loop begins
-record State' (frames : List Frame) (eldests : List ℕ) (q : ℕ) (frames-fits : length frames < 2 ^ 64) (eldests-fits : length eldests < 2 ^ 64) (q-fits : q < 2 ^ 32) (ok : (length frames ≤ maxPlaces) × (length eldests ≡ maxPlaces) × ((p : ℕ) → p < maxPlaces → get_or eldests p 0 ≡ eldest frames p)) : Type 0 where
+record State' (frames : List Frame) (eldests : List ℕ) (q : ℕ) (frames-fits : length frames < 2 ^ 64) (eldests-fits : length eldests < 2 ^ 64) (q-fits : q < 2 ^ 32) (ok : (length frames ≤ max_places) × (length eldests ≡ max_places) × ((p : ℕ) → p < max_places → get_or eldests p 0 ≡ eldest frames p)) : Type 0 where
   v-more : ℕ
   g-more : v-more < 2 ^ 64
   v-p : ℕ
@@ -109,7 +109,7 @@ module _ {M : Type 1} {𝓤 : Ura M} (𝓛 : Logic 𝓤) (mem : Memory → SProp
   n-eldests = length eldests
 
   abbrev args' : Bor (List Frame) × (Bor (List ℕ) × (ℕ × Unit {0}))
-  args' = (at-list b-frames o-frames γ-frames frames, (at-list b-eldests o-eldests γ-eldests eldests, (q, tt)))
+  args' = (at_list b-frames o-frames γ-frames frames, (at_list b-eldests o-eldests γ-eldests eldests, (q, tt)))
 
   abbrev vals' : Vals f'.signature (κ-frames, (κ-eldests, tt))
   vals' = (slice_val (b-frames, o-frames) (length frames) ∷ [], (slice_val (b-eldests, o-eldests) (length eldests) ∷ [], (vint w32 q ∷ [], tt)))
@@ -120,7 +120,7 @@ module _ {M : Type 1} {𝓤 : Ura M} (𝓛 : Logic 𝓤) (mem : Memory → SProp
   abbrev Post : Val → SProp 𝓤
   Post = (walk_of 𝓛 f'.ended stayed (f'.clauses 𝓛 mem run)).post bound'
 
-  exits' : (res' : ℕ) → res' < 2 ^ 32 → res' ≡ firstFrom (length frames) frames q → ent 𝓤 (⋆ 𝓛 (‵ (Yours R-Frame κ-frames q-frames γ-frames b-frames o-frames n-frames frames) ∷ ‵ (Yours u32 κ-eldests q-eldests γ-eldests b-eldests o-eldests n-eldests eldests) ∷ [])) (Post (vint w32 res'))
+  exits' : (res' : ℕ) → res' < 2 ^ 32 → res' ≡ first_from (length frames) frames q → ent 𝓤 (⋆ 𝓛 (‵ (Yours R-Frame κ-frames q-frames γ-frames b-frames o-frames n-frames frames) ∷ ‵ (Yours u32 κ-eldests q-eldests γ-eldests b-eldests o-eldests n-eldests eldests) ∷ [])) (Post (vint w32 res'))
   exits' res' good' e' =
       qed 𝓛 (‵ (Yours R-Frame κ-frames q-frames γ-frames b-frames o-frames n-frames frames) ∷ ‵ (Yours u32 κ-eldests q-eldests γ-eldests b-eldests o-eldests n-eldests eldests) ∷ []) ∵
       suffices ! _ (ends_at 𝓛 f'.ended stayed (f'.clauses 𝓛 mem run) bound' (vint w32 res') res' (tt, (tt, (tt, tt))) (tt, (tt, (tt, tt)))) $ says ! e' $
@@ -132,7 +132,7 @@ module _ {M : Type 1} {𝓤 : Ura M} (𝓛 : Logic 𝓤) (mem : Memory → SProp
     abbrev fm : FmC 𝓤 H 𝓛.laws 𝓣.C
     fm = fm_of 𝓤 H 𝓛.laws 𝓣
 
-    module _ (ok' : (length frames ≤ maxPlaces) × (length eldests ≡ maxPlaces) × ((p : ℕ) → p < maxPlaces → get_or eldests p 0 ≡ eldest frames p)) (l₀ l₁ l₂ l₃ l₄ l₅ l₆ l₇ l₈ l₉ l₁₀ l₁₁ : ℕ) where
+    module _ (ok' : (length frames ≤ max_places) × (length eldests ≡ max_places) × ((p : ℕ) → p < max_places → get_or eldests p 0 ≡ eldest frames p)) (l₀ l₁ l₂ l₃ l₄ l₅ l₆ l₇ l₈ l₉ l₁₀ l₁₁ : ℕ) where
       abbrev S' : Type 0
       S' = State' frames eldests q room-frames.0 room-eldests.0 q-fits ok'
 
@@ -157,7 +157,7 @@ module _ {M : Type 1} {𝓤 : Ura M} (𝓛 : Logic 𝓤) (mem : Memory → SProp
         unfolding after_turn
         turn' =
             assigns ! (bin ! (const ! _ tt) (load ! (from ! (stop !)) (look ! 16 refl)) tt) (from ! (stop !)) (init ! 12 refl (tt, tt)) $
-            exit-unless ! (load ! (from ! (stop !)) (look ! 12 refl))
+            exit_unless ! (load ! (from ! (stop !)) (look ! 12 refl))
             (λ test-3.
             exec ! 𝓣.C 𝓣.Λ En' rest' (at_ret En' Post) $
             assigns ! (of_opd ! (load ! (from ! (stop !)) (look ! 14 refl))) (from ! (stop !)) (init ! 24 refl (tt, record { fits = p-fits })) $
@@ -170,7 +170,7 @@ module _ {M : Type 1} {𝓤 : Ura M} (𝓛 : Logic 𝓤) (mem : Memory → SProp
             (and_then ! (load ! (from ! (stop !)) (look ! 23 refl)) (and_then ! (load ! (from ! (stop !)) (look ! 15 refl)) (no_more !))) (λ r-5 r-5-good r-5-is.
             land ! (from ! (stop !)) (init ! 10 refl ((LL.lawful M-Frame.the_type L-Frame.the_laws 𝓛).typed r-5 _ r-5-good).0) $
             assigns ! (bin ! (load ! (from ! (fld ! refl (stop !))) (look_in ! 10 (sub ! 3 refl (whole !)))) (const ! _ tt) tt) (from ! (stop !)) (store ! 12 refl (tt, tt)) $
-            leave-if ! (load ! (from ! (stop !)) (look ! 12 refl))
+            leave_if ! (load ! (from ! (stop !)) (look ! 12 refl))
             (λ test-6.
             assigns ! (of_opd ! (load ! (from ! (stop !)) (look ! 14 refl))) (from ! (stop !)) (init ! 24 refl (tt, record { fits = p-fits })) $
             returns_within ! Post refl (look ! 24 refl) $ forget ! 10 refl $ forget ! 12 refl $ forget ! 14 refl $ forget ! 16 refl $ forget ! 18 refl $ forget ! 20 refl $ forget ! 22 refl $ forget ! 24 refl $
@@ -182,20 +182,20 @@ module _ {M : Type 1} {𝓤 : Ura M} (𝓛 : Logic 𝓤) (mem : Memory → SProp
             assigns ! (bin ! (load ! (from ! (fld ! refl (stop !))) (look_in ! 20 (sub ! 0 refl (whole !)))) (load ! (from ! (stop !)) (look ! 6 refl)) tt) (from ! (stop !)) (init ! 4 refl (tt, tt)) $
             rewrite ! 4 (λ (p' : ℕ). ‵ (fat full_share ty_ptr l₁₀ 0 (vptr b-eldests p'))) (sym (place_is 4 o-eldests p)) refl $
             move ! (1 ∷ []) $
-            look-out ! tt u32 (uint_vals w32) (uint_Tells w32) (uint_copy 𝓛 w32) b-eldests o-eldests n-eldests eldests p 0 (F.inside-8 frames eldests q room-frames.0 room-eldests.0 q-fits ok' more p more-fits p-fits inv' (ltb→lt 0 more test-3) r-5 r-5-is (differ r-5.outstanding 0 test-6)) (λ q-9 r-9 r-9-is r-9-good.
+            look_out ! tt u32 (uint_vals w32) (uint_Tells w32) (uint_copy 𝓛 w32) b-eldests o-eldests n-eldests eldests p 0 (F.inside-8 frames eldests q room-frames.0 room-eldests.0 q-fits ok' more p more-fits p-fits inv' (ltb→lt 0 more test-3) r-5 r-5-is (differ r-5.outstanding 0 test-6)) (λ q-9 r-9 r-9-is r-9-good.
             assigns ! (of_opd ! (load ! (from ! (hop ! (look ! 5 refl) (stop !))) (look_raw ! 0 refl))) (from ! (stop !)) (init ! 3 refl (tt, record { fits = r-9-good.1 })) $
-            look-back ! tt u32 (uint_Makes 𝓛 w32) q-9 b-eldests o-eldests n-eldests eldests p 0 r-9 (vint w32 r-9 ∷ []) (refl) room-eldests (F.inside-8 frames eldests q room-frames.0 room-eldests.0 q-fits ok' more p more-fits p-fits inv' (ltb→lt 0 more test-3) r-5 r-5-is (differ r-5.outstanding 0 test-6)) r-9-is r-9-good $
+            look_back ! tt u32 (uint_Makes 𝓛 w32) q-9 b-eldests o-eldests n-eldests eldests p 0 r-9 (vint w32 r-9 ∷ []) (refl) room-eldests (F.inside-8 frames eldests q room-frames.0 room-eldests.0 q-fits ok' more p more-fits p-fits inv' (ltb→lt 0 more test-3) r-5 r-5-is (differ r-5.outstanding 0 test-6)) r-9-is r-9-good $
             assigns ! (of_opd ! (load ! (from ! (stop !)) (look ! 2 refl))) (from ! (stop !)) (store ! 14 refl (tt, record { fits = r-9-good.1 })) $
-            assigns_last ! (bin ! (load ! (from ! (stop !)) (look ! 16 refl)) (const ! _ tt) (F.small-10 frames eldests q room-frames.0 room-eldests.0 q-fits ok' more p more-fits p-fits inv' (ltb→lt 0 more test-3) r-5 r-5-is (differ r-5.outstanding 0 test-6) r-9 r-9-good.1 r-9-is)) (from ! (stop !)) (store ! 16 refl (tt, record { fits = (less-fits more 1 (2 ^ 64) more-fits) })) $
+            assigns_last ! (bin ! (load ! (from ! (stop !)) (look ! 16 refl)) (const ! _ tt) (F.small-10 frames eldests q room-frames.0 room-eldests.0 q-fits ok' more p more-fits p-fits inv' (ltb→lt 0 more test-3) r-5 r-5-is (differ r-5.outstanding 0 test-6) r-9 r-9-good.1 r-9-is)) (from ! (stop !)) (store ! 16 refl (tt, record { fits = (less_fits more 1 (2 ^ 64) more-fits) })) $
             forget ! 2 refl $ forget ! 4 refl $ forget ! 6 refl $ forget ! 8 refl $ forget ! 10 refl $ forget ! 12 refl $
             move ! (1 ∷ 0 ∷ []) $
-            again ! Less' Inv' here' (record { v-more = (more - 1); g-more = (less-fits more 1 (2 ^ 64) more-fits); v-p = r-9; g-p = r-9-good.1; holds = (F.goes_on frames eldests q room-frames.0 room-eldests.0 q-fits ok' more p more-fits p-fits inv' (ltb→lt 0 more test-3) r-5 r-5-is (differ r-5.outstanding 0 test-6) r-9 r-9-good.1 r-9-is) }) (F.falls frames eldests q room-frames.0 room-eldests.0 q-fits ok' more p more-fits p-fits inv' (ltb→lt 0 more test-3) r-5 r-5-is (differ r-5.outstanding 0 test-6) r-9 r-9-good.1 r-9-is)))))
+            again ! Less' Inv' here' (record { v-more = (more - 1); g-more = (less_fits more 1 (2 ^ 64) more-fits); v-p = r-9; g-p = r-9-good.1; holds = (F.goes_on frames eldests q room-frames.0 room-eldests.0 q-fits ok' more p more-fits p-fits inv' (ltb→lt 0 more test-3) r-5 r-5-is (differ r-5.outstanding 0 test-6) r-9 r-9-good.1 r-9-is) }) (F.falls frames eldests q room-frames.0 room-eldests.0 q-fits ok' more p more-fits p-fits inv' (ltb→lt 0 more test-3) r-5 r-5-is (differ r-5.outstanding 0 test-6) r-9 r-9-good.1 r-9-is)))))
 
       loop' : Seq (Go {0}) 𝓛 (Inv' (record { v-more = (length frames); g-more = room-frames.0; v-p = q; g-p = q-fits; holds = (F.begins frames eldests q room-frames.0 room-eldests.0 q-fits ok') })) (runs 𝓣.C 𝓣.Λ En' (loopᴹ turned') (any_q (after_block 𝓤 H (after_seq 𝓤 H (Wp 𝓤 H 𝓣.C 𝓣.Λ En' rest' (at_return 𝓤 H En' Post)) (at_return 𝓤 H En' Post)))))
       unfolding after_turn
       loop' = loops ! 𝓣 Less' less_wf Inv' (λ s'. turn' s'.v-more s'.v-p s'.g-more s'.g-p s'.holds) (record { v-more = (length frames); g-more = room-frames.0; v-p = q; g-p = q-fits; holds = (F.begins frames eldests q room-frames.0 room-eldests.0 q-fits ok') })
 
-    walk : (length frames ≤ maxPlaces) × (length eldests ≡ maxPlaces) × ((p : ℕ) → p < maxPlaces → get_or eldests p 0 ≡ eldest frames p) → ent 𝓤 (on_entry 𝓛 f'.signature (κ-frames, (κ-eldests, tt)) (q-frames, (q-eldests, tt)) args' vals') (WpFn 𝓤 H 𝓣.C 𝓣.Λ code.function (slice_val (b-frames, o-frames) (length frames) ∷ slice_val (b-eldests, o-eldests) (length eldests) ∷ vint w32 q ∷ []) Post)
+    walk : (length frames ≤ max_places) × (length eldests ≡ max_places) × ((p : ℕ) → p < max_places → get_or eldests p 0 ≡ eldest frames p) → ent 𝓤 (on_entry 𝓛 f'.signature (κ-frames, (κ-eldests, tt)) (q-frames, (q-eldests, tt)) args' vals') (WpFn 𝓤 H 𝓣.C 𝓣.Λ code.function (slice_val (b-frames, o-frames) (length frames) ∷ slice_val (b-eldests, o-eldests) (length eldests) ∷ vint w32 q ∷ []) Post)
     walk ok' =
         qed 𝓛 ((‵ (flft κ-frames q-frames) ⊛ ‵ (flft κ-eldests q-eldests) ⊛ ‵ ftrue) ∷ ‵ (owns (ShrSlice (named 0) κ-frames R-Frame ∷ ShrSlice (named 1) κ-eldests u32 ∷ u32 ∷ []) args' vals') ∷ []) ∵ enter ! 𝓣.C 𝓣.Λ code.function (slice_val (b-frames, o-frames) (length frames) ∷ slice_val (b-eldests, o-eldests) (length eldests) ∷ vint w32 q ∷ []) _ $
         alloc1 ! (λ l₀. alloc1 ! (λ l₁. alloc1 ! (λ l₂. alloc1 ! (λ l₃. alloc1 ! (λ l₄. alloc1 ! (λ l₅. alloc1 ! (λ l₆. alloc1 ! (λ l₇. alloc1 ! (λ l₈. alloc1 ! (λ l₉. alloc1 ! (λ l₁₀. alloc1 ! (λ l₁₁. alloc0 ! $ params1 ! $
@@ -213,7 +213,7 @@ module _ {M : Type 1} {𝓤 : Ura M} (𝓛 : Logic 𝓤) (mem : Memory → SProp
   walks known-frame-or-zero = walked 𝓛 f'.ended stayed (f'.clauses 𝓛 mem run) (WpFn 𝓤 H 𝓣.C 𝓣.Λ code.function)
       (λ κs. (shr_slice_vals, (shr_slice_vals, (uint_vals w32, tt))))
       (λ κs. (shr_slice_Tells (named 0) κs.0 R-Frame, (shr_slice_Tells (named 1) κs.1.0 u32, (uint_Tells w32, tt))))
-      (λ κs qs bounds a g are. needs 𝓤 ((length a.0.now ≤ maxPlaces) × (length a.1.0.now ≡ maxPlaces) × ((p : ℕ) → p < maxPlaces → get_or a.1.0.now p 0 ≡ eldest a.0.now p)) _
+      (λ κs qs bounds a g are. needs 𝓤 ((length a.0.now ≤ max_places) × (length a.1.0.now ≡ max_places) × ((p : ℕ) → p < max_places → get_or a.1.0.now p 0 ≡ eldest a.0.now p)) _
       (walk 𝓛 mem run κs.0 qs.0 a.0.ref_ptr.0 a.0.ref_ptr.1 0 a.0.now κs.1.0 qs.1.0 a.1.0.ref_ptr.0 a.1.0.ref_ptr.1 0 a.1.0.now a.1.1.0 are.1.1.0.1 are.0.0.1 are.1.0.0.1 𝓣 known-frame-or-zero))
 
   meets : Triple 𝓤 (𝓣.C #frame-or-zero) (S-frame-or-zero.Asked 𝓛 mem run) → Meets 𝓛 f'.signature (WpFn 𝓤 H 𝓣.C 𝓣.Λ code.function) (f'.spec 𝓛 mem run)

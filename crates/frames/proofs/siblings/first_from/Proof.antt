@@ -44,14 +44,14 @@ use denote.Triple.Statement.{Triple}
 use denote.Triple.Table.{entered, cited}
 use denote.Triple.Walked.{says, needs, Stays, stay_slice, stay_none, stay_none_slice, walk_of, Walks, ends_at, walked, Goes-slice, Goes-none, Goes-none_slice, walk_Meets}
 use borrow.Author.Rules.{scaled_Fits}
-use Rattle.frames.proofs.Lent.{at-list, Mine, Yours, ty_at, exit-unless, exit-if, leave-if, fork, skipped, regroup, matched, matched-last, const, is_true, is_false, not-not, differ, widen, less-fits, after, turn-of, take_out, put_in, put_back, look-out, look-back, free_all}
+use Rattle.frames.proofs.Lent.{at_list, Mine, Yours, ty_at, exit_unless, exit_if, leave_if, fork, skipped, regroup, matched, matched_last, const, is_true, is_false, not_not, differ, widen, less_fits, after, turn_of_lem, take_out, put_in, put_back, look_out, look_back, free_all}
 use lib.ListN.{replicate}
 use types.Part.{rep}
 use denote.Plain.{uint_Lawful}
 use denote.Array.{Array, array_val, array_vals, Array-Tells, Array-Makes}
-use Rattle.frames.proofs.Local.{listVal, array-is, array-fits, open-local, shut-local}
-use Rattle.frames.specs.Widths.{maxPlaces}
-use Rattle.frames.specs.Siblings.{firstFrom}
+use Rattle.frames.proofs.Local.{list_val, array_is, array_fits, open_local, shut_local}
+use Rattle.frames.specs.Widths.{max_places}
+use Rattle.frames.specs.Siblings.{first_from}
 use Rattle.frames.proofs.Called.eldest_of_all as S-eldest-of-all
 use Rattle.frames.proofs.siblings.eldest_of_all.Symbol as D-eldest-of-all
 use Rattle.frames.proofs.siblings.eldest_of_all.Symbol.{name as #eldest-of-all}
@@ -86,7 +86,7 @@ module _ {M : Type 1} {𝓤 : Ura M} (𝓛 : Logic 𝓤) (mem : Memory → SProp
   n-frames = length frames
 
   abbrev args' : Bor (List Frame) × (ℕ × Unit {0})
-  args' = (at-list b-frames o-frames γ-frames frames, (q, tt))
+  args' = (at_list b-frames o-frames γ-frames frames, (q, tt))
 
   abbrev vals' : Vals f'.signature (κ-frames, tt)
   vals' = (slice_val (b-frames, o-frames) (length frames) ∷ [], (vint w32 q ∷ [], tt))
@@ -106,7 +106,7 @@ module _ {M : Type 1} {𝓤 : Ura M} (𝓛 : Logic 𝓤) (mem : Memory → SProp
   room-eldests : Room u32 n-eldests
   room-eldests = (lit< tt, lit< tt)
 
-  exits' : (res' : ℕ) → res' < 2 ^ 32 → res' ≡ firstFrom (length frames) frames q → ent 𝓤 (⋆ 𝓛 (‵ (Yours R-Frame κ-frames q-frames γ-frames b-frames o-frames n-frames frames) ∷ [])) (Post (vint w32 res'))
+  exits' : (res' : ℕ) → res' < 2 ^ 32 → res' ≡ first_from (length frames) frames q → ent 𝓤 (⋆ 𝓛 (‵ (Yours R-Frame κ-frames q-frames γ-frames b-frames o-frames n-frames frames) ∷ [])) (Post (vint w32 res'))
   exits' res' good' e' =
       qed 𝓛 (‵ (Yours R-Frame κ-frames q-frames γ-frames b-frames o-frames n-frames frames) ∷ []) ∵
       suffices ! _ (ends_at 𝓛 f'.ended stayed (f'.clauses 𝓛 mem run) bound' (vint w32 res') res' (tt, (tt, tt)) (tt, (tt, tt))) $ says ! e' $
@@ -118,16 +118,16 @@ module _ {M : Type 1} {𝓤 : Ura M} (𝓛 : Logic 𝓤) (mem : Memory → SProp
     abbrev fm : FmC 𝓤 H 𝓛.laws 𝓣.C
     fm = fm_of 𝓤 H 𝓛.laws 𝓣
 
-    walk : length frames ≤ maxPlaces → ent 𝓤 (on_entry 𝓛 f'.signature (κ-frames, tt) (q-frames, tt) args' vals') (WpFn 𝓤 H 𝓣.C 𝓣.Λ code.function (slice_val (b-frames, o-frames) (length frames) ∷ vint w32 q ∷ []) Post)
+    walk : length frames ≤ max_places → ent 𝓤 (on_entry 𝓛 f'.signature (κ-frames, tt) (q-frames, tt) args' vals') (WpFn 𝓤 H 𝓣.C 𝓣.Λ code.function (slice_val (b-frames, o-frames) (length frames) ∷ vint w32 q ∷ []) Post)
     walk ok' =
         qed 𝓛 ((‵ (flft κ-frames q-frames) ⊛ ‵ ftrue) ∷ ‵ (owns (ShrSlice (named 0) κ-frames R-Frame ∷ u32 ∷ []) args' vals') ∷ []) ∵ enter ! 𝓣.C 𝓣.Λ code.function (slice_val (b-frames, o-frames) (length frames) ∷ vint w32 q ∷ []) _ $
         alloc1 ! (λ l₀. alloc1 ! (λ l₁. alloc1 ! (λ l₂. alloc1 ! (λ b-eldests. alloc1 ! (λ l₄. alloc1 ! (λ l₅. alloc1 ! (λ l₆. alloc1 ! (λ l₇. alloc1 ! (λ l₈. alloc0 ! $ params1 ! $
         pass1 ! (init ! 14 refl (tt, (tt, (record { fits = room-frames.0 }, tt)))) $ pass1 ! (init ! 12 refl (tt, record { fits = q-fits })) $ pass0 ! $
         move ! (19 ∷ []) $ fsplit ! $ move ! (1 ∷ []) $ fsplit ! $ drop ! $ drop ! $ move ! (19 ∷ []) $ split ! $ move ! (1 ∷ []) $ drop ! $ move ! (1 ∷ 0 ∷ []) $ fjoin ! $
         -- [frames; the locals]
-        assigns ! (rep ! 256 (const ! _ tt)) (from ! (stop !)) (init ! 11 refl (array-fits 𝓛 u32 (uint_Lawful 𝓛 w32) 256 (replicate 256 4294967295) _ (array-is u32 256 4294967295 (vint w32 4294967295) (refl, (lit< tt))))) $
+        assigns ! (rep ! 256 (const ! _ tt)) (from ! (stop !)) (init ! 11 refl (array_fits 𝓛 u32 (uint_Lawful 𝓛 w32) 256 (replicate 256 4294967295) _ (array_is u32 256 4294967295 (vint w32 4294967295) (refl, (lit< tt))))) $
         move ! (11 ∷ []) $
-        open-local ! tt u32 tt (uint_Makes 𝓛 w32) n-eldests b-eldests (replicate 256 4294967295) ((array_val (replicate 256 (vint w32 4294967295)))) (array-is u32 256 4294967295 (vint w32 4294967295) (refl, (lit< tt))) room-eldests (λ ν-eldests γ-eldests eldests eldests-is eldests-length.
+        open_local ! tt u32 tt (uint_Makes 𝓛 w32) n-eldests b-eldests (replicate 256 4294967295) ((array_val (replicate 256 (vint w32 4294967295)))) (array_is u32 256 4294967295 (vint w32 4294967295) (refl, (lit< tt))) room-eldests (λ ν-eldests γ-eldests eldests eldests-is eldests-length.
         move ! (0 ∷ 2 ∷ 3 ∷ 4 ∷ 5 ∷ 6 ∷ 7 ∷ 8 ∷ 9 ∷ 10 ∷ 11 ∷ 12 ∷ 1 ∷ []) $
         assigns ! (addr ! (from ! (stop !))) (from ! (stop !)) (init ! 8 refl (tt, tt)) $
         assigns ! (agg ! (and_then ! (load ! (from ! (stop !)) (look ! 8 refl)) (and_then ! (const ! _ tt) (no_more !)))) (from ! (stop !)) (init ! 6 refl (tt, (tt, (record { fits = room-eldests.0 }, tt)))) $
@@ -143,7 +143,7 @@ module _ {M : Type 1} {𝓤 : Ura M} (𝓛 : Logic 𝓤) (mem : Memory → SProp
         (λ ν-0 δ-0. and_then ! (load ! (from ! (stop !)) (look ! 17 refl)) (and_then ! (load ! (from ! (stop !)) (look ! 3 refl)) (and_then ! (load ! (from ! (stop !)) (look ! 15 refl)) (no_more !)))) (λ r-2 r-2-fits r-2-is.
         land ! (from ! (stop !)) (init ! 18 refl (tt, record { fits = r-2-fits })) $
         move ! (1 ∷ 12 ∷ []) $
-        shut-local ! tt u32 n-eldests b-eldests eldests-1 (λ v-eldests v-eldests-is.
+        shut_local ! tt u32 n-eldests b-eldests eldests-1 (λ v-eldests v-eldests-is.
         move ! (1 ∷ 2 ∷ 3 ∷ 4 ∷ 5 ∷ 6 ∷ 7 ∷ 8 ∷ 9 ∷ 10 ∷ 11 ∷ 0 ∷ []) $
         returns_within ! Post refl (look ! 17 refl) $ forget ! 1 refl $ forget ! 3 refl $ forget ! 5 refl $ forget ! 7 refl $ forget ! 9 refl $ forget ! 11 refl $ forget ! 13 refl $ forget ! 15 refl $ forget ! 17 refl $
         free_all ! 1 refl $
@@ -156,7 +156,7 @@ module _ {M : Type 1} {𝓤 : Ura M} (𝓛 : Logic 𝓤) (mem : Memory → SProp
   walks known-eldest-of-all known-first-by = walked 𝓛 f'.ended stayed (f'.clauses 𝓛 mem run) (WpFn 𝓤 H 𝓣.C 𝓣.Λ code.function)
       (λ κs. (shr_slice_vals, (uint_vals w32, tt)))
       (λ κs. (shr_slice_Tells (named 0) κs.0 R-Frame, (uint_Tells w32, tt)))
-      (λ κs qs bounds a g are. needs 𝓤 (length a.0.now ≤ maxPlaces) _
+      (λ κs qs bounds a g are. needs 𝓤 (length a.0.now ≤ max_places) _
       (walk 𝓛 mem run κs.0 qs.0 a.0.ref_ptr.0 a.0.ref_ptr.1 0 a.0.now a.1.0 are.1.0.1 are.0.0.1 𝓣 known-eldest-of-all known-first-by))
 
   meets : Triple 𝓤 (𝓣.C #eldest-of-all) (S-eldest-of-all.Asked 𝓛 mem run) → Triple 𝓤 (𝓣.C #first-by) (S-first-by.Asked 𝓛 mem run) → Meets 𝓛 f'.signature (WpFn 𝓤 H 𝓣.C 𝓣.Λ code.function) (f'.spec 𝓛 mem run)

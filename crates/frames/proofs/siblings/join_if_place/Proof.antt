@@ -44,8 +44,8 @@ use denote.Triple.Statement.{Triple}
 use denote.Triple.Table.{entered, cited}
 use denote.Triple.Walked.{says, needs, Stays, stay_slice, stay_none, stay_none_slice, walk_of, Walks, ends_at, walked, Goes-slice, Goes-none, Goes-none_slice, walk_Meets}
 use borrow.Author.Rules.{scaled_Fits}
-use Rattle.frames.proofs.Lent.{at-list, Mine, Yours, ty_at, exit-unless, exit-if, leave-if, fork, skipped, regroup, matched, matched-last, const, is_true, is_false, not-not, differ, widen, less-fits, after, turn-of, take_out, put_in, put_back, look-out, look-back, free_all}
-use Rattle.frames.specs.Siblings.{joinAt}
+use Rattle.frames.proofs.Lent.{at_list, Mine, Yours, ty_at, exit_unless, exit_if, leave_if, fork, skipped, regroup, matched, matched_last, const, is_true, is_false, not_not, differ, widen, less_fits, after, turn_of_lem, take_out, put_in, put_back, look_out, look_back, free_all}
+use Rattle.frames.specs.Siblings.{join_at}
 use Rattle.frames.proofs.Called.is_place as S-is-place
 use Rattle.frames.proofs.records.is_place.Symbol as D-is-place
 use Rattle.frames.proofs.records.is_place.Symbol.{name as #is-place}
@@ -97,7 +97,7 @@ module _ {M : Type 1} {𝓤 : Ura M} (𝓛 : Logic 𝓤) (mem : Memory → SProp
   n-frames = length frames
 
   abbrev args' : MutBor (List Frame) × (ℕ × (View × Unit {0}))
-  args' = (at-list b-frames o-frames γ-frames frames, (n, (view, tt)))
+  args' = (at_list b-frames o-frames γ-frames frames, (n, (view, tt)))
 
   abbrev vals' : Vals f'.signature (κ-frames, tt)
   vals' = (slice_val (b-frames, o-frames) (length frames) ∷ [], (vint w32 n ∷ [], (val-View view ∷ [], tt)))
@@ -108,7 +108,7 @@ module _ {M : Type 1} {𝓤 : Ura M} (𝓛 : Logic 𝓤) (mem : Memory → SProp
   abbrev Post : Val → SProp 𝓤
   Post = (walk_of 𝓛 f'.ended stayed (f'.clauses 𝓛 mem run)).post bound'
 
-  exits' : (zs-frames : List Frame) → zs-frames ≡ joinAt frames n view → length zs-frames ≡ length frames → ent 𝓤 (⋆ 𝓛 (‵ (Mine R-Frame κ-frames q-frames γ-frames b-frames o-frames n-frames zs-frames) ∷ [])) (Post (vunit))
+  exits' : (zs-frames : List Frame) → zs-frames ≡ join_at frames n view → length zs-frames ≡ length frames → ent 𝓤 (⋆ 𝓛 (‵ (Mine R-Frame κ-frames q-frames γ-frames b-frames o-frames n-frames zs-frames) ∷ [])) (Post (vunit))
   exits' zs-frames e' same-frames =
       qed 𝓛 (‵ (Mine R-Frame κ-frames q-frames γ-frames b-frames o-frames n-frames zs-frames) ∷ []) ∵
       suffices ! _ (ends_at 𝓛 f'.ended stayed (f'.clauses 𝓛 mem run) bound' (vunit) tt (zs-frames, (tt, (tt, tt))) (same-frames, (tt, (tt, tt)))) $ says ! e' $
@@ -133,7 +133,7 @@ module _ {M : Type 1} {𝓤 : Ura M} (𝓛 : Logic 𝓤) (mem : Memory → SProp
         (and_then ! (load ! (from ! (stop !)) (look ! 24 refl)) (and_then ! (load ! (from ! (stop !)) (look ! 16 refl)) (no_more !))) (λ r-1 r-1-is.
         land ! (from ! (stop !)) (init ! 17 refl (tt, tt)) $
         assigns ! (un ! (load ! (from ! (stop !)) (look ! 17 refl)) tt) (from ! (stop !)) (init ! 13 refl (tt, tt)) $
-        leave-if ! (load ! (from ! (stop !)) (look ! 13 refl))
+        leave_if ! (load ! (from ! (stop !)) (look ! 13 refl))
         (λ test-2.
         assigns ! (of_opd ! (const ! _ tt)) (from ! (stop !)) (init ! 27 refl (tt, tt)) $
         returns_within ! Post refl (look ! 27 refl) $ forget ! 13 refl $ forget ! 15 refl $ forget ! 17 refl $ forget ! 21 refl $ forget ! 23 refl $ forget ! 25 refl $ forget ! 27 refl $
@@ -143,7 +143,7 @@ module _ {M : Type 1} {𝓤 : Ura M} (𝓛 : Logic 𝓤) (mem : Memory → SProp
         assigns ! (addr ! (from ! (fld ! refl (hop ! (look_in ! 25 (sub ! 0 refl (whole !))) (stop !))))) (from ! (stop !)) (init ! 11 refl (tt, tt)) $
         assigns ! (agg ! (and_then ! (load ! (from ! (stop !)) (look ! 11 refl)) (and_then ! (load ! (from ! (fld ! refl (stop !))) (look_in ! 25 (sub ! 1 refl (whole !)))) (no_more !)))) (from ! (stop !)) (init ! 9 refl (tt, (tt, (record { fits = room-frames.0 }, tt)))) $
         -- _4 = frames::table::frame_at(_9, _2)
-        S-frame-at.step-s mem run ! fm known-frame-at b-frames o-frames n-frames frames n n-fits (F.needs-4 frames n view room-frames.0 n-fits r-1 r-1-is (is_true r-1 (not-not r-1 test-2))) (refl) room-frames
+        S-frame-at.step-s mem run ! fm known-frame-at b-frames o-frames n-frames frames n n-fits (F.needs-4 frames n view room-frames.0 n-fits r-1 r-1-is (is_true r-1 (not_not r-1 test-2))) (refl) room-frames
         (λ ν-0 δ-0. and_then ! (load ! (from ! (stop !)) (look ! 10 refl)) (and_then ! (load ! (from ! (stop !)) (look ! 24 refl)) (no_more !))) (λ f f-good f-is.
         land ! (from ! (stop !)) (init ! 19 refl ((LL.lawful M-Frame.the_type L-Frame.the_laws 𝓛).typed f _ f-good).0) $
         assigns ! (addr ! (from ! (fld ! refl (hop ! (look_in ! 25 (sub ! 0 refl (whole !))) (stop !))))) (from ! (stop !)) (init ! 5 refl (tt, tt)) $
@@ -153,13 +153,13 @@ module _ {M : Type 1} {𝓤 : Ura M} (𝓛 : Logic 𝓤) (mem : Memory → SProp
         (and_then ! (load ! (from ! (stop !)) (look ! 20 refl)) (and_then ! (load ! (from ! (stop !)) (look ! 22 refl)) (no_more !))) (λ r-5 r-5-good r-5-is.
         land ! (from ! (stop !)) (init ! 1 refl ((LL.lawful M-Frame.the_type L-Frame.the_laws 𝓛).typed r-5 _ r-5-good).0) $
         -- _10 = frames::table::put_frame(_12, _2, _13)
-        S-put-frame.step mem run ! fm known-put-frame b-frames o-frames n-frames frames n r-5 n-fits r-5-good (F.needs-6 frames n view room-frames.0 n-fits r-1 r-1-is (is_true r-1 (not-not r-1 test-2)) f f-is r-5 r-5-is) (refl) room-frames
+        S-put-frame.step mem run ! fm known-put-frame b-frames o-frames n-frames frames n r-5 n-fits r-5-good (F.needs-6 frames n view room-frames.0 n-fits r-1 r-1-is (is_true r-1 (not_not r-1 test-2)) f f-is r-5 r-5-is) (refl) room-frames
         (λ ν-0 δ-0. and_then ! (load ! (from ! (stop !)) (look ! 4 refl)) (and_then ! (load ! (from ! (stop !)) (look ! 24 refl)) (and_then ! (load ! (from ! (stop !)) (look ! 2 refl)) (no_more !)))) (λ frames-6 done-6 same-frames-6.
         land ! (from ! (stop !)) (init ! 7 refl (tt, tt)) $
         assigns ! (of_opd ! (const ! _ tt)) (from ! (stop !)) (init ! 27 refl (tt, tt)) $
         returns_within ! Post refl (look ! 27 refl) $ forget ! 1 refl $ forget ! 3 refl $ forget ! 5 refl $ forget ! 7 refl $ forget ! 9 refl $ forget ! 11 refl $ forget ! 13 refl $ forget ! 15 refl $ forget ! 17 refl $ forget ! 19 refl $ forget ! 21 refl $ forget ! 23 refl $ forget ! 25 refl $ forget ! 27 refl $
         free_all ! 1 refl $
-        by ! (exits' frames-6 (F.out-7 frames n view room-frames.0 n-fits r-1 r-1-is (is_true r-1 (not-not r-1 test-2)) f f-is r-5 r-5-is frames-6 done-6 same-frames-6) (same-frames-6)))))))))))))))))))))
+        by ! (exits' frames-6 (F.out-7 frames n view room-frames.0 n-fits r-1 r-1-is (is_true r-1 (not_not r-1 test-2)) f f-is r-5 r-5-is frames-6 done-6 same-frames-6) (same-frames-6)))))))))))))))))))))
 
 module _ {M : Type 1} {𝓤 : Ura M} (𝓛 : Logic 𝓤) (mem : Memory → SProp 𝓤) (run : Routine → Fun 𝓤) (𝓣 : Tables 𝓤 𝓛.H) where
   open 𝓛 use {H}

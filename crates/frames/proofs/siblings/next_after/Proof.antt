@@ -44,11 +44,11 @@ use denote.Triple.Statement.{Triple}
 use denote.Triple.Table.{entered, cited}
 use denote.Triple.Walked.{says, needs, Stays, stay_slice, stay_none, stay_none_slice, walk_of, Walks, ends_at, walked, Goes-slice, Goes-none, Goes-none_slice, walk_Meets}
 use borrow.Author.Rules.{scaled_Fits}
-use Rattle.frames.proofs.Lent.{at-list, Mine, Yours, ty_at, exit-unless, exit-if, leave-if, fork, skipped, regroup, matched, matched-last, const, is_true, is_false, not-not, differ, widen, less-fits, after, turn-of, take_out, put_in, put_back, look-out, look-back, free_all}
+use Rattle.frames.proofs.Lent.{at_list, Mine, Yours, ty_at, exit_unless, exit_if, leave_if, fork, skipped, regroup, matched, matched_last, const, is_true, is_false, not_not, differ, widen, less_fits, after, turn_of_lem, take_out, put_in, put_back, look_out, look_back, free_all}
 use mathlib.Core.Logic.{◌≢◌}
-use Rattle.frames.specs.Widths.{maxPlaces}
-use Rattle.frames.specs.Frames.{frameAt}
-use Rattle.frames.specs.Siblings.{nextAfter}
+use Rattle.frames.specs.Widths.{max_places}
+use Rattle.frames.specs.Frames.{frame_at}
+use Rattle.frames.specs.Siblings.{next_after}
 use Rattle.frames.specs.Ranges.{EndsIn}
 use Rattle.frames.proofs.Called.frame_at as S-frame-at
 use Rattle.frames.proofs.table.frame_at.Symbol as D-frame-at
@@ -97,7 +97,7 @@ module _ {M : Type 1} {𝓤 : Ura M} (𝓛 : Logic 𝓤) (mem : Memory → SProp
   n-frames = length frames
 
   abbrev args' : Bor (List Frame) × (ℕ × (ℕ × Unit {0}))
-  args' = (at-list b-frames o-frames γ-frames frames, (p, (q, tt)))
+  args' = (at_list b-frames o-frames γ-frames frames, (p, (q, tt)))
 
   abbrev vals' : Vals f'.signature (κ-frames, tt)
   vals' = (slice_val (b-frames, o-frames) (length frames) ∷ [], (vint w32 p ∷ [], (vint w32 q ∷ [], tt)))
@@ -108,7 +108,7 @@ module _ {M : Type 1} {𝓤 : Ura M} (𝓛 : Logic 𝓤) (mem : Memory → SProp
   abbrev Post : Val → SProp 𝓤
   Post = (walk_of 𝓛 f'.ended stayed (f'.clauses 𝓛 mem run)).post bound'
 
-  exits' : (res' : ℕ) → res' < 2 ^ 32 → res' ≡ nextAfter frames p → ent 𝓤 (⋆ 𝓛 (‵ (Yours R-Frame κ-frames q-frames γ-frames b-frames o-frames n-frames frames) ∷ [])) (Post (vint w32 res'))
+  exits' : (res' : ℕ) → res' < 2 ^ 32 → res' ≡ next_after frames p → ent 𝓤 (⋆ 𝓛 (‵ (Yours R-Frame κ-frames q-frames γ-frames b-frames o-frames n-frames frames) ∷ [])) (Post (vint w32 res'))
   exits' res' good' e' =
       qed 𝓛 (‵ (Yours R-Frame κ-frames q-frames γ-frames b-frames o-frames n-frames frames) ∷ []) ∵
       suffices ! _ (ends_at 𝓛 f'.ended stayed (f'.clauses 𝓛 mem run) bound' (vint w32 res') res' (tt, (tt, (tt, tt))) (tt, (tt, (tt, tt)))) $ says ! e' $
@@ -120,7 +120,7 @@ module _ {M : Type 1} {𝓤 : Ura M} (𝓛 : Logic 𝓤) (mem : Memory → SProp
     abbrev fm : FmC 𝓤 H 𝓛.laws 𝓣.C
     fm = fm_of 𝓤 H 𝓛.laws 𝓣
 
-    walk : EndsIn frames p q × (length frames ≤ maxPlaces) × ((frameAt frames q).outstanding ≢ 1) → ent 𝓤 (on_entry 𝓛 f'.signature (κ-frames, tt) (q-frames, tt) args' vals') (WpFn 𝓤 H 𝓣.C 𝓣.Λ code.function (slice_val (b-frames, o-frames) (length frames) ∷ vint w32 p ∷ vint w32 q ∷ []) Post)
+    walk : EndsIn frames p q × (length frames ≤ max_places) × ((frame_at frames q).outstanding ≢ 1) → ent 𝓤 (on_entry 𝓛 f'.signature (κ-frames, tt) (q-frames, tt) args' vals') (WpFn 𝓤 H 𝓣.C 𝓣.Λ code.function (slice_val (b-frames, o-frames) (length frames) ∷ vint w32 p ∷ vint w32 q ∷ []) Post)
     walk ok' =
         qed 𝓛 ((‵ (flft κ-frames q-frames) ⊛ ‵ ftrue) ∷ ‵ (owns (ShrSlice (named 0) κ-frames R-Frame ∷ u32 ∷ u32 ∷ []) args' vals') ∷ []) ∵ enter ! 𝓣.C 𝓣.Λ code.function (slice_val (b-frames, o-frames) (length frames) ∷ vint w32 p ∷ vint w32 q ∷ []) _ $
         alloc1 ! (λ l₀. alloc1 ! (λ l₁. alloc1 ! (λ l₂. alloc1 ! (λ l₃. alloc1 ! (λ l₄. alloc1 ! (λ l₅. alloc1 ! (λ l₆. alloc1 ! (λ l₇. alloc0 ! $ params1 ! $
@@ -133,7 +133,7 @@ module _ {M : Type 1} {𝓤 : Ura M} (𝓛 : Logic 𝓤) (mem : Memory → SProp
         land ! (from ! (stop !)) (init ! 7 refl ((LL.lawful M-Frame.the_type L-Frame.the_laws 𝓛).typed f _ f-good).0) $
         assigns ! (of_opd ! (load ! (from ! (fld ! refl (stop !))) (look_in ! 7 (sub ! 8 refl (whole !))))) (from ! (stop !)) (init ! 5 refl (tt, record { fits = (LL.owed M-Frame.the_type L-Frame.the_laws f _ f-good).1.1.1.1.1.1.1.1.0.1 })) $
         assigns ! (bin ! (load ! (from ! (stop !)) (look ! 5 refl)) (const ! _ tt) tt) (from ! (stop !)) (init ! 3 refl (tt, tt)) $
-        leave-if ! (load ! (from ! (stop !)) (look ! 3 refl))
+        leave_if ! (load ! (from ! (stop !)) (look ! 3 refl))
         (λ test-2.
         assigns ! (of_opd ! (load ! (from ! (stop !)) (look ! 9 refl))) (from ! (stop !)) (init ! 15 refl (tt, record { fits = q-fits })) $
         returns_within ! Post refl (look ! 15 refl) $ forget ! 3 refl $ forget ! 5 refl $ forget ! 7 refl $ forget ! 9 refl $ forget ! 11 refl $ forget ! 13 refl $ forget ! 15 refl $
@@ -145,7 +145,7 @@ module _ {M : Type 1} {𝓤 : Ura M} (𝓛 : Logic 𝓤) (mem : Memory → SProp
         (and_then ! (load ! (from ! (stop !)) (look ! 14 refl)) (and_then ! (load ! (from ! (stop !)) (look ! 6 refl)) (no_more !))) (λ r-4 r-4-good r-4-is.
         land ! (from ! (stop !)) (init ! 1 refl ((LL.lawful M-Frame.the_type L-Frame.the_laws 𝓛).typed r-4 _ r-4-good).0) $
         assigns ! (bin ! (load ! (from ! (fld ! refl (stop !))) (look_in ! 1 (sub ! 3 refl (whole !)))) (const ! _ tt) tt) (from ! (stop !)) (store ! 3 refl (tt, tt)) $
-        leave-if ! (load ! (from ! (stop !)) (look ! 3 refl))
+        leave_if ! (load ! (from ! (stop !)) (look ! 3 refl))
         (λ test-5.
         assigns ! (of_opd ! (load ! (from ! (stop !)) (look ! 5 refl))) (from ! (stop !)) (init ! 15 refl (tt, record { fits = (LL.owed M-Frame.the_type L-Frame.the_laws f _ f-good).1.1.1.1.1.1.1.1.0.1 })) $
         returns_within ! Post refl (look ! 15 refl) $ forget ! 1 refl $ forget ! 3 refl $ forget ! 5 refl $ forget ! 7 refl $ forget ! 9 refl $ forget ! 11 refl $ forget ! 13 refl $ forget ! 15 refl $
@@ -167,7 +167,7 @@ module _ {M : Type 1} {𝓤 : Ura M} (𝓛 : Logic 𝓤) (mem : Memory → SProp
   walks known-frame-at known-frame-or-zero known-first-from = walked 𝓛 f'.ended stayed (f'.clauses 𝓛 mem run) (WpFn 𝓤 H 𝓣.C 𝓣.Λ code.function)
       (λ κs. (shr_slice_vals, (uint_vals w32, (uint_vals w32, tt))))
       (λ κs. (shr_slice_Tells (named 0) κs.0 R-Frame, (uint_Tells w32, (uint_Tells w32, tt))))
-      (λ κs qs bounds a g are. needs 𝓤 (EndsIn a.0.now a.1.0 a.1.1.0 × (length a.0.now ≤ maxPlaces) × ((frameAt a.0.now a.1.1.0).outstanding ≢ 1)) _
+      (λ κs qs bounds a g are. needs 𝓤 (EndsIn a.0.now a.1.0 a.1.1.0 × (length a.0.now ≤ max_places) × ((frame_at a.0.now a.1.1.0).outstanding ≢ 1)) _
       (walk 𝓛 mem run κs.0 qs.0 a.0.ref_ptr.0 a.0.ref_ptr.1 0 a.0.now a.1.0 are.1.0.1 a.1.1.0 are.1.1.0.1 are.0.0.1 𝓣 known-frame-at known-frame-or-zero known-first-from))
 
   meets : Triple 𝓤 (𝓣.C #frame-at) (S-frame-at.Asked 𝓛 mem run) → Triple 𝓤 (𝓣.C #frame-or-zero) (S-frame-or-zero.Asked 𝓛 mem run) → Triple 𝓤 (𝓣.C #first-from) (S-first-from.Asked 𝓛 mem run) → Meets 𝓛 f'.signature (WpFn 𝓤 H 𝓣.C 𝓣.Λ code.function) (f'.spec 𝓛 mem run)
@@ -183,4 +183,4 @@ next-after-spec 𝓤 𝓛 𝓜 𝓡 =
     (meets 𝓛 𝓜.mem 𝓡.run (tables_of 𝓤 𝓛.H 𝓜 (tables 𝓤 𝓛.H 𝓜 𝓡 code.env))
     (cited 𝓤 𝓛.H (S-frame-at.Asked 𝓛 𝓜.mem 𝓡.run) 𝓜 𝓡 code.env #frame-at D-frame-at.routine code.calls-frames::table::frame-at (T-frame-at.met 𝓤 𝓛 𝓜 𝓡))
     (cited 𝓤 𝓛.H (S-frame-or-zero.Asked 𝓛 𝓜.mem 𝓡.run) 𝓜 𝓡 code.env #frame-or-zero D-frame-or-zero.routine code.calls-frames::table::frame-or-zero (T-frame-or-zero.met 𝓤 𝓛 𝓜 𝓡))
-    (cited 𝓤 𝓛.H (S-first-from.Asked 𝓛 𝓜.mem 𝓡.run) 𝓜 𝓡 code.env #first-from D-first-from.routine code.calls-frames::siblings::first-from (T-first-from.met 𝓤 𝓛 𝓜 𝓡)))
+    (cited 𝓤 𝓛.H (S-first-from.Asked 𝓛 𝓜.mem 𝓡.run) 𝓜 𝓡 code.env #first-from D-first-from.routine code.calls-frames::siblings::first_from_lem (T-first-from.met 𝓤 𝓛 𝓜 𝓡)))

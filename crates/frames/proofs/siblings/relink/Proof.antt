@@ -45,8 +45,8 @@ use denote.Triple.Statement.{Triple}
 use denote.Triple.Table.{entered, cited}
 use denote.Triple.Walked.{says, needs, Stays, stay_slice, stay_none, stay_none_slice, walk_of, Walks, ends_at, walked, Goes-slice, Goes-none, Goes-none_slice, walk_Meets}
 use borrow.Author.Rules.{scaled_Fits}
-use Rattle.frames.proofs.Lent.{at-list, Mine, Yours, ty_at, exit-unless, exit-if, leave-if, fork, skipped, regroup, matched, matched-last, const, is_true, is_false, not-not, differ, widen, less-fits, after, turn-of, take_out, put_in, put_back, look-out, look-back, free_all}
-use Rattle.frames.specs.Widths.{maxPlaces}
+use Rattle.frames.proofs.Lent.{at_list, Mine, Yours, ty_at, exit_unless, exit_if, leave_if, fork, skipped, regroup, matched, matched_last, const, is_true, is_false, not_not, differ, widen, less_fits, after, turn_of_lem, take_out, put_in, put_back, look_out, look_back, free_all}
+use Rattle.frames.specs.Widths.{max_places}
 use Rattle.frames.specs.Siblings.{relink}
 use Rattle.frames.proofs.Called.is_place as S-is-place
 use Rattle.frames.proofs.records.is_place.Symbol as D-is-place
@@ -56,7 +56,7 @@ use Rattle.frames.proofs.Called.frame_at as S-frame-at
 use Rattle.frames.proofs.table.frame_at.Symbol as D-frame-at
 use Rattle.frames.proofs.table.frame_at.Symbol.{name as #frame-at}
 use Rattle.frames.proofs.table.frame_at.Met as T-frame-at
-use Rattle.frames.specs.Frames.{frameAt}
+use Rattle.frames.specs.Frames.{frame_at}
 use Rattle.frames.proofs.Called.child_names as S-child-names
 use Rattle.frames.proofs.records.child_names.Symbol as D-child-names
 use Rattle.frames.proofs.records.child_names.Symbol.{name as #child-names}
@@ -66,12 +66,12 @@ use Rattle.frames.proofs.Called.with_younger as S-with-younger
 use Rattle.frames.proofs.records.with_younger.Symbol as D-with-younger
 use Rattle.frames.proofs.records.with_younger.Symbol.{name as #with-younger}
 use Rattle.frames.proofs.records.with_younger.Met as T-with-younger
-use Rattle.frames.specs.Frames.{withYounger}
+use Rattle.frames.specs.Frames.{with_younger}
 use Rattle.frames.proofs.Called.put_frame as S-put-frame
 use Rattle.frames.proofs.table.put_frame.Symbol as D-put-frame
 use Rattle.frames.proofs.table.put_frame.Symbol.{name as #put-frame}
 use Rattle.frames.proofs.table.put_frame.Met as T-put-frame
-use Rattle.frames.specs.Frames.{setFrame}
+use Rattle.frames.specs.Frames.{set_frame}
 use Rattle.frames.specs.contracts.siblings.relink.Key.{name as #own}
 use Rattle.frames.specs.contracts.siblings.relink as f'
 use Rattle.frames.proofs.siblings.relink.Statement as stated
@@ -95,13 +95,13 @@ ty' i = ty_at (code.function).locals i
 
 -- the loop's body, and what runs after the loop
 abbrev turned' : Code
-turned' = turn-of (after 1 (code.function).body)
+turned' = turn_of_lem (after 1 (code.function).body)
 
 abbrev rest' : Code
 rest' = after 2 (code.function).body
 
 -- where a turn of the loop begins
-record State' (frames : List Frame) (q : ℕ) (x : ℕ) (y : ℕ) (frames-fits : length frames < 2 ^ 64) (q-fits : q < 2 ^ 32) (x_Fits : x < 2 ^ 32) (y-fits : y < 2 ^ 32) (ok : length frames ≤ maxPlaces) : Type 0 where
+record State' (frames : List Frame) (q : ℕ) (x : ℕ) (y : ℕ) (frames-fits : length frames < 2 ^ 64) (q-fits : q < 2 ^ 32) (x_Fits : x < 2 ^ 32) (y-fits : y < 2 ^ 32) (ok : length frames ≤ max_places) : Type 0 where
   v-c : ℕ
   g-c : v-c < 2 ^ 32
   l-frames : List Frame
@@ -116,7 +116,7 @@ module _ {M : Type 1} {𝓤 : Ura M} (𝓛 : Logic 𝓤) (mem : Memory → SProp
   n-frames = length frames
 
   abbrev args' : MutBor (List Frame) × (ℕ × (ℕ × (ℕ × Unit {0})))
-  args' = (at-list b-frames o-frames γ-frames frames, (q, (x, (y, tt))))
+  args' = (at_list b-frames o-frames γ-frames frames, (q, (x, (y, tt))))
 
   abbrev vals' : Vals f'.signature (κ-frames, tt)
   vals' = (slice_val (b-frames, o-frames) (length frames) ∷ [], (vint w32 q ∷ [], (vint w32 x ∷ [], (vint w32 y ∷ [], tt))))
@@ -139,7 +139,7 @@ module _ {M : Type 1} {𝓤 : Ura M} (𝓛 : Logic 𝓤) (mem : Memory → SProp
     abbrev fm : FmC 𝓤 H 𝓛.laws 𝓣.C
     fm = fm_of 𝓤 H 𝓛.laws 𝓣
 
-    module _ (ok' : length frames ≤ maxPlaces) (l₀ l₁ l₂ l₃ l₄ l₅ l₆ l₇ l₈ l₉ l₁₀ l₁₁ l₁₂ l₁₃ l₁₄ l₁₅ : ℕ) where
+    module _ (ok' : length frames ≤ max_places) (l₀ l₁ l₂ l₃ l₄ l₅ l₆ l₇ l₈ l₉ l₁₀ l₁₁ l₁₂ l₁₃ l₁₄ l₁₅ : ℕ) where
       abbrev S' : Type 0
       S' = State' frames q x y room-frames.0 q-fits x_Fits y-fits ok'
 
@@ -168,7 +168,7 @@ module _ {M : Type 1} {𝓤 : Ura M} (𝓛 : Logic 𝓤) (mem : Memory → SProp
             S-is-place.step mem run ! fm known-is-place c (length frames) c-fits room-frames.0
             (and_then ! (load ! (from ! (stop !)) (look ! 22 refl)) (and_then ! (load ! (from ! (stop !)) (look ! 16 refl)) (no_more !))) (λ r-2 r-2-is.
             land ! (from ! (stop !)) (init ! 17 refl (tt, tt)) $
-            exit-unless ! (load ! (from ! (stop !)) (look ! 17 refl))
+            exit_unless ! (load ! (from ! (stop !)) (look ! 17 refl))
             (λ test-3.
             exec ! 𝓣.C 𝓣.Λ En' rest' (at_ret En' Post) $
             assigns ! (of_opd ! (const ! _ tt)) (from ! (stop !)) (init ! 31 refl (tt, tt)) $
@@ -186,7 +186,7 @@ module _ {M : Type 1} {𝓤 : Ura M} (𝓛 : Logic 𝓤) (mem : Memory → SProp
             S-child-names.step mem run ! fm known-child-names f q x f-good q-fits x_Fits
             (and_then ! (load ! (from ! (stop !)) (look ! 20 refl)) (and_then ! (load ! (from ! (stop !)) (look ! 28 refl)) (and_then ! (load ! (from ! (stop !)) (look ! 26 refl)) (no_more !)))) (λ r-6 r-6-is.
             land ! (from ! (stop !)) (init ! 9 refl (tt, tt)) $
-            leave-if ! (load ! (from ! (stop !)) (look ! 9 refl))
+            leave_if ! (load ! (from ! (stop !)) (look ! 9 refl))
             (λ test-7.
             assigns ! (addr ! (from ! (fld ! refl (hop ! (look_in ! 29 (sub ! 0 refl (whole !))) (stop !))))) (from ! (stop !)) (init ! 5 refl (tt, tt)) $
             assigns ! (agg ! (and_then ! (load ! (from ! (stop !)) (look ! 5 refl)) (and_then ! (load ! (from ! (fld ! refl (stop !))) (look_in ! 29 (sub ! 1 refl (whole !)))) (no_more !)))) (from ! (stop !)) (init ! 3 refl (tt, (tt, (record { fits = room-frames.0 }, tt)))) $
@@ -211,7 +211,7 @@ module _ {M : Type 1} {𝓤 : Ura M} (𝓛 : Logic 𝓤) (mem : Memory → SProp
       unfolding after_turn
       loop' = loops ! 𝓣 Less' less_wf Inv' (λ s'. turn' s'.v-c s'.l-frames s'.g-c s'.s-frames s'.holds) (record { v-c = 0; g-c = (lit< tt); l-frames = frames; s-frames = refl; holds = (F.begins frames q x y room-frames.0 q-fits x_Fits y-fits ok') })
 
-    walk : length frames ≤ maxPlaces → ent 𝓤 (on_entry 𝓛 f'.signature (κ-frames, tt) (q-frames, tt) args' vals') (WpFn 𝓤 H 𝓣.C 𝓣.Λ code.function (slice_val (b-frames, o-frames) (length frames) ∷ vint w32 q ∷ vint w32 x ∷ vint w32 y ∷ []) Post)
+    walk : length frames ≤ max_places → ent 𝓤 (on_entry 𝓛 f'.signature (κ-frames, tt) (q-frames, tt) args' vals') (WpFn 𝓤 H 𝓣.C 𝓣.Λ code.function (slice_val (b-frames, o-frames) (length frames) ∷ vint w32 q ∷ vint w32 x ∷ vint w32 y ∷ []) Post)
     walk ok' =
         qed 𝓛 ((‵ (flft κ-frames q-frames) ⊛ ‵ ftrue) ∷ ‵ (owns (MutSlice (named 0) κ-frames R-Frame ∷ u32 ∷ u32 ∷ u32 ∷ []) args' vals') ∷ []) ∵ enter ! 𝓣.C 𝓣.Λ code.function (slice_val (b-frames, o-frames) (length frames) ∷ vint w32 q ∷ vint w32 x ∷ vint w32 y ∷ []) _ $
         alloc1 ! (λ l₀. alloc1 ! (λ l₁. alloc1 ! (λ l₂. alloc1 ! (λ l₃. alloc1 ! (λ l₄. alloc1 ! (λ l₅. alloc1 ! (λ l₆. alloc1 ! (λ l₇. alloc1 ! (λ l₈. alloc1 ! (λ l₉. alloc1 ! (λ l₁₀. alloc1 ! (λ l₁₁. alloc1 ! (λ l₁₂. alloc1 ! (λ l₁₃. alloc1 ! (λ l₁₄. alloc1 ! (λ l₁₅. alloc0 ! $ params1 ! $
@@ -228,7 +228,7 @@ module _ {M : Type 1} {𝓤 : Ura M} (𝓛 : Logic 𝓤) (mem : Memory → SProp
   walks known-is-place known-frame-at known-child-names known-with-younger known-put-frame = walked 𝓛 f'.ended stayed (f'.clauses 𝓛 mem run) (WpFn 𝓤 H 𝓣.C 𝓣.Λ code.function)
       (λ κs. (mut_slice_vals, (uint_vals w32, (uint_vals w32, (uint_vals w32, tt)))))
       (λ κs. (mut_slice_Tells (named 0) κs.0 R-Frame, (uint_Tells w32, (uint_Tells w32, (uint_Tells w32, tt)))))
-      (λ κs qs bounds a g are. needs 𝓤 (length a.0.now ≤ maxPlaces) _
+      (λ κs qs bounds a g are. needs 𝓤 (length a.0.now ≤ max_places) _
       (walk 𝓛 mem run κs.0 qs.0 a.0.ref_ptr.0 a.0.ref_ptr.1 a.0.ghost_name a.0.now a.1.0 are.1.0.1 a.1.1.0 are.1.1.0.1 a.1.1.1.0 are.1.1.1.0.1 are.0.0.1 𝓣 known-is-place known-frame-at known-child-names known-with-younger known-put-frame))
 
   meets : Triple 𝓤 (𝓣.C #is-place) (S-is-place.Asked 𝓛 mem run) → Triple 𝓤 (𝓣.C #frame-at) (S-frame-at.Asked 𝓛 mem run) → Triple 𝓤 (𝓣.C #child-names) (S-child-names.Asked 𝓛 mem run) → Triple 𝓤 (𝓣.C #with-younger) (S-with-younger.Asked 𝓛 mem run) → Triple 𝓤 (𝓣.C #put-frame) (S-put-frame.Asked 𝓛 mem run) → Meets 𝓛 f'.signature (WpFn 𝓤 H 𝓣.C 𝓣.Λ code.function) (f'.spec 𝓛 mem run)

@@ -45,9 +45,9 @@ use denote.Triple.Statement.{Triple}
 use denote.Triple.Table.{entered, cited}
 use denote.Triple.Walked.{says, needs, Stays, stay_slice, stay_none, stay_none_slice, walk_of, Walks, ends_at, walked, Goes-slice, Goes-none, Goes-none_slice, walk_Meets}
 use borrow.Author.Rules.{scaled_Fits}
-use Rattle.frames.proofs.Lent.{at-list, Mine, Yours, ty_at, exit-unless, exit-if, leave-if, fork, skipped, regroup, matched, matched-last, const, is_true, is_false, not-not, differ, widen, less-fits, after, turn-of, take_out, put_in, put_back, look-out, look-back, free_all}
+use Rattle.frames.proofs.Lent.{at_list, Mine, Yours, ty_at, exit_unless, exit_if, leave_if, fork, skipped, regroup, matched, matched_last, const, is_true, is_false, not_not, differ, widen, less_fits, after, turn_of_lem, take_out, put_in, put_back, look_out, look_back, free_all}
 use lib.ListN.{replicate}
-use Rattle.frames.specs.Frames.{freePlace}
+use Rattle.frames.specs.Frames.{free_record}
 use Rattle.frames.proofs.Called.free_place as S-free-place
 use Rattle.frames.proofs.records.free_place.Symbol as D-free-place
 use Rattle.frames.proofs.records.free_place.Symbol.{name as #free-place}
@@ -78,7 +78,7 @@ ty' i = ty_at (code.function).locals i
 
 -- the loop's body, and what runs after the loop
 abbrev turned' : Code
-turned' = turn-of (after 1 (code.function).body)
+turned' = turn_of_lem (after 1 (code.function).body)
 
 abbrev rest' : Code
 rest' = after 2 (code.function).body
@@ -99,7 +99,7 @@ module _ {M : Type 1} {𝓤 : Ura M} (𝓛 : Logic 𝓤) (mem : Memory → SProp
   n-frames = length frames
 
   abbrev args' : MutBor (List Frame) × Unit {0}
-  args' = (at-list b-frames o-frames γ-frames frames, tt)
+  args' = (at_list b-frames o-frames γ-frames frames, tt)
 
   abbrev vals' : Vals f'.signature (κ-frames, tt)
   vals' = (slice_val (b-frames, o-frames) (length frames) ∷ [], tt)
@@ -110,7 +110,7 @@ module _ {M : Type 1} {𝓤 : Ura M} (𝓛 : Logic 𝓤) (mem : Memory → SProp
   abbrev Post : Val → SProp 𝓤
   Post = (walk_of 𝓛 f'.ended stayed (f'.clauses 𝓛 mem run)).post bound'
 
-  exits' : (zs-frames : List Frame) → zs-frames ≡ replicate (length frames) (freePlace 0) → length zs-frames ≡ length frames → ent 𝓤 (⋆ 𝓛 (‵ (Mine R-Frame κ-frames q-frames γ-frames b-frames o-frames n-frames zs-frames) ∷ [])) (Post (vunit))
+  exits' : (zs-frames : List Frame) → zs-frames ≡ replicate (length frames) (free_record 0) → length zs-frames ≡ length frames → ent 𝓤 (⋆ 𝓛 (‵ (Mine R-Frame κ-frames q-frames γ-frames b-frames o-frames n-frames zs-frames) ∷ [])) (Post (vunit))
   exits' zs-frames e' same-frames =
       qed 𝓛 (‵ (Mine R-Frame κ-frames q-frames γ-frames b-frames o-frames n-frames zs-frames) ∷ []) ∵
       suffices ! _ (ends_at 𝓛 f'.ended stayed (f'.clauses 𝓛 mem run) bound' (vunit) tt (zs-frames, tt) (same-frames, tt)) $ says ! e' $
@@ -148,7 +148,7 @@ module _ {M : Type 1} {𝓤 : Ura M} (𝓛 : Logic 𝓤) (mem : Memory → SProp
         turn' =
             assigns ! (of_opd ! (load ! (from ! (fld ! refl (stop !))) (look_in ! 11 (sub ! 1 refl (whole !))))) (from ! (stop !)) (init ! 7 refl (tt, record { fits = room-frames.0 })) $
             assigns ! (bin ! (load ! (from ! (stop !)) (look ! 9 refl)) (load ! (from ! (stop !)) (look ! 7 refl)) tt) (from ! (stop !)) (init ! 5 refl (tt, tt)) $
-            exit-unless ! (load ! (from ! (stop !)) (look ! 5 refl))
+            exit_unless ! (load ! (from ! (stop !)) (look ! 5 refl))
             (λ test-2.
             exec ! 𝓣.C 𝓣.Λ En' rest' (at_ret En' Post) $
             assigns ! (of_opd ! (const ! _ tt)) (from ! (stop !)) (init ! 13 refl (tt, tt)) $
@@ -205,4 +205,4 @@ clear-frames-spec 𝓤 𝓛 𝓜 𝓡 =
     entered 𝓤 𝓛.H (triple_of 𝓛 f'.signature (f'.spec 𝓛 𝓜.mem 𝓡.run))
     (tables 𝓤 𝓛.H 𝓜 𝓡 code.env).C (tables 𝓤 𝓛.H 𝓜 𝓡 code.env).Λ #own code.function (code.unfolded 𝓤 𝓛.H 𝓜 𝓡)
     (meets 𝓛 𝓜.mem 𝓡.run (tables_of 𝓤 𝓛.H 𝓜 (tables 𝓤 𝓛.H 𝓜 𝓡 code.env))
-    (cited 𝓤 𝓛.H (S-free-place.Asked 𝓛 𝓜.mem 𝓡.run) 𝓜 𝓡 code.env #free-place D-free-place.routine code.calls-frames::records::free-place (T-free-place.met 𝓤 𝓛 𝓜 𝓡)))
+    (cited 𝓤 𝓛.H (S-free-place.Asked 𝓛 𝓜.mem 𝓡.run) 𝓜 𝓡 code.env #free-place D-free-place.routine code.calls-frames::records::free_place_lem (T-free-place.met 𝓤 𝓛 𝓜 𝓡)))

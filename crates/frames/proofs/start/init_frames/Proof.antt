@@ -44,9 +44,9 @@ use denote.Triple.Statement.{Triple}
 use denote.Triple.Table.{entered, cited}
 use denote.Triple.Walked.{says, needs, Stays, stay_slice, stay_none, stay_none_slice, walk_of, Walks, ends_at, walked, Goes-slice, Goes-none, Goes-none_slice, walk_Meets}
 use borrow.Author.Rules.{scaled_Fits}
-use Rattle.frames.proofs.Lent.{at-list, Mine, Yours, ty_at, exit-unless, exit-if, leave-if, fork, skipped, regroup, matched, matched-last, const, is_true, is_false, not-not, differ, widen, less-fits, after, turn-of, take_out, put_in, put_back, look-out, look-back, free_all}
-use Rattle.frames.specs.Widths.{maxPlaces}
-use Rattle.frames.specs.Frames.{initFrames}
+use Rattle.frames.proofs.Lent.{at_list, Mine, Yours, ty_at, exit_unless, exit_if, leave_if, fork, skipped, regroup, matched, matched_last, const, is_true, is_false, not_not, differ, widen, less_fits, after, turn_of_lem, take_out, put_in, put_back, look_out, look_back, free_all}
+use Rattle.frames.specs.Widths.{max_places}
+use Rattle.frames.specs.Frames.{init_frames}
 use Rattle.frames.proofs.Called.main_frame as S-main-frame
 use Rattle.frames.proofs.records.main_frame.Symbol as D-main-frame
 use Rattle.frames.proofs.records.main_frame.Symbol.{name as #main-frame}
@@ -89,7 +89,7 @@ module _ {M : Type 1} {𝓤 : Ura M} (𝓛 : Logic 𝓤) (mem : Memory → SProp
   n-frames = length frames
 
   abbrev args' : MutBor (List Frame) × Unit {0}
-  args' = (at-list b-frames o-frames γ-frames frames, tt)
+  args' = (at_list b-frames o-frames γ-frames frames, tt)
 
   abbrev vals' : Vals f'.signature (κ-frames, tt)
   vals' = (slice_val (b-frames, o-frames) (length frames) ∷ [], tt)
@@ -100,7 +100,7 @@ module _ {M : Type 1} {𝓤 : Ura M} (𝓛 : Logic 𝓤) (mem : Memory → SProp
   abbrev Post : Val → SProp 𝓤
   Post = (walk_of 𝓛 f'.ended stayed (f'.clauses 𝓛 mem run)).post bound'
 
-  exits' : (zs-frames : List Frame) → zs-frames ≡ initFrames frames → length zs-frames ≡ length frames → ent 𝓤 (⋆ 𝓛 (‵ (Mine R-Frame κ-frames q-frames γ-frames b-frames o-frames n-frames zs-frames) ∷ [])) (Post (vunit))
+  exits' : (zs-frames : List Frame) → zs-frames ≡ init_frames frames → length zs-frames ≡ length frames → ent 𝓤 (⋆ 𝓛 (‵ (Mine R-Frame κ-frames q-frames γ-frames b-frames o-frames n-frames zs-frames) ∷ [])) (Post (vunit))
   exits' zs-frames e' same-frames =
       qed 𝓛 (‵ (Mine R-Frame κ-frames q-frames γ-frames b-frames o-frames n-frames zs-frames) ∷ []) ∵
       suffices ! _ (ends_at 𝓛 f'.ended stayed (f'.clauses 𝓛 mem run) bound' (vunit) tt (zs-frames, tt) (same-frames, tt)) $ says ! e' $
@@ -112,7 +112,7 @@ module _ {M : Type 1} {𝓤 : Ura M} (𝓛 : Logic 𝓤) (mem : Memory → SProp
     abbrev fm : FmC 𝓤 H 𝓛.laws 𝓣.C
     fm = fm_of 𝓤 H 𝓛.laws 𝓣
 
-    walk : (0 < length frames) × (length frames ≤ maxPlaces) → ent 𝓤 (on_entry 𝓛 f'.signature (κ-frames, tt) (q-frames, tt) args' vals') (WpFn 𝓤 H 𝓣.C 𝓣.Λ code.function (slice_val (b-frames, o-frames) (length frames) ∷ []) Post)
+    walk : (0 < length frames) × (length frames ≤ max_places) → ent 𝓤 (on_entry 𝓛 f'.signature (κ-frames, tt) (q-frames, tt) args' vals') (WpFn 𝓤 H 𝓣.C 𝓣.Λ code.function (slice_val (b-frames, o-frames) (length frames) ∷ []) Post)
     walk ok' =
         qed 𝓛 ((‵ (flft κ-frames q-frames) ⊛ ‵ ftrue) ∷ ‵ (owns (MutSlice (named 0) κ-frames R-Frame ∷ []) args' vals') ∷ []) ∵ enter ! 𝓣.C 𝓣.Λ code.function (slice_val (b-frames, o-frames) (length frames) ∷ []) _ $
         alloc1 ! (λ l₀. alloc1 ! (λ l₁. alloc1 ! (λ l₂. alloc1 ! (λ l₃. alloc1 ! (λ l₄. alloc1 ! (λ l₅. alloc1 ! (λ l₆. alloc1 ! (λ l₇. alloc1 ! (λ l₈. alloc1 ! (λ l₉. alloc0 ! $ params1 ! $
@@ -152,7 +152,7 @@ module _ {M : Type 1} {𝓤 : Ura M} (𝓛 : Logic 𝓤) (mem : Memory → SProp
   walks known-main-frame known-put-frame known-others known-init-places = walked 𝓛 f'.ended stayed (f'.clauses 𝓛 mem run) (WpFn 𝓤 H 𝓣.C 𝓣.Λ code.function)
       (λ κs. (mut_slice_vals, tt))
       (λ κs. (mut_slice_Tells (named 0) κs.0 R-Frame, tt))
-      (λ κs qs bounds a g are. needs 𝓤 ((0 < length a.0.now) × (length a.0.now ≤ maxPlaces)) _
+      (λ κs qs bounds a g are. needs 𝓤 ((0 < length a.0.now) × (length a.0.now ≤ max_places)) _
       (walk 𝓛 mem run κs.0 qs.0 a.0.ref_ptr.0 a.0.ref_ptr.1 a.0.ghost_name a.0.now are.0.0.1 𝓣 known-main-frame known-put-frame known-others known-init-places))
 
   meets : Triple 𝓤 (𝓣.C #main-frame) (S-main-frame.Asked 𝓛 mem run) → Triple 𝓤 (𝓣.C #put-frame) (S-put-frame.Asked 𝓛 mem run) → Triple 𝓤 (𝓣.C #others) (S-others.Asked 𝓛 mem run) → Triple 𝓤 (𝓣.C #init-places) (S-init-places.Asked 𝓛 mem run) → Meets 𝓛 f'.signature (WpFn 𝓤 H 𝓣.C 𝓣.Λ code.function) (f'.spec 𝓛 mem run)
@@ -169,4 +169,4 @@ init-frames-spec 𝓤 𝓛 𝓜 𝓡 =
     (cited 𝓤 𝓛.H (S-main-frame.Asked 𝓛 𝓜.mem 𝓡.run) 𝓜 𝓡 code.env #main-frame D-main-frame.routine code.calls-frames::records::main-frame (T-main-frame.met 𝓤 𝓛 𝓜 𝓡))
     (cited 𝓤 𝓛.H (S-put-frame.Asked 𝓛 𝓜.mem 𝓡.run) 𝓜 𝓡 code.env #put-frame D-put-frame.routine code.calls-frames::table::put-frame (T-put-frame.met 𝓤 𝓛 𝓜 𝓡))
     (cited 𝓤 𝓛.H (S-others.Asked 𝓛 𝓜.mem 𝓡.run) 𝓜 𝓡 code.env #others D-others.routine code.calls-frames::start::others (T-others.met 𝓤 𝓛 𝓜 𝓡))
-    (cited 𝓤 𝓛.H (S-init-places.Asked 𝓛 𝓜.mem 𝓡.run) 𝓜 𝓡 code.env #init-places D-init-places.routine code.calls-frames::start::init-places (T-init-places.met 𝓤 𝓛 𝓜 𝓡)))
+    (cited 𝓤 𝓛.H (S-init-places.Asked 𝓛 𝓜.mem 𝓡.run) 𝓜 𝓡 code.env #init-places D-init-places.routine code.calls-frames::start::init_places_lem (T-init-places.met 𝓤 𝓛 𝓜 𝓡)))

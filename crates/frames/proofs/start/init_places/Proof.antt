@@ -45,9 +45,9 @@ use denote.Triple.Statement.{Triple}
 use denote.Triple.Table.{entered, cited}
 use denote.Triple.Walked.{says, needs, Stays, stay_slice, stay_none, stay_none_slice, walk_of, Walks, ends_at, walked, Goes-slice, Goes-none, Goes-none_slice, walk_Meets}
 use borrow.Author.Rules.{scaled_Fits}
-use Rattle.frames.proofs.Lent.{at-list, Mine, Yours, ty_at, exit-unless, exit-if, leave-if, fork, skipped, regroup, matched, matched-last, const, is_true, is_false, not-not, differ, widen, less-fits, after, turn-of, take_out, put_in, put_back, look-out, look-back, free_all}
-use Rattle.frames.specs.Widths.{maxPlaces}
-use Rattle.frames.specs.Frames.{initPlaces}
+use Rattle.frames.proofs.Lent.{at_list, Mine, Yours, ty_at, exit_unless, exit_if, leave_if, fork, skipped, regroup, matched, matched_last, const, is_true, is_false, not_not, differ, widen, less_fits, after, turn_of_lem, take_out, put_in, put_back, look_out, look_back, free_all}
+use Rattle.frames.specs.Widths.{max_places}
+use Rattle.frames.specs.Frames.{init_places}
 use Rattle.frames.proofs.Called.add as S-add
 use Rattle.words.proofs.add.Symbol as D-add
 use Rattle.words.proofs.add.Symbol.{name as #add}
@@ -63,12 +63,12 @@ use Rattle.frames.proofs.Called.free_place as S-free-place
 use Rattle.frames.proofs.records.free_place.Symbol as D-free-place
 use Rattle.frames.proofs.records.free_place.Symbol.{name as #free-place}
 use Rattle.frames.proofs.records.free_place.Met as T-free-place
-use Rattle.frames.specs.Frames.{freePlace}
+use Rattle.frames.specs.Frames.{free_record}
 use Rattle.frames.proofs.Called.put_frame as S-put-frame
 use Rattle.frames.proofs.table.put_frame.Symbol as D-put-frame
 use Rattle.frames.proofs.table.put_frame.Symbol.{name as #put-frame}
 use Rattle.frames.proofs.table.put_frame.Met as T-put-frame
-use Rattle.frames.specs.Frames.{setFrame}
+use Rattle.frames.specs.Frames.{set_frame}
 use Rattle.frames.specs.contracts.start.init_places.Key.{name as #own}
 use Rattle.frames.specs.contracts.start.init_places as f'
 use Rattle.frames.proofs.start.init_places.Statement as stated
@@ -92,13 +92,13 @@ ty' i = ty_at (code.function).locals i
 
 -- the loop's body, and what runs after the loop
 abbrev turned' : Code
-turned' = turn-of (after 2 (code.function).body)
+turned' = turn_of_lem (after 2 (code.function).body)
 
 abbrev rest' : Code
 rest' = after 3 (code.function).body
 
 -- where a turn of the loop begins
-record State' (frames : List Frame) (count : ℕ) (first' : ℕ) (frames-fits : length frames < 2 ^ 64) (count_fits : count < 2 ^ 32) (first'-fits : first' < 2 ^ 32) (ok : (first' + count ≤ length frames) × (length frames ≤ maxPlaces)) : Type 0 where
+record State' (frames : List Frame) (count : ℕ) (first' : ℕ) (frames-fits : length frames < 2 ^ 64) (count_fits : count < 2 ^ 32) (first'-fits : first' < 2 ^ 32) (ok : (first' + count ≤ length frames) × (length frames ≤ max_places)) : Type 0 where
   v-more : ℕ
   g-more : v-more < 2 ^ 32
   v-p : ℕ
@@ -115,7 +115,7 @@ module _ {M : Type 1} {𝓤 : Ura M} (𝓛 : Logic 𝓤) (mem : Memory → SProp
   n-frames = length frames
 
   abbrev args' : MutBor (List Frame) × (ℕ × (ℕ × Unit {0}))
-  args' = (at-list b-frames o-frames γ-frames frames, (count, (first', tt)))
+  args' = (at_list b-frames o-frames γ-frames frames, (count, (first', tt)))
 
   abbrev vals' : Vals f'.signature (κ-frames, tt)
   vals' = (slice_val (b-frames, o-frames) (length frames) ∷ [], (vint w32 count ∷ [], (vint w32 first' ∷ [], tt)))
@@ -126,7 +126,7 @@ module _ {M : Type 1} {𝓤 : Ura M} (𝓛 : Logic 𝓤) (mem : Memory → SProp
   abbrev Post : Val → SProp 𝓤
   Post = (walk_of 𝓛 f'.ended stayed (f'.clauses 𝓛 mem run)).post bound'
 
-  exits' : (zs-frames : List Frame) → zs-frames ≡ initPlaces count frames first' → length zs-frames ≡ length frames → ent 𝓤 (⋆ 𝓛 (‵ (Mine R-Frame κ-frames q-frames γ-frames b-frames o-frames n-frames zs-frames) ∷ [])) (Post (vunit))
+  exits' : (zs-frames : List Frame) → zs-frames ≡ init_places count frames first' → length zs-frames ≡ length frames → ent 𝓤 (⋆ 𝓛 (‵ (Mine R-Frame κ-frames q-frames γ-frames b-frames o-frames n-frames zs-frames) ∷ [])) (Post (vunit))
   exits' zs-frames e' same-frames =
       qed 𝓛 (‵ (Mine R-Frame κ-frames q-frames γ-frames b-frames o-frames n-frames zs-frames) ∷ []) ∵
       suffices ! _ (ends_at 𝓛 f'.ended stayed (f'.clauses 𝓛 mem run) bound' (vunit) tt (zs-frames, (tt, (tt, tt))) (same-frames, (tt, (tt, tt)))) $ says ! e' $
@@ -138,7 +138,7 @@ module _ {M : Type 1} {𝓤 : Ura M} (𝓛 : Logic 𝓤) (mem : Memory → SProp
     abbrev fm : FmC 𝓤 H 𝓛.laws 𝓣.C
     fm = fm_of 𝓤 H 𝓛.laws 𝓣
 
-    module _ (ok' : (first' + count ≤ length frames) × (length frames ≤ maxPlaces)) (l₀ l₁ l₂ l₃ l₄ l₅ l₆ l₇ l₈ l₉ l₁₀ l₁₁ l₁₂ : ℕ) where
+    module _ (ok' : (first' + count ≤ length frames) × (length frames ≤ max_places)) (l₀ l₁ l₂ l₃ l₄ l₅ l₆ l₇ l₈ l₉ l₁₀ l₁₁ l₁₂ : ℕ) where
       abbrev S' : Type 0
       S' = State' frames count first' room-frames.0 count_fits first'-fits ok'
 
@@ -163,7 +163,7 @@ module _ {M : Type 1} {𝓤 : Ura M} (𝓛 : Logic 𝓤) (mem : Memory → SProp
         unfolding after_turn
         turn' =
             assigns ! (bin ! (const ! _ tt) (load ! (from ! (stop !)) (look ! 17 refl)) tt) (from ! (stop !)) (init ! 11 refl (tt, tt)) $
-            exit-unless ! (load ! (from ! (stop !)) (look ! 11 refl))
+            exit_unless ! (load ! (from ! (stop !)) (look ! 11 refl))
             (λ test-3.
             exec ! 𝓣.C 𝓣.Λ En' rest' (at_ret En' Post) $
             assigns ! (of_opd ! (const ! _ tt)) (from ! (stop !)) (init ! 25 refl (tt, tt)) $
@@ -171,15 +171,15 @@ module _ {M : Type 1} {𝓤 : Ura M} (𝓛 : Logic 𝓤) (mem : Memory → SProp
             free_all ! 1 refl $
             by ! (exits' frames-l (F.out-4 frames count first' room-frames.0 count_fits first'-fits ok' more p frames-l more-fits p-fits same-frames-l inv' (nltb→le 0 more test-3)) (same-frames-l)))
             (λ test-3.
-            assigns ! (bin ! (load ! (from ! (stop !)) (look ! 17 refl)) (const ! _ tt) (F.small-5 frames count first' room-frames.0 count_fits first'-fits ok' more p frames-l more-fits p-fits same-frames-l inv' (ltb→lt 0 more test-3))) (from ! (stop !)) (store ! 17 refl (tt, record { fits = (less-fits more 1 (2 ^ 32) more-fits) })) $
+            assigns ! (bin ! (load ! (from ! (stop !)) (look ! 17 refl)) (const ! _ tt) (F.small-5 frames count first' room-frames.0 count_fits first'-fits ok' more p frames-l more-fits p-fits same-frames-l inv' (ltb→lt 0 more test-3))) (from ! (stop !)) (store ! 17 refl (tt, record { fits = (less_fits more 1 (2 ^ 32) more-fits) })) $
             -- _6 = words::add(_5, 1)
             S-add.step mem run ! fm known-add p 1 p-fits (lit< tt)
-            (and_then ! (load ! (from ! (stop !)) (look ! 16 refl)) (and_then ! (const ! _ tt) (no_more !))) (λ next next_fits next-is.
+            (and_then ! (load ! (from ! (stop !)) (look ! 16 refl)) (and_then ! (const ! _ tt) (no_more !))) (λ next next_fits next_is.
             land ! (from ! (stop !)) (init ! 13 refl (tt, record { fits = next_fits })) $
             assigns ! (addr ! (from ! (fld ! refl (hop ! (look_in ! 23 (sub ! 0 refl (whole !))) (stop !))))) (from ! (stop !)) (init ! 7 refl (tt, tt)) $
             assigns ! (agg ! (and_then ! (load ! (from ! (stop !)) (look ! 7 refl)) (and_then ! (load ! (from ! (fld ! refl (stop !))) (look_in ! 23 (sub ! 1 refl (whole !)))) (no_more !)))) (from ! (stop !)) (init ! 5 refl (tt, (tt, (record { fits = room-frames.0 }, tt)))) $
             -- _12 = frames::records::link(_4, _6)
-            S-link.step mem run ! fm known-link (more - 1) next (less-fits more 1 (2 ^ 32) more-fits) next_fits
+            S-link.step mem run ! fm known-link (more - 1) next (less_fits more 1 (2 ^ 32) more-fits) next_fits
             (and_then ! (load ! (from ! (stop !)) (look ! 18 refl)) (and_then ! (load ! (from ! (stop !)) (look ! 14 refl)) (no_more !))) (λ r-7 r-7-fits r-7-is.
             land ! (from ! (stop !)) (init ! 1 refl (tt, record { fits = r-7-fits })) $
             -- _11 = frames::records::free_place(_12)
@@ -187,18 +187,18 @@ module _ {M : Type 1} {𝓤 : Ura M} (𝓛 : Logic 𝓤) (mem : Memory → SProp
             (and_then ! (load ! (from ! (stop !)) (look ! 2 refl)) (no_more !)) (λ r-8 r-8-good r-8-is.
             land ! (from ! (stop !)) (init ! 3 refl ((LL.lawful M-Frame.the_type L-Frame.the_laws 𝓛).typed r-8 _ r-8-good).0) $
             -- _8 = frames::table::put_frame(_10, _5, _11)
-            S-put-frame.step mem run ! fm known-put-frame b-frames o-frames n-frames frames-l p r-8 p-fits r-8-good (F.needs-9 frames count first' room-frames.0 count_fits first'-fits ok' more p frames-l more-fits p-fits same-frames-l inv' (ltb→lt 0 more test-3) next next_fits next-is r-7 r-7-fits r-7-is r-8 r-8-is) (same-frames-l) room-frames
+            S-put-frame.step mem run ! fm known-put-frame b-frames o-frames n-frames frames-l p r-8 p-fits r-8-good (F.needs-9 frames count first' room-frames.0 count_fits first'-fits ok' more p frames-l more-fits p-fits same-frames-l inv' (ltb→lt 0 more test-3) next next_fits next_is r-7 r-7-fits r-7-is r-8 r-8-is) (same-frames-l) room-frames
             (λ ν-0 δ-0. and_then ! (load ! (from ! (stop !)) (look ! 6 refl)) (and_then ! (load ! (from ! (stop !)) (look ! 16 refl)) (and_then ! (load ! (from ! (stop !)) (look ! 4 refl)) (no_more !)))) (λ frames-9 done-9 same-frames-9.
             land ! (from ! (stop !)) (init ! 9 refl (tt, tt)) $
             assigns_last ! (of_opd ! (load ! (from ! (stop !)) (look ! 13 refl))) (from ! (stop !)) (store ! 15 refl (tt, record { fits = next_fits })) $
             forget ! 1 refl $ forget ! 3 refl $ forget ! 5 refl $ forget ! 7 refl $ forget ! 9 refl $ forget ! 11 refl $ forget ! 13 refl $
-            again ! Less' Inv' here' (record { v-more = (more - 1); g-more = (less-fits more 1 (2 ^ 32) more-fits); v-p = next; g-p = next_fits; l-frames = frames-9; s-frames = same-frames-9 ∙ same-frames-l; holds = (F.goes_on frames count first' room-frames.0 count_fits first'-fits ok' more p frames-l more-fits p-fits same-frames-l inv' (ltb→lt 0 more test-3) next next_fits next-is r-7 r-7-fits r-7-is r-8 r-8-is frames-9 done-9 same-frames-9) }) (F.falls frames count first' room-frames.0 count_fits first'-fits ok' more p frames-l more-fits p-fits same-frames-l inv' (ltb→lt 0 more test-3) next next_fits next-is r-7 r-7-fits r-7-is r-8 r-8-is frames-9 done-9 same-frames-9))))))
+            again ! Less' Inv' here' (record { v-more = (more - 1); g-more = (less_fits more 1 (2 ^ 32) more-fits); v-p = next; g-p = next_fits; l-frames = frames-9; s-frames = same-frames-9 ∙ same-frames-l; holds = (F.goes_on frames count first' room-frames.0 count_fits first'-fits ok' more p frames-l more-fits p-fits same-frames-l inv' (ltb→lt 0 more test-3) next next_fits next_is r-7 r-7-fits r-7-is r-8 r-8-is frames-9 done-9 same-frames-9) }) (F.falls frames count first' room-frames.0 count_fits first'-fits ok' more p frames-l more-fits p-fits same-frames-l inv' (ltb→lt 0 more test-3) next next_fits next_is r-7 r-7-fits r-7-is r-8 r-8-is frames-9 done-9 same-frames-9))))))
 
       loop' : Seq (Go {0}) 𝓛 (Inv' (record { v-more = count; g-more = count_fits; v-p = first'; g-p = first'-fits; l-frames = frames; s-frames = refl; holds = (F.begins frames count first' room-frames.0 count_fits first'-fits ok') })) (runs 𝓣.C 𝓣.Λ En' (loopᴹ turned') (any_q (after_block 𝓤 H (after_seq 𝓤 H (Wp 𝓤 H 𝓣.C 𝓣.Λ En' rest' (at_return 𝓤 H En' Post)) (at_return 𝓤 H En' Post)))))
       unfolding after_turn
       loop' = loops ! 𝓣 Less' less_wf Inv' (λ s'. turn' s'.v-more s'.v-p s'.l-frames s'.g-more s'.g-p s'.s-frames s'.holds) (record { v-more = count; g-more = count_fits; v-p = first'; g-p = first'-fits; l-frames = frames; s-frames = refl; holds = (F.begins frames count first' room-frames.0 count_fits first'-fits ok') })
 
-    walk : (first' + count ≤ length frames) × (length frames ≤ maxPlaces) → ent 𝓤 (on_entry 𝓛 f'.signature (κ-frames, tt) (q-frames, tt) args' vals') (WpFn 𝓤 H 𝓣.C 𝓣.Λ code.function (slice_val (b-frames, o-frames) (length frames) ∷ vint w32 count ∷ vint w32 first' ∷ []) Post)
+    walk : (first' + count ≤ length frames) × (length frames ≤ max_places) → ent 𝓤 (on_entry 𝓛 f'.signature (κ-frames, tt) (q-frames, tt) args' vals') (WpFn 𝓤 H 𝓣.C 𝓣.Λ code.function (slice_val (b-frames, o-frames) (length frames) ∷ vint w32 count ∷ vint w32 first' ∷ []) Post)
     walk ok' =
         qed 𝓛 ((‵ (flft κ-frames q-frames) ⊛ ‵ ftrue) ∷ ‵ (owns (MutSlice (named 0) κ-frames R-Frame ∷ u32 ∷ u32 ∷ []) args' vals') ∷ []) ∵ enter ! 𝓣.C 𝓣.Λ code.function (slice_val (b-frames, o-frames) (length frames) ∷ vint w32 count ∷ vint w32 first' ∷ []) _ $
         alloc1 ! (λ l₀. alloc1 ! (λ l₁. alloc1 ! (λ l₂. alloc1 ! (λ l₃. alloc1 ! (λ l₄. alloc1 ! (λ l₅. alloc1 ! (λ l₆. alloc1 ! (λ l₇. alloc1 ! (λ l₈. alloc1 ! (λ l₉. alloc1 ! (λ l₁₀. alloc1 ! (λ l₁₁. alloc1 ! (λ l₁₂. alloc0 ! $ params1 ! $
@@ -216,7 +216,7 @@ module _ {M : Type 1} {𝓤 : Ura M} (𝓛 : Logic 𝓤) (mem : Memory → SProp
   walks known-add known-link known-free-place known-put-frame = walked 𝓛 f'.ended stayed (f'.clauses 𝓛 mem run) (WpFn 𝓤 H 𝓣.C 𝓣.Λ code.function)
       (λ κs. (mut_slice_vals, (uint_vals w32, (uint_vals w32, tt))))
       (λ κs. (mut_slice_Tells (named 0) κs.0 R-Frame, (uint_Tells w32, (uint_Tells w32, tt))))
-      (λ κs qs bounds a g are. needs 𝓤 ((a.1.1.0 + a.1.0 ≤ length a.0.now) × (length a.0.now ≤ maxPlaces)) _
+      (λ κs qs bounds a g are. needs 𝓤 ((a.1.1.0 + a.1.0 ≤ length a.0.now) × (length a.0.now ≤ max_places)) _
       (walk 𝓛 mem run κs.0 qs.0 a.0.ref_ptr.0 a.0.ref_ptr.1 a.0.ghost_name a.0.now a.1.0 are.1.0.1 a.1.1.0 are.1.1.0.1 are.0.0.1 𝓣 known-add known-link known-free-place known-put-frame))
 
   meets : Triple 𝓤 (𝓣.C #add) (S-add.Asked 𝓛 mem run) → Triple 𝓤 (𝓣.C #link) (S-link.Asked 𝓛 mem run) → Triple 𝓤 (𝓣.C #free-place) (S-free-place.Asked 𝓛 mem run) → Triple 𝓤 (𝓣.C #put-frame) (S-put-frame.Asked 𝓛 mem run) → Meets 𝓛 f'.signature (WpFn 𝓤 H 𝓣.C 𝓣.Λ code.function) (f'.spec 𝓛 mem run)
@@ -232,5 +232,5 @@ init-places-spec 𝓤 𝓛 𝓜 𝓡 =
     (meets 𝓛 𝓜.mem 𝓡.run (tables_of 𝓤 𝓛.H 𝓜 (tables 𝓤 𝓛.H 𝓜 𝓡 code.env))
     (cited 𝓤 𝓛.H (S-add.Asked 𝓛 𝓜.mem 𝓡.run) 𝓜 𝓡 code.env #add D-add.routine code.calls-words::add (T-add.met 𝓤 𝓛 𝓜 𝓡))
     (cited 𝓤 𝓛.H (S-link.Asked 𝓛 𝓜.mem 𝓡.run) 𝓜 𝓡 code.env #link D-link.routine code.calls-frames::records::link (T-link.met 𝓤 𝓛 𝓜 𝓡))
-    (cited 𝓤 𝓛.H (S-free-place.Asked 𝓛 𝓜.mem 𝓡.run) 𝓜 𝓡 code.env #free-place D-free-place.routine code.calls-frames::records::free-place (T-free-place.met 𝓤 𝓛 𝓜 𝓡))
+    (cited 𝓤 𝓛.H (S-free-place.Asked 𝓛 𝓜.mem 𝓡.run) 𝓜 𝓡 code.env #free-place D-free-place.routine code.calls-frames::records::free_place_lem (T-free-place.met 𝓤 𝓛 𝓜 𝓡))
     (cited 𝓤 𝓛.H (S-put-frame.Asked 𝓛 𝓜.mem 𝓡.run) 𝓜 𝓡 code.env #put-frame D-put-frame.routine code.calls-frames::table::put-frame (T-put-frame.met 𝓤 𝓛 𝓜 𝓡)))

@@ -44,11 +44,11 @@ use denote.Triple.Statement.{Triple}
 use denote.Triple.Table.{entered, cited}
 use denote.Triple.Walked.{says, needs, Stays, stay_slice, stay_none, stay_none_slice, walk_of, Walks, ends_at, walked, Goes-slice, Goes-none, Goes-none_slice, walk_Meets}
 use borrow.Author.Rules.{scaled_Fits}
-use Rattle.frames.proofs.Lent.{at-list, Mine, Yours, ty_at, exit-unless, exit-if, leave-if, fork, skipped, regroup, matched, matched-last, const, is_true, is_false, not-not, differ, widen, less-fits, after, turn-of, take_out, put_in, put_back, look-out, look-back, free_all}
+use Rattle.frames.proofs.Lent.{at_list, Mine, Yours, ty_at, exit_unless, exit_if, leave_if, fork, skipped, regroup, matched, matched_last, const, is_true, is_false, not_not, differ, widen, less_fits, after, turn_of_lem, take_out, put_in, put_back, look_out, look_back, free_all}
 use mathlib.Core.Logic.{◌≢◌}
 use Rattle.words.specs.Basics.{none}
-use Rattle.frames.specs.Frames.{frameAt}
-use Rattle.frames.specs.Steps.{endFrame}
+use Rattle.frames.specs.Frames.{frame_at}
+use Rattle.frames.specs.Steps.{end_frame}
 use Rattle.frames.specs.Ranges.{EndsIn}
 use Rattle.frames.proofs.Called.frame_at as S-frame-at
 use Rattle.frames.proofs.table.frame_at.Symbol as D-frame-at
@@ -105,7 +105,7 @@ module _ {M : Type 1} {𝓤 : Ura M} (𝓛 : Logic 𝓤) (mem : Memory → SProp
   n-frames = length frames
 
   abbrev args' : MutBor (List Frame) × (ℕ × (ℕ × (ℕ × Unit {0})))
-  args' = (at-list b-frames o-frames γ-frames frames, (free, (p, (q, tt))))
+  args' = (at_list b-frames o-frames γ-frames frames, (free, (p, (q, tt))))
 
   abbrev vals' : Vals f'.signature (κ-frames, tt)
   vals' = (slice_val (b-frames, o-frames) (length frames) ∷ [], (vint w32 free ∷ [], (vint w32 p ∷ [], (vint w32 q ∷ [], tt))))
@@ -116,7 +116,7 @@ module _ {M : Type 1} {𝓤 : Ura M} (𝓛 : Logic 𝓤) (mem : Memory → SProp
   abbrev Post : Val → SProp 𝓤
   Post = (walk_of 𝓛 f'.ended stayed (f'.clauses 𝓛 mem run)).post bound'
 
-  exits' : (zs-frames : List Frame) → zs-frames ≡ endFrame frames free p → length zs-frames ≡ length frames → ent 𝓤 (⋆ 𝓛 (‵ (Mine R-Frame κ-frames q-frames γ-frames b-frames o-frames n-frames zs-frames) ∷ [])) (Post (vunit))
+  exits' : (zs-frames : List Frame) → zs-frames ≡ end_frame frames free p → length zs-frames ≡ length frames → ent 𝓤 (⋆ 𝓛 (‵ (Mine R-Frame κ-frames q-frames γ-frames b-frames o-frames n-frames zs-frames) ∷ [])) (Post (vunit))
   exits' zs-frames e' same-frames =
       qed 𝓛 (‵ (Mine R-Frame κ-frames q-frames γ-frames b-frames o-frames n-frames zs-frames) ∷ []) ∵
       suffices ! _ (ends_at 𝓛 f'.ended stayed (f'.clauses 𝓛 mem run) bound' (vunit) tt (zs-frames, (tt, (tt, (tt, tt)))) (same-frames, (tt, (tt, (tt, tt))))) $ says ! e' $
@@ -128,7 +128,7 @@ module _ {M : Type 1} {𝓤 : Ura M} (𝓛 : Logic 𝓤) (mem : Memory → SProp
     abbrev fm : FmC 𝓤 H 𝓛.laws 𝓣.C
     fm = fm_of 𝓤 H 𝓛.laws 𝓣
 
-    walk : EndsIn frames p q × (q ≢ none) × ((frameAt frames q).outstanding ≡ 1) → ent 𝓤 (on_entry 𝓛 f'.signature (κ-frames, tt) (q-frames, tt) args' vals') (WpFn 𝓤 H 𝓣.C 𝓣.Λ code.function (slice_val (b-frames, o-frames) (length frames) ∷ vint w32 free ∷ vint w32 p ∷ vint w32 q ∷ []) Post)
+    walk : EndsIn frames p q × (q ≢ none) × ((frame_at frames q).outstanding ≡ 1) → ent 𝓤 (on_entry 𝓛 f'.signature (κ-frames, tt) (q-frames, tt) args' vals') (WpFn 𝓤 H 𝓣.C 𝓣.Λ code.function (slice_val (b-frames, o-frames) (length frames) ∷ vint w32 free ∷ vint w32 p ∷ vint w32 q ∷ []) Post)
     walk ok' =
         qed 𝓛 ((‵ (flft κ-frames q-frames) ⊛ ‵ ftrue) ∷ ‵ (owns (MutSlice (named 0) κ-frames R-Frame ∷ u32 ∷ u32 ∷ u32 ∷ []) args' vals') ∷ []) ∵ enter ! 𝓣.C 𝓣.Λ code.function (slice_val (b-frames, o-frames) (length frames) ∷ vint w32 free ∷ vint w32 p ∷ vint w32 q ∷ []) _ $
         alloc1 ! (λ l₀. alloc1 ! (λ l₁. alloc1 ! (λ l₂. alloc1 ! (λ l₃. alloc1 ! (λ l₄. alloc1 ! (λ l₅. alloc1 ! (λ l₆. alloc1 ! (λ l₇. alloc1 ! (λ l₈. alloc1 ! (λ l₉. alloc1 ! (λ l₁₀. alloc1 ! (λ l₁₁. alloc1 ! (λ l₁₂. alloc1 ! (λ l₁₃. alloc1 ! (λ l₁₄. alloc1 ! (λ l₁₅. alloc1 ! (λ l₁₆. alloc1 ! (λ l₁₇. alloc0 ! $ params1 ! $
@@ -183,7 +183,7 @@ module _ {M : Type 1} {𝓤 : Ura M} (𝓛 : Logic 𝓤) (mem : Memory → SProp
   walks known-frame-at known-without-child known_joined known-put-frame known-free-place = walked 𝓛 f'.ended stayed (f'.clauses 𝓛 mem run) (WpFn 𝓤 H 𝓣.C 𝓣.Λ code.function)
       (λ κs. (mut_slice_vals, (uint_vals w32, (uint_vals w32, (uint_vals w32, tt)))))
       (λ κs. (mut_slice_Tells (named 0) κs.0 R-Frame, (uint_Tells w32, (uint_Tells w32, (uint_Tells w32, tt)))))
-      (λ κs qs bounds a g are. needs 𝓤 (EndsIn a.0.now a.1.1.0 a.1.1.1.0 × (a.1.1.1.0 ≢ none) × ((frameAt a.0.now a.1.1.1.0).outstanding ≡ 1)) _
+      (λ κs qs bounds a g are. needs 𝓤 (EndsIn a.0.now a.1.1.0 a.1.1.1.0 × (a.1.1.1.0 ≢ none) × ((frame_at a.0.now a.1.1.1.0).outstanding ≡ 1)) _
       (walk 𝓛 mem run κs.0 qs.0 a.0.ref_ptr.0 a.0.ref_ptr.1 a.0.ghost_name a.0.now a.1.0 are.1.0.1 a.1.1.0 are.1.1.0.1 a.1.1.1.0 are.1.1.1.0.1 are.0.0.1 𝓣 known-frame-at known-without-child known_joined known-put-frame known-free-place))
 
   meets : Triple 𝓤 (𝓣.C #frame-at) (S-frame-at.Asked 𝓛 mem run) → Triple 𝓤 (𝓣.C #without-child) (S-without-child.Asked 𝓛 mem run) → Triple 𝓤 (𝓣.C #joined) (S-joined.Asked 𝓛 mem run) → Triple 𝓤 (𝓣.C #put-frame) (S-put-frame.Asked 𝓛 mem run) → Triple 𝓤 (𝓣.C #free-place) (S-free-place.Asked 𝓛 mem run) → Meets 𝓛 f'.signature (WpFn 𝓤 H 𝓣.C 𝓣.Λ code.function) (f'.spec 𝓛 mem run)
@@ -201,4 +201,4 @@ end-alone-spec 𝓤 𝓛 𝓜 𝓡 =
     (cited 𝓤 𝓛.H (S-without-child.Asked 𝓛 𝓜.mem 𝓡.run) 𝓜 𝓡 code.env #without-child D-without-child.routine code.calls-frames::records::without-child (T-without-child.met 𝓤 𝓛 𝓜 𝓡))
     (cited 𝓤 𝓛.H (S-joined.Asked 𝓛 𝓜.mem 𝓡.run) 𝓜 𝓡 code.env #joined D-joined.routine code.calls-frames::records::joined (T-joined.met 𝓤 𝓛 𝓜 𝓡))
     (cited 𝓤 𝓛.H (S-put-frame.Asked 𝓛 𝓜.mem 𝓡.run) 𝓜 𝓡 code.env #put-frame D-put-frame.routine code.calls-frames::table::put-frame (T-put-frame.met 𝓤 𝓛 𝓜 𝓡))
-    (cited 𝓤 𝓛.H (S-free-place.Asked 𝓛 𝓜.mem 𝓡.run) 𝓜 𝓡 code.env #free-place D-free-place.routine code.calls-frames::records::free-place (T-free-place.met 𝓤 𝓛 𝓜 𝓡)))
+    (cited 𝓤 𝓛.H (S-free-place.Asked 𝓛 𝓜.mem 𝓡.run) 𝓜 𝓡 code.env #free-place D-free-place.routine code.calls-frames::records::free_place_lem (T-free-place.met 𝓤 𝓛 𝓜 𝓡)))

@@ -44,9 +44,9 @@ use denote.Triple.Statement.{Triple}
 use denote.Triple.Table.{entered, cited}
 use denote.Triple.Walked.{says, needs, Stays, stay_slice, stay_none, stay_none_slice, walk_of, Walks, ends_at, walked, Goes-slice, Goes-none, Goes-none_slice, walk_Meets}
 use borrow.Author.Rules.{scaled_Fits}
-use Rattle.frames.proofs.Lent.{at-list, Mine, Yours, ty_at, exit-unless, exit-if, leave-if, fork, skipped, regroup, matched, matched-last, const, is_true, is_false, not-not, differ, widen, less-fits, after, turn-of, take_out, put_in, put_back, look-out, look-back, free_all}
-use Rattle.frames.specs.Widths.{maxPlaces}
-use Rattle.frames.specs.Steps.{endFrame}
+use Rattle.frames.proofs.Lent.{at_list, Mine, Yours, ty_at, exit_unless, exit_if, leave_if, fork, skipped, regroup, matched, matched_last, const, is_true, is_false, not_not, differ, widen, less_fits, after, turn_of_lem, take_out, put_in, put_back, look_out, look_back, free_all}
+use Rattle.frames.specs.Widths.{max_places}
+use Rattle.frames.specs.Steps.{end_frame}
 use Rattle.frames.specs.Ranges.{EndsIn}
 use Rattle.frames.proofs.Called.free_place as S-free-place
 use Rattle.frames.proofs.records.free_place.Symbol as D-free-place
@@ -103,7 +103,7 @@ module _ {M : Type 1} {𝓤 : Ura M} (𝓛 : Logic 𝓤) (mem : Memory → SProp
   n-frames = length frames
 
   abbrev args' : MutBor (List Frame) × (ℕ × (ℕ × (ℕ × Unit {0})))
-  args' = (at-list b-frames o-frames γ-frames frames, (free, (p, (q, tt))))
+  args' = (at_list b-frames o-frames γ-frames frames, (free, (p, (q, tt))))
 
   abbrev vals' : Vals f'.signature (κ-frames, tt)
   vals' = (slice_val (b-frames, o-frames) (length frames) ∷ [], (vint w32 free ∷ [], (vint w32 p ∷ [], (vint w32 q ∷ [], tt))))
@@ -114,7 +114,7 @@ module _ {M : Type 1} {𝓤 : Ura M} (𝓛 : Logic 𝓤) (mem : Memory → SProp
   abbrev Post : Val → SProp 𝓤
   Post = (walk_of 𝓛 f'.ended stayed (f'.clauses 𝓛 mem run)).post bound'
 
-  exits' : (zs-frames : List Frame) → zs-frames ≡ endFrame frames free p → length zs-frames ≡ length frames → ent 𝓤 (⋆ 𝓛 (‵ (Mine R-Frame κ-frames q-frames γ-frames b-frames o-frames n-frames zs-frames) ∷ [])) (Post (vunit))
+  exits' : (zs-frames : List Frame) → zs-frames ≡ end_frame frames free p → length zs-frames ≡ length frames → ent 𝓤 (⋆ 𝓛 (‵ (Mine R-Frame κ-frames q-frames γ-frames b-frames o-frames n-frames zs-frames) ∷ [])) (Post (vunit))
   exits' zs-frames e' same-frames =
       qed 𝓛 (‵ (Mine R-Frame κ-frames q-frames γ-frames b-frames o-frames n-frames zs-frames) ∷ []) ∵
       suffices ! _ (ends_at 𝓛 f'.ended stayed (f'.clauses 𝓛 mem run) bound' (vunit) tt (zs-frames, (tt, (tt, (tt, tt)))) (same-frames, (tt, (tt, (tt, tt))))) $ says ! e' $
@@ -126,7 +126,7 @@ module _ {M : Type 1} {𝓤 : Ura M} (𝓛 : Logic 𝓤) (mem : Memory → SProp
     abbrev fm : FmC 𝓤 H 𝓛.laws 𝓣.C
     fm = fm_of 𝓤 H 𝓛.laws 𝓣
 
-    walk : EndsIn frames p q × (length frames ≤ maxPlaces) → ent 𝓤 (on_entry 𝓛 f'.signature (κ-frames, tt) (q-frames, tt) args' vals') (WpFn 𝓤 H 𝓣.C 𝓣.Λ code.function (slice_val (b-frames, o-frames) (length frames) ∷ vint w32 free ∷ vint w32 p ∷ vint w32 q ∷ []) Post)
+    walk : EndsIn frames p q × (length frames ≤ max_places) → ent 𝓤 (on_entry 𝓛 f'.signature (κ-frames, tt) (q-frames, tt) args' vals') (WpFn 𝓤 H 𝓣.C 𝓣.Λ code.function (slice_val (b-frames, o-frames) (length frames) ∷ vint w32 free ∷ vint w32 p ∷ vint w32 q ∷ []) Post)
     walk ok' =
         qed 𝓛 ((‵ (flft κ-frames q-frames) ⊛ ‵ ftrue) ∷ ‵ (owns (MutSlice (named 0) κ-frames R-Frame ∷ u32 ∷ u32 ∷ u32 ∷ []) args' vals') ∷ []) ∵ enter ! 𝓣.C 𝓣.Λ code.function (slice_val (b-frames, o-frames) (length frames) ∷ vint w32 free ∷ vint w32 p ∷ vint w32 q ∷ []) _ $
         alloc1 ! (λ l₀. alloc1 ! (λ l₁. alloc1 ! (λ l₂. alloc1 ! (λ l₃. alloc1 ! (λ l₄. alloc1 ! (λ l₅. alloc1 ! (λ l₆. alloc1 ! (λ l₇. alloc1 ! (λ l₈. alloc1 ! (λ l₉. alloc1 ! (λ l₁₀. alloc1 ! (λ l₁₁. alloc1 ! (λ l₁₂. alloc1 ! (λ l₁₃. alloc1 ! (λ l₁₄. alloc1 ! (λ l₁₅. alloc1 ! (λ l₁₆. alloc1 ! (λ l₁₇. alloc1 ! (λ l₁₈. alloc0 ! $ params1 ! $
@@ -134,7 +134,7 @@ module _ {M : Type 1} {𝓤 : Ura M} (𝓛 : Logic 𝓤) (mem : Memory → SProp
         move ! (39 ∷ []) $ fsplit ! $ move ! (1 ∷ []) $ fsplit ! $ drop ! $ fsplit ! $ drop ! $ fsplit ! $ drop ! $ drop ! $ move ! (39 ∷ []) $ split ! $ move ! (1 ∷ []) $ drop ! $ move ! (1 ∷ 0 ∷ []) $ fjoin ! $
         -- [frames; the locals]
         assigns ! (bin ! (load ! (from ! (stop !)) (look ! 29 refl)) (const ! _ tt) tt) (from ! (stop !)) (init ! 25 refl (tt, tt)) $
-        leave-if ! (load ! (from ! (stop !)) (look ! 25 refl))
+        leave_if ! (load ! (from ! (stop !)) (look ! 25 refl))
         (λ test-1.
         assigns ! (addr ! (from ! (fld ! refl (hop ! (look_in ! 35 (sub ! 0 refl (whole !))) (stop !))))) (from ! (stop !)) (init ! 21 refl (tt, tt)) $
         assigns ! (agg ! (and_then ! (load ! (from ! (stop !)) (look ! 21 refl)) (and_then ! (load ! (from ! (fld ! refl (stop !))) (look_in ! 35 (sub ! 1 refl (whole !)))) (no_more !)))) (from ! (stop !)) (init ! 19 refl (tt, (tt, (record { fits = room-frames.0 }, tt)))) $
@@ -158,7 +158,7 @@ module _ {M : Type 1} {𝓤 : Ura M} (𝓛 : Logic 𝓤) (mem : Memory → SProp
         (λ ν-0 δ-0. and_then ! (load ! (from ! (stop !)) (look ! 14 refl)) (and_then ! (load ! (from ! (stop !)) (look ! 30 refl)) (no_more !))) (λ g g-good g-is.
         land ! (from ! (stop !)) (init ! 27 refl ((LL.lawful M-Frame.the_type L-Frame.the_laws 𝓛).typed g _ g-good).0) $
         assigns ! (bin ! (load ! (from ! (fld ! refl (stop !))) (look_in ! 27 (sub ! 3 refl (whole !)))) (const ! _ tt) tt) (from ! (stop !)) (store ! 25 refl (tt, tt)) $
-        leave-if ! (load ! (from ! (stop !)) (look ! 25 refl))
+        leave_if ! (load ! (from ! (stop !)) (look ! 25 refl))
         (λ test-6.
         assigns ! (addr ! (from ! (fld ! refl (hop ! (look_in ! 35 (sub ! 0 refl (whole !))) (stop !))))) (from ! (stop !)) (init ! 9 refl (tt, tt)) $
         assigns ! (agg ! (and_then ! (load ! (from ! (stop !)) (look ! 9 refl)) (and_then ! (load ! (from ! (fld ! refl (stop !))) (look_in ! 35 (sub ! 1 refl (whole !)))) (no_more !)))) (from ! (stop !)) (init ! 7 refl (tt, (tt, (record { fits = room-frames.0 }, tt)))) $
@@ -174,13 +174,13 @@ module _ {M : Type 1} {𝓤 : Ura M} (𝓛 : Logic 𝓤) (mem : Memory → SProp
         assigns ! (addr ! (from ! (fld ! refl (hop ! (look_in ! 35 (sub ! 0 refl (whole !))) (stop !))))) (from ! (stop !)) (init ! 3 refl (tt, tt)) $
         assigns ! (agg ! (and_then ! (load ! (from ! (stop !)) (look ! 3 refl)) (and_then ! (load ! (from ! (fld ! refl (stop !))) (look_in ! 35 (sub ! 1 refl (whole !)))) (no_more !)))) (from ! (stop !)) (init ! 1 refl (tt, (tt, (record { fits = room-frames.0 }, tt)))) $
         -- _16 = frames::steps::end_alone(_18, _2, _3, _4)
-        S-end-alone.step mem run ! fm known-end-alone b-frames o-frames n-frames frames free p q free-fits p-fits q-fits (F.needs-9 frames free p q room-frames.0 free-fits p-fits q-fits ok' (differ q 4294967295 test-1) g g-is (eqb→eq g.outstanding 1 (not-not (eqb g.outstanding 1) test-6))) (refl) room-frames
+        S-end-alone.step mem run ! fm known-end-alone b-frames o-frames n-frames frames free p q free-fits p-fits q-fits (F.needs-9 frames free p q room-frames.0 free-fits p-fits q-fits ok' (differ q 4294967295 test-1) g g-is (eqb→eq g.outstanding 1 (not_not (eqb g.outstanding 1) test-6))) (refl) room-frames
         (λ ν-0 δ-0. and_then ! (load ! (from ! (stop !)) (look ! 2 refl)) (and_then ! (load ! (from ! (stop !)) (look ! 34 refl)) (and_then ! (load ! (from ! (stop !)) (look ! 32 refl)) (and_then ! (load ! (from ! (stop !)) (look ! 30 refl)) (no_more !))))) (λ frames-9 done-9 same-frames-9.
         land ! (from ! (stop !)) (init ! 5 refl (tt, tt)) $
         assigns ! (of_opd ! (const ! _ tt)) (from ! (stop !)) (init ! 37 refl (tt, tt)) $
         returns_within ! Post refl (look ! 37 refl) $ forget ! 1 refl $ forget ! 3 refl $ forget ! 5 refl $ forget ! 13 refl $ forget ! 15 refl $ forget ! 25 refl $ forget ! 27 refl $ forget ! 29 refl $ forget ! 31 refl $ forget ! 33 refl $ forget ! 35 refl $ forget ! 37 refl $
         free_all ! 1 refl $
-        by ! (exits' frames-9 (F.out-10 frames free p q room-frames.0 free-fits p-fits q-fits ok' (differ q 4294967295 test-1) g g-is (eqb→eq g.outstanding 1 (not-not (eqb g.outstanding 1) test-6)) frames-9 done-9 same-frames-9) (same-frames-9)))))))))))))))))))))))))
+        by ! (exits' frames-9 (F.out-10 frames free p q room-frames.0 free-fits p-fits q-fits ok' (differ q 4294967295 test-1) g g-is (eqb→eq g.outstanding 1 (not_not (eqb g.outstanding 1) test-6)) frames-9 done-9 same-frames-9) (same-frames-9)))))))))))))))))))))))))
 
 module _ {M : Type 1} {𝓤 : Ura M} (𝓛 : Logic 𝓤) (mem : Memory → SProp 𝓤) (run : Routine → Fun 𝓤) (𝓣 : Tables 𝓤 𝓛.H) where
   open 𝓛 use {H}
@@ -189,7 +189,7 @@ module _ {M : Type 1} {𝓤 : Ura M} (𝓛 : Logic 𝓤) (mem : Memory → SProp
   walks known-free-place known-put-frame known-frame-at known-end-sibling known-end-alone = walked 𝓛 f'.ended stayed (f'.clauses 𝓛 mem run) (WpFn 𝓤 H 𝓣.C 𝓣.Λ code.function)
       (λ κs. (mut_slice_vals, (uint_vals w32, (uint_vals w32, (uint_vals w32, tt)))))
       (λ κs. (mut_slice_Tells (named 0) κs.0 R-Frame, (uint_Tells w32, (uint_Tells w32, (uint_Tells w32, tt)))))
-      (λ κs qs bounds a g are. needs 𝓤 (EndsIn a.0.now a.1.1.0 a.1.1.1.0 × (length a.0.now ≤ maxPlaces)) _
+      (λ κs qs bounds a g are. needs 𝓤 (EndsIn a.0.now a.1.1.0 a.1.1.1.0 × (length a.0.now ≤ max_places)) _
       (walk 𝓛 mem run κs.0 qs.0 a.0.ref_ptr.0 a.0.ref_ptr.1 a.0.ghost_name a.0.now a.1.0 are.1.0.1 a.1.1.0 are.1.1.0.1 a.1.1.1.0 are.1.1.1.0.1 are.0.0.1 𝓣 known-free-place known-put-frame known-frame-at known-end-sibling known-end-alone))
 
   meets : Triple 𝓤 (𝓣.C #free-place) (S-free-place.Asked 𝓛 mem run) → Triple 𝓤 (𝓣.C #put-frame) (S-put-frame.Asked 𝓛 mem run) → Triple 𝓤 (𝓣.C #frame-at) (S-frame-at.Asked 𝓛 mem run) → Triple 𝓤 (𝓣.C #end-sibling) (S-end-sibling.Asked 𝓛 mem run) → Triple 𝓤 (𝓣.C #end-alone) (S-end-alone.Asked 𝓛 mem run) → Meets 𝓛 f'.signature (WpFn 𝓤 H 𝓣.C 𝓣.Λ code.function) (f'.spec 𝓛 mem run)
@@ -203,7 +203,7 @@ end-frame-spec 𝓤 𝓛 𝓜 𝓡 =
     entered 𝓤 𝓛.H (triple_of 𝓛 f'.signature (f'.spec 𝓛 𝓜.mem 𝓡.run))
     (tables 𝓤 𝓛.H 𝓜 𝓡 code.env).C (tables 𝓤 𝓛.H 𝓜 𝓡 code.env).Λ #own code.function (code.unfolded 𝓤 𝓛.H 𝓜 𝓡)
     (meets 𝓛 𝓜.mem 𝓡.run (tables_of 𝓤 𝓛.H 𝓜 (tables 𝓤 𝓛.H 𝓜 𝓡 code.env))
-    (cited 𝓤 𝓛.H (S-free-place.Asked 𝓛 𝓜.mem 𝓡.run) 𝓜 𝓡 code.env #free-place D-free-place.routine code.calls-frames::records::free-place (T-free-place.met 𝓤 𝓛 𝓜 𝓡))
+    (cited 𝓤 𝓛.H (S-free-place.Asked 𝓛 𝓜.mem 𝓡.run) 𝓜 𝓡 code.env #free-place D-free-place.routine code.calls-frames::records::free_place_lem (T-free-place.met 𝓤 𝓛 𝓜 𝓡))
     (cited 𝓤 𝓛.H (S-put-frame.Asked 𝓛 𝓜.mem 𝓡.run) 𝓜 𝓡 code.env #put-frame D-put-frame.routine code.calls-frames::table::put-frame (T-put-frame.met 𝓤 𝓛 𝓜 𝓡))
     (cited 𝓤 𝓛.H (S-frame-at.Asked 𝓛 𝓜.mem 𝓡.run) 𝓜 𝓡 code.env #frame-at D-frame-at.routine code.calls-frames::table::frame-at (T-frame-at.met 𝓤 𝓛 𝓜 𝓡))
     (cited 𝓤 𝓛.H (S-end-sibling.Asked 𝓛 𝓜.mem 𝓡.run) 𝓜 𝓡 code.env #end-sibling D-end-sibling.routine code.calls-frames::steps::end-sibling (T-end-sibling.met 𝓤 𝓛 𝓜 𝓡))

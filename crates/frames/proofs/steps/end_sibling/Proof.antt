@@ -44,12 +44,12 @@ use denote.Triple.Statement.{Triple}
 use denote.Triple.Table.{entered, cited}
 use denote.Triple.Walked.{says, needs, Stays, stay_slice, stay_none, stay_none_slice, walk_of, Walks, ends_at, walked, Goes-slice, Goes-none, Goes-none_slice, walk_Meets}
 use borrow.Author.Rules.{scaled_Fits}
-use Rattle.frames.proofs.Lent.{at-list, Mine, Yours, ty_at, exit-unless, exit-if, leave-if, fork, skipped, regroup, matched, matched-last, const, is_true, is_false, not-not, differ, widen, less-fits, after, turn-of, take_out, put_in, put_back, look-out, look-back, free_all}
+use Rattle.frames.proofs.Lent.{at_list, Mine, Yours, ty_at, exit_unless, exit_if, leave_if, fork, skipped, regroup, matched, matched_last, const, is_true, is_false, not_not, differ, widen, less_fits, after, turn_of_lem, take_out, put_in, put_back, look_out, look_back, free_all}
 use mathlib.Core.Logic.{◌≢◌}
 use Rattle.words.specs.Basics.{none}
-use Rattle.frames.specs.Widths.{maxPlaces}
-use Rattle.frames.specs.Frames.{frameAt}
-use Rattle.frames.specs.Steps.{endFrame}
+use Rattle.frames.specs.Widths.{max_places}
+use Rattle.frames.specs.Frames.{frame_at}
+use Rattle.frames.specs.Steps.{end_frame}
 use Rattle.frames.specs.Ranges.{EndsIn}
 use Rattle.frames.proofs.Called.next_after as S-next-after
 use Rattle.frames.proofs.siblings.next_after.Symbol as D-next-after
@@ -114,7 +114,7 @@ module _ {M : Type 1} {𝓤 : Ura M} (𝓛 : Logic 𝓤) (mem : Memory → SProp
   n-frames = length frames
 
   abbrev args' : MutBor (List Frame) × (ℕ × (ℕ × (ℕ × Unit {0})))
-  args' = (at-list b-frames o-frames γ-frames frames, (free, (p, (q, tt))))
+  args' = (at_list b-frames o-frames γ-frames frames, (free, (p, (q, tt))))
 
   abbrev vals' : Vals f'.signature (κ-frames, tt)
   vals' = (slice_val (b-frames, o-frames) (length frames) ∷ [], (vint w32 free ∷ [], (vint w32 p ∷ [], (vint w32 q ∷ [], tt))))
@@ -125,7 +125,7 @@ module _ {M : Type 1} {𝓤 : Ura M} (𝓛 : Logic 𝓤) (mem : Memory → SProp
   abbrev Post : Val → SProp 𝓤
   Post = (walk_of 𝓛 f'.ended stayed (f'.clauses 𝓛 mem run)).post bound'
 
-  exits' : (zs-frames : List Frame) → zs-frames ≡ endFrame frames free p → length zs-frames ≡ length frames → ent 𝓤 (⋆ 𝓛 (‵ (Mine R-Frame κ-frames q-frames γ-frames b-frames o-frames n-frames zs-frames) ∷ [])) (Post (vunit))
+  exits' : (zs-frames : List Frame) → zs-frames ≡ end_frame frames free p → length zs-frames ≡ length frames → ent 𝓤 (⋆ 𝓛 (‵ (Mine R-Frame κ-frames q-frames γ-frames b-frames o-frames n-frames zs-frames) ∷ [])) (Post (vunit))
   exits' zs-frames e' same-frames =
       qed 𝓛 (‵ (Mine R-Frame κ-frames q-frames γ-frames b-frames o-frames n-frames zs-frames) ∷ []) ∵
       suffices ! _ (ends_at 𝓛 f'.ended stayed (f'.clauses 𝓛 mem run) bound' (vunit) tt (zs-frames, (tt, (tt, (tt, tt)))) (same-frames, (tt, (tt, (tt, tt))))) $ says ! e' $
@@ -137,7 +137,7 @@ module _ {M : Type 1} {𝓤 : Ura M} (𝓛 : Logic 𝓤) (mem : Memory → SProp
     abbrev fm : FmC 𝓤 H 𝓛.laws 𝓣.C
     fm = fm_of 𝓤 H 𝓛.laws 𝓣
 
-    walk : EndsIn frames p q × (length frames ≤ maxPlaces) × (q ≢ none) × ((frameAt frames q).outstanding ≢ 1) → ent 𝓤 (on_entry 𝓛 f'.signature (κ-frames, tt) (q-frames, tt) args' vals') (WpFn 𝓤 H 𝓣.C 𝓣.Λ code.function (slice_val (b-frames, o-frames) (length frames) ∷ vint w32 free ∷ vint w32 p ∷ vint w32 q ∷ []) Post)
+    walk : EndsIn frames p q × (length frames ≤ max_places) × (q ≢ none) × ((frame_at frames q).outstanding ≢ 1) → ent 𝓤 (on_entry 𝓛 f'.signature (κ-frames, tt) (q-frames, tt) args' vals') (WpFn 𝓤 H 𝓣.C 𝓣.Λ code.function (slice_val (b-frames, o-frames) (length frames) ∷ vint w32 free ∷ vint w32 p ∷ vint w32 q ∷ []) Post)
     walk ok' =
         qed 𝓛 ((‵ (flft κ-frames q-frames) ⊛ ‵ ftrue) ∷ ‵ (owns (MutSlice (named 0) κ-frames R-Frame ∷ u32 ∷ u32 ∷ u32 ∷ []) args' vals') ∷ []) ∵ enter ! 𝓣.C 𝓣.Λ code.function (slice_val (b-frames, o-frames) (length frames) ∷ vint w32 free ∷ vint w32 p ∷ vint w32 q ∷ []) _ $
         alloc1 ! (λ l₀. alloc1 ! (λ l₁. alloc1 ! (λ l₂. alloc1 ! (λ l₃. alloc1 ! (λ l₄. alloc1 ! (λ l₅. alloc1 ! (λ l₆. alloc1 ! (λ l₇. alloc1 ! (λ l₈. alloc1 ! (λ l₉. alloc1 ! (λ l₁₀. alloc1 ! (λ l₁₁. alloc1 ! (λ l₁₂. alloc1 ! (λ l₁₃. alloc1 ! (λ l₁₄. alloc1 ! (λ l₁₅. alloc1 ! (λ l₁₆. alloc1 ! (λ l₁₇. alloc1 ! (λ l₁₈. alloc1 ! (λ l₁₉. alloc1 ! (λ l₂₀. alloc0 ! $ params1 ! $
@@ -148,12 +148,12 @@ module _ {M : Type 1} {𝓤 : Ura M} (𝓛 : Logic 𝓤) (mem : Memory → SProp
         assigns ! (agg ! (and_then ! (load ! (from ! (stop !)) (look ! 27 refl)) (and_then ! (load ! (from ! (fld ! refl (stop !))) (look_in ! 39 (sub ! 1 refl (whole !)))) (no_more !)))) (from ! (stop !)) (init ! 25 refl (tt, (tt, (record { fits = room-frames.0 }, tt)))) $
         -- _5 = frames::siblings::next_after(_8, _3, _4)
         S-next-after.step-s mem run ! fm known-next-after b-frames o-frames n-frames frames p q p-fits q-fits (F.needs-1 frames free p q room-frames.0 free-fits p-fits q-fits ok') (refl) room-frames
-        (λ ν-0 δ-0. and_then ! (load ! (from ! (stop !)) (look ! 26 refl)) (and_then ! (load ! (from ! (stop !)) (look ! 36 refl)) (and_then ! (load ! (from ! (stop !)) (look ! 34 refl)) (no_more !)))) (λ next next_fits next-is.
+        (λ ν-0 δ-0. and_then ! (load ! (from ! (stop !)) (look ! 26 refl)) (and_then ! (load ! (from ! (stop !)) (look ! 36 refl)) (and_then ! (load ! (from ! (stop !)) (look ! 34 refl)) (no_more !)))) (λ next next_fits next_is.
         land ! (from ! (stop !)) (init ! 31 refl (tt, record { fits = next_fits })) $
         assigns ! (addr ! (from ! (fld ! refl (hop ! (look_in ! 39 (sub ! 0 refl (whole !))) (stop !))))) (from ! (stop !)) (init ! 23 refl (tt, tt)) $
         assigns ! (agg ! (and_then ! (load ! (from ! (stop !)) (look ! 23 refl)) (and_then ! (load ! (from ! (fld ! refl (stop !))) (look_in ! 39 (sub ! 1 refl (whole !)))) (no_more !)))) (from ! (stop !)) (init ! 21 refl (tt, (tt, (record { fits = room-frames.0 }, tt)))) $
         -- _6 = frames::table::frame_at(_10, _3)
-        S-frame-at.step-s mem run ! fm known-frame-at b-frames o-frames n-frames frames p p-fits (F.needs-2 frames free p q room-frames.0 free-fits p-fits q-fits ok' next next_fits next-is) (refl) room-frames
+        S-frame-at.step-s mem run ! fm known-frame-at b-frames o-frames n-frames frames p p-fits (F.needs-2 frames free p q room-frames.0 free-fits p-fits q-fits ok' next next_fits next_is) (refl) room-frames
         (λ ν-0 δ-0. and_then ! (load ! (from ! (stop !)) (look ! 22 refl)) (and_then ! (load ! (from ! (stop !)) (look ! 36 refl)) (no_more !))) (λ f f-good f-is.
         land ! (from ! (stop !)) (init ! 29 refl ((LL.lawful M-Frame.the_type L-Frame.the_laws 𝓛).typed f _ f-good).0) $
         assigns ! (addr ! (from ! (fld ! refl (hop ! (look_in ! 39 (sub ! 0 refl (whole !))) (stop !))))) (from ! (stop !)) (init ! 17 refl (tt, tt)) $
@@ -163,19 +163,19 @@ module _ {M : Type 1} {𝓤 : Ura M} (𝓛 : Logic 𝓤) (mem : Memory → SProp
         (and_then ! (load ! (from ! (stop !)) (look ! 38 refl)) (no_more !)) (λ r-3 r-3-good r-3-is.
         land ! (from ! (stop !)) (init ! 13 refl ((LL.lawful M-Frame.the_type L-Frame.the_laws 𝓛).typed r-3 _ r-3-good).0) $
         -- _11 = frames::table::put_frame(_13, _3, _14)
-        S-put-frame.step mem run ! fm known-put-frame b-frames o-frames n-frames frames p r-3 p-fits r-3-good (F.needs-4 frames free p q room-frames.0 free-fits p-fits q-fits ok' next next_fits next-is f f-is r-3 r-3-is) (refl) room-frames
+        S-put-frame.step mem run ! fm known-put-frame b-frames o-frames n-frames frames p r-3 p-fits r-3-good (F.needs-4 frames free p q room-frames.0 free-fits p-fits q-fits ok' next next_fits next_is f f-is r-3 r-3-is) (refl) room-frames
         (λ ν-0 δ-0. and_then ! (load ! (from ! (stop !)) (look ! 16 refl)) (and_then ! (load ! (from ! (stop !)) (look ! 36 refl)) (and_then ! (load ! (from ! (stop !)) (look ! 14 refl)) (no_more !)))) (λ frames-4 done-4 same-frames-4.
         land ! (from ! (stop !)) (init ! 19 refl (tt, tt)) $
         assigns ! (addr ! (from ! (fld ! refl (hop ! (look_in ! 39 (sub ! 0 refl (whole !))) (stop !))))) (from ! (stop !)) (init ! 11 refl (tt, tt)) $
         assigns ! (agg ! (and_then ! (load ! (from ! (stop !)) (look ! 11 refl)) (and_then ! (load ! (from ! (fld ! refl (stop !))) (look_in ! 39 (sub ! 1 refl (whole !)))) (no_more !)))) (from ! (stop !)) (init ! 9 refl (tt, (tt, (record { fits = room-frames.0 }, tt)))) $
         -- _11 = frames::table::lose_child(_16, _4)
-        S-lose-child.step mem run ! fm known-lose-child b-frames o-frames n-frames frames-4 q q-fits (F.needs-5 frames free p q room-frames.0 free-fits p-fits q-fits ok' next next_fits next-is f f-is r-3 r-3-is frames-4 done-4 same-frames-4) (same-frames-4) room-frames
+        S-lose-child.step mem run ! fm known-lose-child b-frames o-frames n-frames frames-4 q q-fits (F.needs-5 frames free p q room-frames.0 free-fits p-fits q-fits ok' next next_fits next_is f f-is r-3 r-3-is frames-4 done-4 same-frames-4) (same-frames-4) room-frames
         (λ ν-0 δ-0. and_then ! (load ! (from ! (stop !)) (look ! 10 refl)) (and_then ! (load ! (from ! (stop !)) (look ! 34 refl)) (no_more !))) (λ frames-5 done-5 same-frames-5.
         land ! (from ! (stop !)) (store ! 19 refl (tt, tt)) $
         assigns ! (addr ! (from ! (fld ! refl (hop ! (look_in ! 39 (sub ! 0 refl (whole !))) (stop !))))) (from ! (stop !)) (init ! 7 refl (tt, tt)) $
         assigns ! (agg ! (and_then ! (load ! (from ! (stop !)) (look ! 7 refl)) (and_then ! (load ! (from ! (fld ! refl (stop !))) (look_in ! 39 (sub ! 1 refl (whole !)))) (no_more !)))) (from ! (stop !)) (init ! 5 refl (tt, (tt, (record { fits = room-frames.0 }, tt)))) $
         -- _11 = frames::siblings::relink(_18, _4, _3, _6.8)
-        S-relink.step mem run ! fm known-relink b-frames o-frames n-frames frames-5 q p f.younger q-fits p-fits (LL.owed M-Frame.the_type L-Frame.the_laws f _ f-good).1.1.1.1.1.1.1.1.0.1 (F.needs-6 frames free p q room-frames.0 free-fits p-fits q-fits ok' next next_fits next-is f f-is r-3 r-3-is frames-4 done-4 same-frames-4 frames-5 done-5 same-frames-5) (same-frames-5 ∙ same-frames-4) room-frames
+        S-relink.step mem run ! fm known-relink b-frames o-frames n-frames frames-5 q p f.younger q-fits p-fits (LL.owed M-Frame.the_type L-Frame.the_laws f _ f-good).1.1.1.1.1.1.1.1.0.1 (F.needs-6 frames free p q room-frames.0 free-fits p-fits q-fits ok' next next_fits next_is f f-is r-3 r-3-is frames-4 done-4 same-frames-4 frames-5 done-5 same-frames-5) (same-frames-5 ∙ same-frames-4) room-frames
         (λ ν-0 δ-0. and_then ! (load ! (from ! (stop !)) (look ! 6 refl)) (and_then ! (load ! (from ! (stop !)) (look ! 34 refl)) (and_then ! (load ! (from ! (stop !)) (look ! 36 refl)) (and_then ! (load ! (from ! (fld ! refl (stop !))) (look_in ! 30 (sub ! 8 refl (whole !)))) (no_more !))))) (λ frames-6 done-6 same-frames-6.
         land ! (from ! (stop !)) (store ! 19 refl (tt, tt)) $
         assigns ! (addr ! (from ! (fld ! refl (hop ! (look_in ! 39 (sub ! 0 refl (whole !))) (stop !))))) (from ! (stop !)) (init ! 3 refl (tt, tt)) $
@@ -187,7 +187,7 @@ module _ {M : Type 1} {𝓤 : Ura M} (𝓛 : Logic 𝓤) (mem : Memory → SProp
         assigns ! (of_opd ! (const ! _ tt)) (from ! (stop !)) (init ! 41 refl (tt, tt)) $
         returns_within ! Post refl (look ! 41 refl) $ forget ! 1 refl $ forget ! 3 refl $ forget ! 5 refl $ forget ! 7 refl $ forget ! 9 refl $ forget ! 11 refl $ forget ! 13 refl $ forget ! 15 refl $ forget ! 17 refl $ forget ! 19 refl $ forget ! 21 refl $ forget ! 23 refl $ forget ! 25 refl $ forget ! 27 refl $ forget ! 29 refl $ forget ! 31 refl $ forget ! 33 refl $ forget ! 35 refl $ forget ! 37 refl $ forget ! 39 refl $ forget ! 41 refl $
         free_all ! 1 refl $
-        by ! (exits' frames-7 (F.out-8 frames free p q room-frames.0 free-fits p-fits q-fits ok' next next_fits next-is f f-is r-3 r-3-is frames-4 done-4 same-frames-4 frames-5 done-5 same-frames-5 frames-6 done-6 same-frames-6 frames-7 done-7 same-frames-7) (same-frames-7 ∙ same-frames-6 ∙ same-frames-5 ∙ same-frames-4))))))))))))))))))))))))))))))
+        by ! (exits' frames-7 (F.out-8 frames free p q room-frames.0 free-fits p-fits q-fits ok' next next_fits next_is f f-is r-3 r-3-is frames-4 done-4 same-frames-4 frames-5 done-5 same-frames-5 frames-6 done-6 same-frames-6 frames-7 done-7 same-frames-7) (same-frames-7 ∙ same-frames-6 ∙ same-frames-5 ∙ same-frames-4))))))))))))))))))))))))))))))
 
 module _ {M : Type 1} {𝓤 : Ura M} (𝓛 : Logic 𝓤) (mem : Memory → SProp 𝓤) (run : Routine → Fun 𝓤) (𝓣 : Tables 𝓤 𝓛.H) where
   open 𝓛 use {H}
@@ -196,7 +196,7 @@ module _ {M : Type 1} {𝓤 : Ura M} (𝓛 : Logic 𝓤) (mem : Memory → SProp
   walks known-next-after known-frame-at known-free-place known-put-frame known-lose-child known-relink known-join-if-place = walked 𝓛 f'.ended stayed (f'.clauses 𝓛 mem run) (WpFn 𝓤 H 𝓣.C 𝓣.Λ code.function)
       (λ κs. (mut_slice_vals, (uint_vals w32, (uint_vals w32, (uint_vals w32, tt)))))
       (λ κs. (mut_slice_Tells (named 0) κs.0 R-Frame, (uint_Tells w32, (uint_Tells w32, (uint_Tells w32, tt)))))
-      (λ κs qs bounds a g are. needs 𝓤 (EndsIn a.0.now a.1.1.0 a.1.1.1.0 × (length a.0.now ≤ maxPlaces) × (a.1.1.1.0 ≢ none) × ((frameAt a.0.now a.1.1.1.0).outstanding ≢ 1)) _
+      (λ κs qs bounds a g are. needs 𝓤 (EndsIn a.0.now a.1.1.0 a.1.1.1.0 × (length a.0.now ≤ max_places) × (a.1.1.1.0 ≢ none) × ((frame_at a.0.now a.1.1.1.0).outstanding ≢ 1)) _
       (walk 𝓛 mem run κs.0 qs.0 a.0.ref_ptr.0 a.0.ref_ptr.1 a.0.ghost_name a.0.now a.1.0 are.1.0.1 a.1.1.0 are.1.1.0.1 a.1.1.1.0 are.1.1.1.0.1 are.0.0.1 𝓣 known-next-after known-frame-at known-free-place known-put-frame known-lose-child known-relink known-join-if-place))
 
   meets : Triple 𝓤 (𝓣.C #next-after) (S-next-after.Asked 𝓛 mem run) → Triple 𝓤 (𝓣.C #frame-at) (S-frame-at.Asked 𝓛 mem run) → Triple 𝓤 (𝓣.C #free-place) (S-free-place.Asked 𝓛 mem run) → Triple 𝓤 (𝓣.C #put-frame) (S-put-frame.Asked 𝓛 mem run) → Triple 𝓤 (𝓣.C #lose-child) (S-lose-child.Asked 𝓛 mem run) → Triple 𝓤 (𝓣.C #relink) (S-relink.Asked 𝓛 mem run) → Triple 𝓤 (𝓣.C #join-if-place) (S-join-if-place.Asked 𝓛 mem run) → Meets 𝓛 f'.signature (WpFn 𝓤 H 𝓣.C 𝓣.Λ code.function) (f'.spec 𝓛 mem run)
@@ -212,7 +212,7 @@ end-sibling-spec 𝓤 𝓛 𝓜 𝓡 =
     (meets 𝓛 𝓜.mem 𝓡.run (tables_of 𝓤 𝓛.H 𝓜 (tables 𝓤 𝓛.H 𝓜 𝓡 code.env))
     (cited 𝓤 𝓛.H (S-next-after.Asked 𝓛 𝓜.mem 𝓡.run) 𝓜 𝓡 code.env #next-after D-next-after.routine code.calls-frames::siblings::next-after (T-next-after.met 𝓤 𝓛 𝓜 𝓡))
     (cited 𝓤 𝓛.H (S-frame-at.Asked 𝓛 𝓜.mem 𝓡.run) 𝓜 𝓡 code.env #frame-at D-frame-at.routine code.calls-frames::table::frame-at (T-frame-at.met 𝓤 𝓛 𝓜 𝓡))
-    (cited 𝓤 𝓛.H (S-free-place.Asked 𝓛 𝓜.mem 𝓡.run) 𝓜 𝓡 code.env #free-place D-free-place.routine code.calls-frames::records::free-place (T-free-place.met 𝓤 𝓛 𝓜 𝓡))
+    (cited 𝓤 𝓛.H (S-free-place.Asked 𝓛 𝓜.mem 𝓡.run) 𝓜 𝓡 code.env #free-place D-free-place.routine code.calls-frames::records::free_place_lem (T-free-place.met 𝓤 𝓛 𝓜 𝓡))
     (cited 𝓤 𝓛.H (S-put-frame.Asked 𝓛 𝓜.mem 𝓡.run) 𝓜 𝓡 code.env #put-frame D-put-frame.routine code.calls-frames::table::put-frame (T-put-frame.met 𝓤 𝓛 𝓜 𝓡))
     (cited 𝓤 𝓛.H (S-lose-child.Asked 𝓛 𝓜.mem 𝓡.run) 𝓜 𝓡 code.env #lose-child D-lose-child.routine code.calls-frames::table::lose-child (T-lose-child.met 𝓤 𝓛 𝓜 𝓡))
     (cited 𝓤 𝓛.H (S-relink.Asked 𝓛 𝓜.mem 𝓡.run) 𝓜 𝓡 code.env #relink D-relink.routine code.calls-frames::siblings::relink (T-relink.met 𝓤 𝓛 𝓜 𝓡))

@@ -44,8 +44,8 @@ use denote.Triple.Statement.{Triple}
 use denote.Triple.Table.{entered, cited}
 use denote.Triple.Walked.{says, needs, Stays, stay_slice, stay_none, stay_none_slice, walk_of, Walks, ends_at, walked, Goes-slice, Goes-none, Goes-none_slice, walk_Meets}
 use borrow.Author.Rules.{scaled_Fits}
-use Rattle.frames.proofs.Lent.{at-list, Mine, Yours, ty_at, exit-unless, exit-if, leave-if, fork, skipped, regroup, matched, matched-last, const, is_true, is_false, not-not, differ, widen, less-fits, after, turn-of, take_out, put_in, put_back, look-out, look-back, free_all}
-use Rattle.frames.specs.Widths.{maxWorkers, dequeWords}
+use Rattle.frames.proofs.Lent.{at_list, Mine, Yours, ty_at, exit_unless, exit_if, leave_if, fork, skipped, regroup, matched, matched_last, const, is_true, is_false, not_not, differ, widen, less_fits, after, turn_of_lem, take_out, put_in, put_back, look_out, look_back, free_all}
+use Rattle.frames.specs.Widths.{max_workers, deque_words}
 use Rattle.frames.specs.Deques.{size}
 use Rattle.frames.specs.Promises.{GoesOn}
 use Rattle.frames.proofs.Called.frame_at as S-frame-at
@@ -123,7 +123,7 @@ module _ {M : Type 1} {𝓤 : Ura M} (𝓛 : Logic 𝓤) (mem : Memory → SProp
   n-frames = length frames
 
   abbrev args' : MutBor (List ℕ) × (MutBor (List Frame) × (ℕ × (ℕ × Unit {0})))
-  args' = (at-list b-deques o-deques γ-deques deques, (at-list b-frames o-frames γ-frames frames, (w, (q, tt))))
+  args' = (at_list b-deques o-deques γ-deques deques, (at_list b-frames o-frames γ-frames frames, (w, (q, tt))))
 
   abbrev vals' : Vals f'.signature (κ-deques, (κ-frames, tt))
   vals' = (slice_val (b-deques, o-deques) (length deques) ∷ [], (slice_val (b-frames, o-frames) (length frames) ∷ [], (vint w32 w ∷ [], (vint w32 q ∷ [], tt))))
@@ -146,7 +146,7 @@ module _ {M : Type 1} {𝓤 : Ura M} (𝓛 : Logic 𝓤) (mem : Memory → SProp
     abbrev fm : FmC 𝓤 H 𝓛.laws 𝓣.C
     fm = fm_of 𝓤 H 𝓛.laws 𝓣
 
-    walk : (length deques ≡ dequeWords) × (w < maxWorkers) × (q < length frames) × (size deques w ≡ 0) → ent 𝓤 (on_entry 𝓛 f'.signature (κ-deques, (κ-frames, tt)) (q-deques, (q-frames, tt)) args' vals') (WpFn 𝓤 H 𝓣.C 𝓣.Λ code.function (slice_val (b-deques, o-deques) (length deques) ∷ slice_val (b-frames, o-frames) (length frames) ∷ vint w32 w ∷ vint w32 q ∷ []) Post)
+    walk : (length deques ≡ deque_words) × (w < max_workers) × (q < length frames) × (size deques w ≡ 0) → ent 𝓤 (on_entry 𝓛 f'.signature (κ-deques, (κ-frames, tt)) (q-deques, (q-frames, tt)) args' vals') (WpFn 𝓤 H 𝓣.C 𝓣.Λ code.function (slice_val (b-deques, o-deques) (length deques) ∷ slice_val (b-frames, o-frames) (length frames) ∷ vint w32 w ∷ vint w32 q ∷ []) Post)
     walk ok' =
         qed 𝓛 ((‵ (flft κ-deques q-deques) ⊛ ‵ (flft κ-frames q-frames) ⊛ ‵ ftrue) ∷ ‵ (owns (MutSlice (named 0) κ-deques u32 ∷ MutSlice (named 1) κ-frames R-Frame ∷ u32 ∷ u32 ∷ []) args' vals') ∷ []) ∵ enter ! 𝓣.C 𝓣.Λ code.function (slice_val (b-deques, o-deques) (length deques) ∷ slice_val (b-frames, o-frames) (length frames) ∷ vint w32 w ∷ vint w32 q ∷ []) _ $
         alloc1 ! (λ l₀. alloc1 ! (λ l₁. alloc1 ! (λ l₂. alloc1 ! (λ l₃. alloc1 ! (λ l₄. alloc1 ! (λ l₅. alloc1 ! (λ l₆. alloc1 ! (λ l₇. alloc1 ! (λ l₈. alloc1 ! (λ l₉. alloc1 ! (λ l₁₀. alloc1 ! (λ l₁₁. alloc1 ! (λ l₁₂. alloc1 ! (λ l₁₃. alloc1 ! (λ l₁₄. alloc1 ! (λ l₁₅. alloc0 ! $ params1 ! $
@@ -165,7 +165,7 @@ module _ {M : Type 1} {𝓤 : Ura M} (𝓛 : Logic 𝓤) (mem : Memory → SProp
         (and_then ! (load ! (from ! (stop !)) (look ! 23 refl)) (no_more !)) (λ r-2 r-2-is.
         land ! (from ! (stop !)) (init ! 16 refl (tt, tt)) $
         assigns ! (un ! (load ! (from ! (stop !)) (look ! 16 refl)) tt) (from ! (stop !)) (init ! 14 refl (tt, tt)) $
-        leave-if ! (load ! (from ! (stop !)) (look ! 14 refl))
+        leave_if ! (load ! (from ! (stop !)) (look ! 14 refl))
         (λ test-3.
         -- _0 = frames::steps::idle()
         S-idle.step mem run ! fm known-idle
@@ -177,7 +177,7 @@ module _ {M : Type 1} {𝓤 : Ura M} (𝓛 : Logic 𝓤) (mem : Memory → SProp
         by ! (exits' r-4 deques frames r-4-good (F.out-5 deques frames w q room-deques.0 room-frames.0 w_Fits q-fits ok' g g-is r-2 r-2-is (is_false r-2 test-3) r-4 r-4-is) (refl) (refl))))
         (λ test-3.
         assigns ! (bin ! (load ! (from ! (fld ! refl (stop !))) (look_in ! 22 (sub ! 6 refl (whole !)))) (const ! _ tt) tt) (from ! (stop !)) (store ! 16 refl (tt, tt)) $
-        leave-if ! (load ! (from ! (stop !)) (look ! 16 refl))
+        leave_if ! (load ! (from ! (stop !)) (look ! 16 refl))
         (λ test-6.
         -- _0 = frames::steps::idle()
         S-idle.step mem run ! fm known-idle
@@ -186,7 +186,7 @@ module _ {M : Type 1} {𝓤 : Ura M} (𝓛 : Logic 𝓤) (mem : Memory → SProp
         returns_within ! Post refl (look ! 32 refl) $ forget ! 14 refl $ forget ! 16 refl $ forget ! 18 refl $ forget ! 20 refl $ forget ! 22 refl $ forget ! 24 refl $ forget ! 26 refl $ forget ! 28 refl $ forget ! 30 refl $ forget ! 32 refl $
         free_all ! 2 refl $
         move ! (1 ∷ 0 ∷ []) $
-        by ! (exits' r-7 deques frames r-7-good (F.out-8 deques frames w q room-deques.0 room-frames.0 w_Fits q-fits ok' g g-is r-2 r-2-is (is_true r-2 (not-not r-2 test-3)) (eqb→eq g.returning 1 test-6) r-7 r-7-is) (refl) (refl))))
+        by ! (exits' r-7 deques frames r-7-good (F.out-8 deques frames w q room-deques.0 room-frames.0 w_Fits q-fits ok' g g-is r-2 r-2-is (is_true r-2 (not_not r-2 test-3)) (eqb→eq g.returning 1 test-6) r-7 r-7-is) (refl) (refl))))
         (λ test-6.
         assigns ! (addr ! (from ! (fld ! refl (hop ! (look_in ! 28 (sub ! 0 refl (whole !))) (stop !))))) (from ! (stop !)) (init ! 10 refl (tt, tt)) $
         assigns ! (agg ! (and_then ! (load ! (from ! (stop !)) (look ! 10 refl)) (and_then ! (load ! (from ! (fld ! refl (stop !))) (look_in ! 28 (sub ! 1 refl (whole !)))) (no_more !)))) (from ! (stop !)) (init ! 8 refl (tt, (tt, (record { fits = room-frames.0 }, tt)))) $
@@ -195,14 +195,14 @@ module _ {M : Type 1} {𝓤 : Ura M} (𝓛 : Logic 𝓤) (mem : Memory → SProp
         (and_then ! (load ! (from ! (stop !)) (look ! 23 refl)) (and_then ! (const ! _ tt) (no_more !))) (λ r-9 r-9-good r-9-is.
         land ! (from ! (stop !)) (init ! 6 refl ((LL.lawful M-Frame.the_type L-Frame.the_laws 𝓛).typed r-9 _ r-9-good).0) $
         -- _10 = frames::table::put_frame(_12, _4, _13)
-        S-put-frame.step mem run ! fm known-put-frame b-frames o-frames n-frames frames q r-9 q-fits r-9-good (F.needs-10 deques frames w q room-deques.0 room-frames.0 w_Fits q-fits ok' g g-is r-2 r-2-is (is_true r-2 (not-not r-2 test-3)) (differ g.returning 1 test-6) r-9 r-9-is) (refl) room-frames
+        S-put-frame.step mem run ! fm known-put-frame b-frames o-frames n-frames frames q r-9 q-fits r-9-good (F.needs-10 deques frames w q room-deques.0 room-frames.0 w_Fits q-fits ok' g g-is r-2 r-2-is (is_true r-2 (not_not r-2 test-3)) (differ g.returning 1 test-6) r-9 r-9-is) (refl) room-frames
         (λ ν-0 δ-0. and_then ! (load ! (from ! (stop !)) (look ! 9 refl)) (and_then ! (load ! (from ! (stop !)) (look ! 25 refl)) (and_then ! (load ! (from ! (stop !)) (look ! 7 refl)) (no_more !)))) (λ frames-10 done-10 same-frames-10.
         land ! (from ! (stop !)) (init ! 12 refl (tt, tt)) $
         assigns ! (addr ! (from ! (fld ! refl (hop ! (look_in ! 30 (sub ! 0 refl (whole !))) (stop !))))) (from ! (stop !)) (init ! 4 refl (tt, tt)) $
         assigns ! (agg ! (and_then ! (load ! (from ! (stop !)) (look ! 4 refl)) (and_then ! (load ! (from ! (fld ! refl (stop !))) (look_in ! 30 (sub ! 1 refl (whole !)))) (no_more !)))) (from ! (stop !)) (init ! 2 refl (tt, (tt, (record { fits = room-deques.0 }, tt)))) $
         -- _10 = frames::deques::push_on(_15, _3, 0, _4)
         move ! (1 ∷ []) $
-        S-push-on.step mem run ! fm known-push-on b-deques o-deques n-deques deques w 0 q w_Fits (lit< tt) q-fits (F.needs-11 deques frames w q room-deques.0 room-frames.0 w_Fits q-fits ok' g g-is r-2 r-2-is (is_true r-2 (not-not r-2 test-3)) (differ g.returning 1 test-6) r-9 r-9-is frames-10 done-10 same-frames-10) (refl) room-deques
+        S-push-on.step mem run ! fm known-push-on b-deques o-deques n-deques deques w 0 q w_Fits (lit< tt) q-fits (F.needs-11 deques frames w q room-deques.0 room-frames.0 w_Fits q-fits ok' g g-is r-2 r-2-is (is_true r-2 (not_not r-2 test-3)) (differ g.returning 1 test-6) r-9 r-9-is frames-10 done-10 same-frames-10) (refl) room-deques
         (λ ν-0 δ-0. and_then ! (load ! (from ! (stop !)) (look ! 3 refl)) (and_then ! (load ! (from ! (stop !)) (look ! 27 refl)) (and_then ! (const ! _ tt) (and_then ! (load ! (from ! (stop !)) (look ! 25 refl)) (no_more !))))) (λ deques-11 done-11 same-deques-11.
         land ! (from ! (stop !)) (store ! 12 refl (tt, tt)) $
         -- _0 = frames::steps::resumed()
@@ -211,7 +211,7 @@ module _ {M : Type 1} {𝓤 : Ura M} (𝓛 : Logic 𝓤) (mem : Memory → SProp
         land ! (from ! (stop !)) (init ! 32 refl ((EL.lawful M-Returned.the_type L-Returned.the_laws 𝓛 tt).typed r-12 _ r-12-good).0) $
         returns_within ! Post refl (look ! 32 refl) $ forget ! 2 refl $ forget ! 4 refl $ forget ! 6 refl $ forget ! 8 refl $ forget ! 10 refl $ forget ! 12 refl $ forget ! 14 refl $ forget ! 16 refl $ forget ! 18 refl $ forget ! 20 refl $ forget ! 22 refl $ forget ! 24 refl $ forget ! 26 refl $ forget ! 28 refl $ forget ! 30 refl $ forget ! 32 refl $
         free_all ! 2 refl $
-        by ! (exits' r-12 deques-11 frames-10 r-12-good (F.out-13 deques frames w q room-deques.0 room-frames.0 w_Fits q-fits ok' g g-is r-2 r-2-is (is_true r-2 (not-not r-2 test-3)) (differ g.returning 1 test-6) r-9 r-9-is frames-10 done-10 same-frames-10 deques-11 done-11 same-deques-11 r-12 r-12-is) (same-deques-11) (same-frames-10))))))))))))))))))))))))))
+        by ! (exits' r-12 deques-11 frames-10 r-12-good (F.out-13 deques frames w q room-deques.0 room-frames.0 w_Fits q-fits ok' g g-is r-2 r-2-is (is_true r-2 (not_not r-2 test-3)) (differ g.returning 1 test-6) r-9 r-9-is frames-10 done-10 same-frames-10 deques-11 done-11 same-deques-11 r-12 r-12-is) (same-deques-11) (same-frames-10))))))))))))))))))))))))))
 
 module _ {M : Type 1} {𝓤 : Ura M} (𝓛 : Logic 𝓤) (mem : Memory → SProp 𝓤) (run : Routine → Fun 𝓤) (𝓣 : Tables 𝓤 𝓛.H) where
   open 𝓛 use {H}
@@ -220,7 +220,7 @@ module _ {M : Type 1} {𝓤 : Ura M} (𝓛 : Logic 𝓤) (mem : Memory → SProp
   walks known-frame-at known-waits-no-more known-idle known-with-suspended known-put-frame known-push-on known-resumed = walked 𝓛 f'.ended stayed (f'.clauses 𝓛 mem run) (WpFn 𝓤 H 𝓣.C 𝓣.Λ code.function)
       (λ κs. (mut_slice_vals, (mut_slice_vals, (uint_vals w32, (uint_vals w32, tt)))))
       (λ κs. (mut_slice_Tells (named 0) κs.0 u32, (mut_slice_Tells (named 1) κs.1.0 R-Frame, (uint_Tells w32, (uint_Tells w32, tt)))))
-      (λ κs qs bounds a g are. needs 𝓤 ((length a.0.now ≡ dequeWords) × (a.1.1.0 < maxWorkers) × (a.1.1.1.0 < length a.1.0.now) × (size a.0.now a.1.1.0 ≡ 0)) _
+      (λ κs qs bounds a g are. needs 𝓤 ((length a.0.now ≡ deque_words) × (a.1.1.0 < max_workers) × (a.1.1.1.0 < length a.1.0.now) × (size a.0.now a.1.1.0 ≡ 0)) _
       (walk 𝓛 mem run κs.0 qs.0 a.0.ref_ptr.0 a.0.ref_ptr.1 a.0.ghost_name a.0.now κs.1.0 qs.1.0 a.1.0.ref_ptr.0 a.1.0.ref_ptr.1 a.1.0.ghost_name a.1.0.now a.1.1.0 are.1.1.0.1 a.1.1.1.0 are.1.1.1.0.1 are.0.0.1 are.1.0.0.1 𝓣 known-frame-at known-waits-no-more known-idle known-with-suspended known-put-frame known-push-on known-resumed))
 
   meets : Triple 𝓤 (𝓣.C #frame-at) (S-frame-at.Asked 𝓛 mem run) → Triple 𝓤 (𝓣.C #waits-no-more) (S-waits-no-more.Asked 𝓛 mem run) → Triple 𝓤 (𝓣.C #idle) (S-idle.Asked 𝓛 mem run) → Triple 𝓤 (𝓣.C #with-suspended) (S-with-suspended.Asked 𝓛 mem run) → Triple 𝓤 (𝓣.C #put-frame) (S-put-frame.Asked 𝓛 mem run) → Triple 𝓤 (𝓣.C #push-on) (S-push-on.Asked 𝓛 mem run) → Triple 𝓤 (𝓣.C #resumed) (S-resumed.Asked 𝓛 mem run) → Meets 𝓛 f'.signature (WpFn 𝓤 H 𝓣.C 𝓣.Λ code.function) (f'.spec 𝓛 mem run)
@@ -235,7 +235,7 @@ go-on-spec 𝓤 𝓛 𝓜 𝓡 =
     (tables 𝓤 𝓛.H 𝓜 𝓡 code.env).C (tables 𝓤 𝓛.H 𝓜 𝓡 code.env).Λ #own code.function (code.unfolded 𝓤 𝓛.H 𝓜 𝓡)
     (meets 𝓛 𝓜.mem 𝓡.run (tables_of 𝓤 𝓛.H 𝓜 (tables 𝓤 𝓛.H 𝓜 𝓡 code.env))
     (cited 𝓤 𝓛.H (S-frame-at.Asked 𝓛 𝓜.mem 𝓡.run) 𝓜 𝓡 code.env #frame-at D-frame-at.routine code.calls-frames::table::frame-at (T-frame-at.met 𝓤 𝓛 𝓜 𝓡))
-    (cited 𝓤 𝓛.H (S-waits-no-more.Asked 𝓛 𝓜.mem 𝓡.run) 𝓜 𝓡 code.env #waits-no-more D-waits-no-more.routine code.calls-frames::records::waits-no-more (T-waits-no-more.met 𝓤 𝓛 𝓜 𝓡))
+    (cited 𝓤 𝓛.H (S-waits-no-more.Asked 𝓛 𝓜.mem 𝓡.run) 𝓜 𝓡 code.env #waits-no-more D-waits-no-more.routine code.calls-frames::records::waits_no_more_lem (T-waits-no-more.met 𝓤 𝓛 𝓜 𝓡))
     (cited 𝓤 𝓛.H (S-idle.Asked 𝓛 𝓜.mem 𝓡.run) 𝓜 𝓡 code.env #idle D-idle.routine code.calls-frames::steps::idle (T-idle.met 𝓤 𝓛 𝓜 𝓡))
     (cited 𝓤 𝓛.H (S-with-suspended.Asked 𝓛 𝓜.mem 𝓡.run) 𝓜 𝓡 code.env #with-suspended D-with-suspended.routine code.calls-frames::records::with-suspended (T-with-suspended.met 𝓤 𝓛 𝓜 𝓡))
     (cited 𝓤 𝓛.H (S-put-frame.Asked 𝓛 𝓜.mem 𝓡.run) 𝓜 𝓡 code.env #put-frame D-put-frame.routine code.calls-frames::table::put-frame (T-put-frame.met 𝓤 𝓛 𝓜 𝓡))

@@ -3,7 +3,7 @@ use mathlib.Core.Path.{◌∙◌}
 use native.Mathlib.Omega.{arith}
 use borrow.Author.Rules.{rules}
 use Rattle.frames.specs.Steps.{steal}
-use Rattle.frames.specs.Theory.Sizes.{length-drop, thief-idle}
+use Rattle.frames.specs.Theory.Sizes.{length-drop, thief_idle}
 use Rattle.frames.proofs.steps.steal_frame.Statement.{statement}
 use Rattle.frames.proofs.steps.steal_frame.Tie as tie
 
@@ -27,7 +27,7 @@ push-on-requires c κs =
     let r = (start_of (top_of d)).requires in (
       rw d.top-off.ensures (length-drop _ _ r.5 ∙ r.0),
       r.1,
-      rw d.top-off.ensures (thief-idle _ _ _ r.3 r.4 r.5),
+      rw d.top-off.ensures (thief_idle _ _ _ r.3 r.4 r.5),
       omega arith,
     )
 

@@ -44,7 +44,7 @@ use denote.Triple.Statement.{Triple}
 use denote.Triple.Table.{entered, cited}
 use denote.Triple.Walked.{says, needs, Stays, stay_slice, stay_none, stay_none_slice, walk_of, Walks, ends_at, walked, Goes-slice, Goes-none, Goes-none_slice, walk_Meets}
 use borrow.Author.Rules.{scaled_Fits}
-use Rattle.frames.proofs.Lent.{at-list, Mine, Yours, ty_at, exit-unless, exit-if, leave-if, fork, skipped, regroup, matched, matched-last, const, is_true, is_false, not-not, differ, widen, less-fits, after, turn-of, take_out, put_in, put_back, look-out, look-back, free_all}
+use Rattle.frames.proofs.Lent.{at_list, Mine, Yours, ty_at, exit_unless, exit_if, leave_if, fork, skipped, regroup, matched, matched_last, const, is_true, is_false, not_not, differ, widen, less_fits, after, turn_of_lem, take_out, put_in, put_back, look_out, look_back, free_all}
 use Rattle.frames.specs.Promises.{IsSync}
 use Rattle.frames.specs.Ranges.{Acts}
 use Rattle.frames.proofs.Called.passed as S-passed
@@ -114,7 +114,7 @@ module _ {M : Type 1} {𝓤 : Ura M} (𝓛 : Logic 𝓤) (mem : Memory → SProp
   n-frames = length frames
 
   abbrev args' : MutBor (List ℕ) × (MutBor (List Frame) × (ℕ × (ℕ × (ℕ × (Frame × Unit {0})))))
-  args' = (at-list b-deques o-deques γ-deques deques, (at-list b-frames o-frames γ-frames frames, (w, (n, (p, (f, tt))))))
+  args' = (at_list b-deques o-deques γ-deques deques, (at_list b-frames o-frames γ-frames frames, (w, (n, (p, (f, tt))))))
 
   abbrev vals' : Vals f'.signature (κ-deques, (κ-frames, tt))
   vals' = (slice_val (b-deques, o-deques) (length deques) ∷ [], (slice_val (b-frames, o-frames) (length frames) ∷ [], (vint w32 w ∷ [], (vint w32 n ∷ [], (vint w32 p ∷ [], (val-Frame f ∷ [], tt))))))
@@ -145,7 +145,7 @@ module _ {M : Type 1} {𝓤 : Ura M} (𝓛 : Logic 𝓤) (mem : Memory → SProp
         move ! (29 ∷ []) $ fsplit ! $ move ! (1 ∷ []) $ fsplit ! $ move ! (1 ∷ []) $ fsplit ! $ drop ! $ fsplit ! $ drop ! $ fsplit ! $ drop ! $ fsplit ! $ drop ! $ drop ! $ move ! (30 ∷ []) $ split ! $ move ! (1 ∷ []) $ split ! $ move ! (1 ∷ []) $ drop ! $ move ! (2 ∷ 0 ∷ []) $ fjoin ! $ move ! (2 ∷ 1 ∷ []) $ fjoin ! $
         -- [deques; frames; the locals]
         assigns ! (bin ! (load ! (from ! (fld ! refl (stop !))) (look_in ! 16 (sub ! 3 refl (whole !)))) (const ! _ tt) tt) (from ! (stop !)) (init ! 14 refl (tt, tt)) $
-        leave-if ! (load ! (from ! (stop !)) (look ! 14 refl))
+        leave_if ! (load ! (from ! (stop !)) (look ! 14 refl))
         (λ test-1.
         -- _0 = frames::steps::passed()
         S-passed.step mem run ! fm known-passed

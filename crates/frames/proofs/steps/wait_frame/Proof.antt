@@ -44,8 +44,8 @@ use denote.Triple.Statement.{Triple}
 use denote.Triple.Table.{entered, cited}
 use denote.Triple.Walked.{says, needs, Stays, stay_slice, stay_none, stay_none_slice, walk_of, Walks, ends_at, walked, Goes-slice, Goes-none, Goes-none_slice, walk_Meets}
 use borrow.Author.Rules.{scaled_Fits}
-use Rattle.frames.proofs.Lent.{at-list, Mine, Yours, ty_at, exit-unless, exit-if, leave-if, fork, skipped, regroup, matched, matched-last, const, is_true, is_false, not-not, differ, widen, less-fits, after, turn-of, take_out, put_in, put_back, look-out, look-back, free_all}
-use Rattle.frames.specs.Frames.{frameAt}
+use Rattle.frames.proofs.Lent.{at_list, Mine, Yours, ty_at, exit_unless, exit_if, leave_if, fork, skipped, regroup, matched, matched_last, const, is_true, is_false, not_not, differ, widen, less_fits, after, turn_of_lem, take_out, put_in, put_back, look_out, look_back, free_all}
+use Rattle.frames.specs.Frames.{frame_at}
 use Rattle.frames.specs.Promises.{Waits}
 use Rattle.frames.specs.Ranges.{Acts}
 use Rattle.frames.proofs.Called.frame_at as S-frame-at
@@ -93,7 +93,7 @@ module _ {M : Type 1} {𝓤 : Ura M} (𝓛 : Logic 𝓤) (mem : Memory → SProp
   n-frames = length frames
 
   abbrev args' : MutBor (List ℕ) × (MutBor (List Frame) × (ℕ × (ℕ × (ℕ × Unit {0}))))
-  args' = (at-list b-deques o-deques γ-deques deques, (at-list b-frames o-frames γ-frames frames, (w, (n, (p, tt)))))
+  args' = (at_list b-deques o-deques γ-deques deques, (at_list b-frames o-frames γ-frames frames, (w, (n, (p, tt)))))
 
   abbrev vals' : Vals f'.signature (κ-deques, (κ-frames, tt))
   vals' = (slice_val (b-deques, o-deques) (length deques) ∷ [], (slice_val (b-frames, o-frames) (length frames) ∷ [], (vint w32 w ∷ [], (vint w32 n ∷ [], (vint w32 p ∷ [], tt)))))
@@ -116,7 +116,7 @@ module _ {M : Type 1} {𝓤 : Ura M} (𝓛 : Logic 𝓤) (mem : Memory → SProp
     abbrev fm : FmC 𝓤 H 𝓛.laws 𝓣.C
     fm = fm_of 𝓤 H 𝓛.laws 𝓣
 
-    walk : Acts deques frames w n p (frameAt frames p) → ent 𝓤 (on_entry 𝓛 f'.signature (κ-deques, (κ-frames, tt)) (q-deques, (q-frames, tt)) args' vals') (WpFn 𝓤 H 𝓣.C 𝓣.Λ code.function (slice_val (b-deques, o-deques) (length deques) ∷ slice_val (b-frames, o-frames) (length frames) ∷ vint w32 w ∷ vint w32 n ∷ vint w32 p ∷ []) Post)
+    walk : Acts deques frames w n p (frame_at frames p) → ent 𝓤 (on_entry 𝓛 f'.signature (κ-deques, (κ-frames, tt)) (q-deques, (q-frames, tt)) args' vals') (WpFn 𝓤 H 𝓣.C 𝓣.Λ code.function (slice_val (b-deques, o-deques) (length deques) ∷ slice_val (b-frames, o-frames) (length frames) ∷ vint w32 w ∷ vint w32 n ∷ vint w32 p ∷ []) Post)
     walk ok' =
         qed 𝓛 ((‵ (flft κ-deques q-deques) ⊛ ‵ (flft κ-frames q-frames) ⊛ ‵ ftrue) ∷ ‵ (owns (MutSlice (named 0) κ-deques u32 ∷ MutSlice (named 1) κ-frames R-Frame ∷ u32 ∷ u32 ∷ u32 ∷ []) args' vals') ∷ []) ∵ enter ! 𝓣.C 𝓣.Λ code.function (slice_val (b-deques, o-deques) (length deques) ∷ slice_val (b-frames, o-frames) (length frames) ∷ vint w32 w ∷ vint w32 n ∷ vint w32 p ∷ []) _ $
         alloc1 ! (λ l₀. alloc1 ! (λ l₁. alloc1 ! (λ l₂. alloc1 ! (λ l₃. alloc1 ! (λ l₄. alloc1 ! (λ l₅. alloc1 ! (λ l₆. alloc1 ! (λ l₇. alloc1 ! (λ l₈. alloc1 ! (λ l₉. alloc1 ! (λ l₁₀. alloc1 ! (λ l₁₁. alloc1 ! (λ l₁₂. alloc1 ! (λ l₁₃. alloc1 ! (λ l₁₄. alloc0 ! $ params1 ! $
@@ -159,7 +159,7 @@ module _ {M : Type 1} {𝓤 : Ura M} (𝓛 : Logic 𝓤) (mem : Memory → SProp
   walks known-frame-at known-as-returning known-put-frame known-pop-off = walked 𝓛 f'.ended stayed (f'.clauses 𝓛 mem run) (WpFn 𝓤 H 𝓣.C 𝓣.Λ code.function)
       (λ κs. (mut_slice_vals, (mut_slice_vals, (uint_vals w32, (uint_vals w32, (uint_vals w32, tt))))))
       (λ κs. (mut_slice_Tells (named 0) κs.0 u32, (mut_slice_Tells (named 1) κs.1.0 R-Frame, (uint_Tells w32, (uint_Tells w32, (uint_Tells w32, tt))))))
-      (λ κs qs bounds a g are. needs 𝓤 (Acts a.0.now a.1.0.now a.1.1.0 a.1.1.1.0 a.1.1.1.1.0 (frameAt a.1.0.now a.1.1.1.1.0)) _
+      (λ κs qs bounds a g are. needs 𝓤 (Acts a.0.now a.1.0.now a.1.1.0 a.1.1.1.0 a.1.1.1.1.0 (frame_at a.1.0.now a.1.1.1.1.0)) _
       (walk 𝓛 mem run κs.0 qs.0 a.0.ref_ptr.0 a.0.ref_ptr.1 a.0.ghost_name a.0.now κs.1.0 qs.1.0 a.1.0.ref_ptr.0 a.1.0.ref_ptr.1 a.1.0.ghost_name a.1.0.now a.1.1.0 are.1.1.0.1 a.1.1.1.0 are.1.1.1.0.1 a.1.1.1.1.0 are.1.1.1.1.0.1 are.0.0.1 are.1.0.0.1 𝓣 known-frame-at known-as-returning known-put-frame known-pop-off))
 
   meets : Triple 𝓤 (𝓣.C #frame-at) (S-frame-at.Asked 𝓛 mem run) → Triple 𝓤 (𝓣.C #as-returning) (S-as-returning.Asked 𝓛 mem run) → Triple 𝓤 (𝓣.C #put-frame) (S-put-frame.Asked 𝓛 mem run) → Triple 𝓤 (𝓣.C #pop-off) (S-pop-off.Asked 𝓛 mem run) → Meets 𝓛 f'.signature (WpFn 𝓤 H 𝓣.C 𝓣.Λ code.function) (f'.spec 𝓛 mem run)

@@ -44,8 +44,8 @@ use denote.Triple.Statement.{Triple}
 use denote.Triple.Table.{entered, cited}
 use denote.Triple.Walked.{says, needs, Stays, stay_slice, stay_none, stay_none_slice, walk_of, Walks, ends_at, walked, Goes-slice, Goes-none, Goes-none_slice, walk_Meets}
 use borrow.Author.Rules.{scaled_Fits}
-use Rattle.frames.proofs.Lent.{at-list, Mine, Yours, ty_at, exit-unless, exit-if, leave-if, fork, skipped, regroup, matched, matched-last, const, is_true, is_false, not-not, differ, widen, less-fits, after, turn-of, take_out, put_in, put_back, look-out, look-back, free_all}
-use Rattle.frames.specs.Frames.{frameAt}
+use Rattle.frames.proofs.Lent.{at_list, Mine, Yours, ty_at, exit_unless, exit_if, leave_if, fork, skipped, regroup, matched, matched_last, const, is_true, is_false, not_not, differ, widen, less_fits, after, turn_of_lem, take_out, put_in, put_back, look_out, look_back, free_all}
+use Rattle.frames.specs.Frames.{frame_at}
 use Rattle.frames.specs.contracts.table.frame_at.Key.{name as #own}
 use Rattle.frames.specs.contracts.table.frame_at as f'
 use Rattle.frames.proofs.table.frame_at.Statement as stated
@@ -126,7 +126,7 @@ module _ {M : Type 1} {𝓤 : Ura M} (𝓛 : Logic 𝓤) (mem : Memory → SProp
   n-frames = length frames
 
   abbrev args' : Bor (List Frame) × (ℕ × Unit {0})
-  args' = (at-list b-frames o-frames γ-frames frames, (p, tt))
+  args' = (at_list b-frames o-frames γ-frames frames, (p, tt))
 
   abbrev vals' : Vals f'.signature (κ-frames, tt)
   vals' = (slice_val (b-frames, o-frames) (length frames) ∷ [], (vint w32 p ∷ [], tt))
@@ -137,7 +137,7 @@ module _ {M : Type 1} {𝓤 : Ura M} (𝓛 : Logic 𝓤) (mem : Memory → SProp
   abbrev Post : Val → SProp 𝓤
   Post = (walk_of 𝓛 f'.ended stayed (f'.clauses 𝓛 mem run)).post bound'
 
-  exits' : (res' : Frame) → Is R-Frame res' (val-Frame res' ∷ []) → res' ≡ frameAt frames p → ent 𝓤 (⋆ 𝓛 (‵ (Yours R-Frame κ-frames q-frames γ-frames b-frames o-frames n-frames frames) ∷ [])) (Post (val-Frame res'))
+  exits' : (res' : Frame) → Is R-Frame res' (val-Frame res' ∷ []) → res' ≡ frame_at frames p → ent 𝓤 (⋆ 𝓛 (‵ (Yours R-Frame κ-frames q-frames γ-frames b-frames o-frames n-frames frames) ∷ [])) (Post (val-Frame res'))
   exits' res' good' e' =
       qed 𝓛 (‵ (Yours R-Frame κ-frames q-frames γ-frames b-frames o-frames n-frames frames) ∷ []) ∵
       suffices ! _ (ends_at 𝓛 f'.ended stayed (f'.clauses 𝓛 mem run) bound' (val-Frame res') res' (tt, (tt, tt)) (tt, (tt, tt))) $ says ! e' $
@@ -160,99 +160,99 @@ module _ {M : Type 1} {𝓤 : Ura M} (𝓛 : Logic 𝓤) (mem : Memory → SProp
         assigns ! (bin ! (load ! (from ! (stop !)) (look ! 59 refl)) (const ! _ tt) (scaled_Fits p n-frames 48 (F.inside-1 frames p room-frames.0 p-fits ok') room-frames.1)) (from ! (stop !)) (init ! 33 refl (tt, (scaled_Fits p n-frames 48 (F.inside-1 frames p room-frames.0 p-fits ok') room-frames.1))) $
         assigns ! (bin ! (load ! (from ! (fld ! refl (stop !))) (look_in ! 63 (sub ! 0 refl (whole !)))) (load ! (from ! (stop !)) (look ! 33 refl)) tt) (from ! (stop !)) (init ! 31 refl (tt, tt)) $
         rewrite ! 31 (λ (p' : ℕ). ‵ (fat full_share ty_ptr l₁₇ 0 (vptr b-frames p'))) (sym (place_is 48 o-frames p)) refl $
-        look-out ! tt R-Frame (LL.vals M-Frame.the_type L-Frame.the_laws) (LL.tells M-Frame.the_type L-Frame.the_laws) (LL.copy M-Frame.the_type L-Frame.the_copy 𝓛) b-frames o-frames n-frames frames p zero-Frame (F.inside-1 frames p room-frames.0 p-fits ok') (λ q_2 r-2 r-2-is r-2-good.
+        look_out ! tt R-Frame (LL.vals M-Frame.the_type L-Frame.the_laws) (LL.tells M-Frame.the_type L-Frame.the_laws) (LL.copy M-Frame.the_type L-Frame.the_copy 𝓛) b-frames o-frames n-frames frames p zero-Frame (F.inside-1 frames p room-frames.0 p-fits ok') (λ q_2 r-2 r-2-is r-2-good.
         use1 𝓛 (‵ (fat q_2 L-Frame.mir b-frames (place' 48 o-frames p) (val-Frame r-2))) (𝓛.laws.raw_at q_2 L-Frame.mir b-frames (place' 48 o-frames p) (val-Frame r-2)) $
         assigns ! (of_opd ! (load ! (from ! (hop ! (look ! 32 refl) (fld ! refl (stop !)))) (look_in ! 0 (sub ! 0 refl (whole !))))) (from ! (stop !)) (init ! 58 refl (tt, record { fits = (LL.owed M-Frame.the_type L-Frame.the_laws r-2 _ r-2-good).0.1 })) $
         use1 𝓛 (‵ (cell_at q_2 R-Frame.mir ((val-Frame r-2) ∷ []) b-frames (place' 48 o-frames p))) (𝓛.laws.at_raw q_2 L-Frame.mir b-frames (place' 48 o-frames p) (val-Frame r-2)) $
-        look-back ! tt R-Frame (LL.makes M-Frame.the_type L-Frame.the_plain 𝓛) q_2 b-frames o-frames n-frames frames p zero-Frame r-2 (val-Frame r-2 ∷ []) (refl) room-frames (F.inside-1 frames p room-frames.0 p-fits ok') r-2-is r-2-good $
+        look_back ! tt R-Frame (LL.makes M-Frame.the_type L-Frame.the_plain 𝓛) q_2 b-frames o-frames n-frames frames p zero-Frame r-2 (val-Frame r-2 ∷ []) (refl) room-frames (F.inside-1 frames p room-frames.0 p-fits ok') r-2-is r-2-good $
         assigns ! (bin ! (load ! (from ! (stop !)) (look ! 59 refl)) (const ! _ tt) (scaled_Fits p n-frames 48 (F.inside-3 frames p room-frames.0 p-fits ok' r-2 r-2-is) room-frames.1)) (from ! (stop !)) (store ! 33 refl (tt, (scaled_Fits p n-frames 48 (F.inside-3 frames p room-frames.0 p-fits ok' r-2 r-2-is) room-frames.1))) $
         assigns ! (bin ! (load ! (from ! (fld ! refl (stop !))) (look_in ! 63 (sub ! 0 refl (whole !)))) (load ! (from ! (stop !)) (look ! 33 refl)) tt) (from ! (stop !)) (init ! 29 refl (tt, tt)) $
         rewrite ! 29 (λ (p' : ℕ). ‵ (fat full_share ty_ptr l₁₈ 0 (vptr b-frames p'))) (sym (place_is 48 o-frames p)) refl $
-        look-out ! tt R-Frame (LL.vals M-Frame.the_type L-Frame.the_laws) (LL.tells M-Frame.the_type L-Frame.the_laws) (LL.copy M-Frame.the_type L-Frame.the_copy 𝓛) b-frames o-frames n-frames frames p zero-Frame (F.inside-3 frames p room-frames.0 p-fits ok' r-2 r-2-is) (λ q-4 r-4 r-4-is r-4-good.
+        look_out ! tt R-Frame (LL.vals M-Frame.the_type L-Frame.the_laws) (LL.tells M-Frame.the_type L-Frame.the_laws) (LL.copy M-Frame.the_type L-Frame.the_copy 𝓛) b-frames o-frames n-frames frames p zero-Frame (F.inside-3 frames p room-frames.0 p-fits ok' r-2 r-2-is) (λ q-4 r-4 r-4-is r-4-good.
         use1 𝓛 (‵ (fat q-4 L-Frame.mir b-frames (place' 48 o-frames p) (val-Frame r-4))) (𝓛.laws.raw_at q-4 L-Frame.mir b-frames (place' 48 o-frames p) (val-Frame r-4)) $
         assigns ! (of_opd ! (load ! (from ! (hop ! (look ! 30 refl) (fld ! refl (stop !)))) (look_in ! 0 (sub ! 1 refl (whole !))))) (from ! (stop !)) (init ! 56 refl (tt, record { fits = (LL.owed M-Frame.the_type L-Frame.the_laws r-4 _ r-4-good).1.0.1 })) $
         use1 𝓛 (‵ (cell_at q-4 R-Frame.mir ((val-Frame r-4) ∷ []) b-frames (place' 48 o-frames p))) (𝓛.laws.at_raw q-4 L-Frame.mir b-frames (place' 48 o-frames p) (val-Frame r-4)) $
-        look-back ! tt R-Frame (LL.makes M-Frame.the_type L-Frame.the_plain 𝓛) q-4 b-frames o-frames n-frames frames p zero-Frame r-4 (val-Frame r-4 ∷ []) (refl) room-frames (F.inside-3 frames p room-frames.0 p-fits ok' r-2 r-2-is) r-4-is r-4-good $
+        look_back ! tt R-Frame (LL.makes M-Frame.the_type L-Frame.the_plain 𝓛) q-4 b-frames o-frames n-frames frames p zero-Frame r-4 (val-Frame r-4 ∷ []) (refl) room-frames (F.inside-3 frames p room-frames.0 p-fits ok' r-2 r-2-is) r-4-is r-4-good $
         assigns ! (bin ! (load ! (from ! (stop !)) (look ! 59 refl)) (const ! _ tt) (scaled_Fits p n-frames 48 (F.inside-5 frames p room-frames.0 p-fits ok' r-2 r-2-is r-4 r-4-is) room-frames.1)) (from ! (stop !)) (store ! 33 refl (tt, (scaled_Fits p n-frames 48 (F.inside-5 frames p room-frames.0 p-fits ok' r-2 r-2-is r-4 r-4-is) room-frames.1))) $
         assigns ! (bin ! (load ! (from ! (fld ! refl (stop !))) (look_in ! 63 (sub ! 0 refl (whole !)))) (load ! (from ! (stop !)) (look ! 33 refl)) tt) (from ! (stop !)) (init ! 27 refl (tt, tt)) $
         rewrite ! 27 (λ (p' : ℕ). ‵ (fat full_share ty_ptr l₁₉ 0 (vptr b-frames p'))) (sym (place_is 48 o-frames p)) refl $
-        look-out ! tt R-Frame (LL.vals M-Frame.the_type L-Frame.the_laws) (LL.tells M-Frame.the_type L-Frame.the_laws) (LL.copy M-Frame.the_type L-Frame.the_copy 𝓛) b-frames o-frames n-frames frames p zero-Frame (F.inside-5 frames p room-frames.0 p-fits ok' r-2 r-2-is r-4 r-4-is) (λ q-6 r-6 r-6-is r-6-good.
+        look_out ! tt R-Frame (LL.vals M-Frame.the_type L-Frame.the_laws) (LL.tells M-Frame.the_type L-Frame.the_laws) (LL.copy M-Frame.the_type L-Frame.the_copy 𝓛) b-frames o-frames n-frames frames p zero-Frame (F.inside-5 frames p room-frames.0 p-fits ok' r-2 r-2-is r-4 r-4-is) (λ q-6 r-6 r-6-is r-6-good.
         use1 𝓛 (‵ (fat q-6 L-Frame.mir b-frames (place' 48 o-frames p) (val-Frame r-6))) (𝓛.laws.raw_at q-6 L-Frame.mir b-frames (place' 48 o-frames p) (val-Frame r-6)) $
         assigns ! (of_opd ! (load ! (from ! (hop ! (look ! 28 refl) (fld ! refl (stop !)))) (look_in ! 0 (sub ! 2 refl (whole !))))) (from ! (stop !)) (init ! 54 refl (tt, record { fits = (LL.owed M-Frame.the_type L-Frame.the_laws r-6 _ r-6-good).1.1.0.1 })) $
         use1 𝓛 (‵ (cell_at q-6 R-Frame.mir ((val-Frame r-6) ∷ []) b-frames (place' 48 o-frames p))) (𝓛.laws.at_raw q-6 L-Frame.mir b-frames (place' 48 o-frames p) (val-Frame r-6)) $
-        look-back ! tt R-Frame (LL.makes M-Frame.the_type L-Frame.the_plain 𝓛) q-6 b-frames o-frames n-frames frames p zero-Frame r-6 (val-Frame r-6 ∷ []) (refl) room-frames (F.inside-5 frames p room-frames.0 p-fits ok' r-2 r-2-is r-4 r-4-is) r-6-is r-6-good $
+        look_back ! tt R-Frame (LL.makes M-Frame.the_type L-Frame.the_plain 𝓛) q-6 b-frames o-frames n-frames frames p zero-Frame r-6 (val-Frame r-6 ∷ []) (refl) room-frames (F.inside-5 frames p room-frames.0 p-fits ok' r-2 r-2-is r-4 r-4-is) r-6-is r-6-good $
         assigns ! (bin ! (load ! (from ! (stop !)) (look ! 59 refl)) (const ! _ tt) (scaled_Fits p n-frames 48 (F.inside-7 frames p room-frames.0 p-fits ok' r-2 r-2-is r-4 r-4-is r-6 r-6-is) room-frames.1)) (from ! (stop !)) (store ! 33 refl (tt, (scaled_Fits p n-frames 48 (F.inside-7 frames p room-frames.0 p-fits ok' r-2 r-2-is r-4 r-4-is r-6 r-6-is) room-frames.1))) $
         assigns ! (bin ! (load ! (from ! (fld ! refl (stop !))) (look_in ! 63 (sub ! 0 refl (whole !)))) (load ! (from ! (stop !)) (look ! 33 refl)) tt) (from ! (stop !)) (init ! 25 refl (tt, tt)) $
         rewrite ! 25 (λ (p' : ℕ). ‵ (fat full_share ty_ptr l₂₀ 0 (vptr b-frames p'))) (sym (place_is 48 o-frames p)) refl $
-        look-out ! tt R-Frame (LL.vals M-Frame.the_type L-Frame.the_laws) (LL.tells M-Frame.the_type L-Frame.the_laws) (LL.copy M-Frame.the_type L-Frame.the_copy 𝓛) b-frames o-frames n-frames frames p zero-Frame (F.inside-7 frames p room-frames.0 p-fits ok' r-2 r-2-is r-4 r-4-is r-6 r-6-is) (λ q-8 r-8 r-8-is r-8-good.
+        look_out ! tt R-Frame (LL.vals M-Frame.the_type L-Frame.the_laws) (LL.tells M-Frame.the_type L-Frame.the_laws) (LL.copy M-Frame.the_type L-Frame.the_copy 𝓛) b-frames o-frames n-frames frames p zero-Frame (F.inside-7 frames p room-frames.0 p-fits ok' r-2 r-2-is r-4 r-4-is r-6 r-6-is) (λ q-8 r-8 r-8-is r-8-good.
         use1 𝓛 (‵ (fat q-8 L-Frame.mir b-frames (place' 48 o-frames p) (val-Frame r-8))) (𝓛.laws.raw_at q-8 L-Frame.mir b-frames (place' 48 o-frames p) (val-Frame r-8)) $
         assigns ! (of_opd ! (load ! (from ! (hop ! (look ! 26 refl) (fld ! refl (stop !)))) (look_in ! 0 (sub ! 3 refl (whole !))))) (from ! (stop !)) (init ! 52 refl (tt, record { fits = (LL.owed M-Frame.the_type L-Frame.the_laws r-8 _ r-8-good).1.1.1.0.1 })) $
         use1 𝓛 (‵ (cell_at q-8 R-Frame.mir ((val-Frame r-8) ∷ []) b-frames (place' 48 o-frames p))) (𝓛.laws.at_raw q-8 L-Frame.mir b-frames (place' 48 o-frames p) (val-Frame r-8)) $
-        look-back ! tt R-Frame (LL.makes M-Frame.the_type L-Frame.the_plain 𝓛) q-8 b-frames o-frames n-frames frames p zero-Frame r-8 (val-Frame r-8 ∷ []) (refl) room-frames (F.inside-7 frames p room-frames.0 p-fits ok' r-2 r-2-is r-4 r-4-is r-6 r-6-is) r-8-is r-8-good $
+        look_back ! tt R-Frame (LL.makes M-Frame.the_type L-Frame.the_plain 𝓛) q-8 b-frames o-frames n-frames frames p zero-Frame r-8 (val-Frame r-8 ∷ []) (refl) room-frames (F.inside-7 frames p room-frames.0 p-fits ok' r-2 r-2-is r-4 r-4-is r-6 r-6-is) r-8-is r-8-good $
         assigns ! (bin ! (load ! (from ! (stop !)) (look ! 59 refl)) (const ! _ tt) (scaled_Fits p n-frames 48 (F.inside-9 frames p room-frames.0 p-fits ok' r-2 r-2-is r-4 r-4-is r-6 r-6-is r-8 r-8-is) room-frames.1)) (from ! (stop !)) (store ! 33 refl (tt, (scaled_Fits p n-frames 48 (F.inside-9 frames p room-frames.0 p-fits ok' r-2 r-2-is r-4 r-4-is r-6 r-6-is r-8 r-8-is) room-frames.1))) $
         assigns ! (bin ! (load ! (from ! (fld ! refl (stop !))) (look_in ! 63 (sub ! 0 refl (whole !)))) (load ! (from ! (stop !)) (look ! 33 refl)) tt) (from ! (stop !)) (init ! 23 refl (tt, tt)) $
         rewrite ! 23 (λ (p' : ℕ). ‵ (fat full_share ty_ptr l₂₁ 0 (vptr b-frames p'))) (sym (place_is 48 o-frames p)) refl $
-        look-out ! tt R-Frame (LL.vals M-Frame.the_type L-Frame.the_laws) (LL.tells M-Frame.the_type L-Frame.the_laws) (LL.copy M-Frame.the_type L-Frame.the_copy 𝓛) b-frames o-frames n-frames frames p zero-Frame (F.inside-9 frames p room-frames.0 p-fits ok' r-2 r-2-is r-4 r-4-is r-6 r-6-is r-8 r-8-is) (λ q-10 r-10 r-10-is r-10-good.
+        look_out ! tt R-Frame (LL.vals M-Frame.the_type L-Frame.the_laws) (LL.tells M-Frame.the_type L-Frame.the_laws) (LL.copy M-Frame.the_type L-Frame.the_copy 𝓛) b-frames o-frames n-frames frames p zero-Frame (F.inside-9 frames p room-frames.0 p-fits ok' r-2 r-2-is r-4 r-4-is r-6 r-6-is r-8 r-8-is) (λ q-10 r-10 r-10-is r-10-good.
         use1 𝓛 (‵ (fat q-10 L-Frame.mir b-frames (place' 48 o-frames p) (val-Frame r-10))) (𝓛.laws.raw_at q-10 L-Frame.mir b-frames (place' 48 o-frames p) (val-Frame r-10)) $
         assigns ! (of_opd ! (load ! (from ! (hop ! (look ! 24 refl) (fld ! refl (stop !)))) (look_in ! 0 (sub ! 4 refl (whole !))))) (from ! (stop !)) (init ! 50 refl (tt, record { fits = (LL.owed M-Frame.the_type L-Frame.the_laws r-10 _ r-10-good).1.1.1.1.0.1 })) $
         use1 𝓛 (‵ (cell_at q-10 R-Frame.mir ((val-Frame r-10) ∷ []) b-frames (place' 48 o-frames p))) (𝓛.laws.at_raw q-10 L-Frame.mir b-frames (place' 48 o-frames p) (val-Frame r-10)) $
-        look-back ! tt R-Frame (LL.makes M-Frame.the_type L-Frame.the_plain 𝓛) q-10 b-frames o-frames n-frames frames p zero-Frame r-10 (val-Frame r-10 ∷ []) (refl) room-frames (F.inside-9 frames p room-frames.0 p-fits ok' r-2 r-2-is r-4 r-4-is r-6 r-6-is r-8 r-8-is) r-10-is r-10-good $
+        look_back ! tt R-Frame (LL.makes M-Frame.the_type L-Frame.the_plain 𝓛) q-10 b-frames o-frames n-frames frames p zero-Frame r-10 (val-Frame r-10 ∷ []) (refl) room-frames (F.inside-9 frames p room-frames.0 p-fits ok' r-2 r-2-is r-4 r-4-is r-6 r-6-is r-8 r-8-is) r-10-is r-10-good $
         assigns ! (bin ! (load ! (from ! (stop !)) (look ! 59 refl)) (const ! _ tt) (scaled_Fits p n-frames 48 (F.inside-11 frames p room-frames.0 p-fits ok' r-2 r-2-is r-4 r-4-is r-6 r-6-is r-8 r-8-is r-10 r-10-is) room-frames.1)) (from ! (stop !)) (store ! 33 refl (tt, (scaled_Fits p n-frames 48 (F.inside-11 frames p room-frames.0 p-fits ok' r-2 r-2-is r-4 r-4-is r-6 r-6-is r-8 r-8-is r-10 r-10-is) room-frames.1))) $
         assigns ! (bin ! (load ! (from ! (fld ! refl (stop !))) (look_in ! 63 (sub ! 0 refl (whole !)))) (load ! (from ! (stop !)) (look ! 33 refl)) tt) (from ! (stop !)) (init ! 21 refl (tt, tt)) $
         rewrite ! 21 (λ (p' : ℕ). ‵ (fat full_share ty_ptr l₂₂ 0 (vptr b-frames p'))) (sym (place_is 48 o-frames p)) refl $
-        look-out ! tt R-Frame (LL.vals M-Frame.the_type L-Frame.the_laws) (LL.tells M-Frame.the_type L-Frame.the_laws) (LL.copy M-Frame.the_type L-Frame.the_copy 𝓛) b-frames o-frames n-frames frames p zero-Frame (F.inside-11 frames p room-frames.0 p-fits ok' r-2 r-2-is r-4 r-4-is r-6 r-6-is r-8 r-8-is r-10 r-10-is) (λ q-12 r-12 r-12-is r-12-good.
+        look_out ! tt R-Frame (LL.vals M-Frame.the_type L-Frame.the_laws) (LL.tells M-Frame.the_type L-Frame.the_laws) (LL.copy M-Frame.the_type L-Frame.the_copy 𝓛) b-frames o-frames n-frames frames p zero-Frame (F.inside-11 frames p room-frames.0 p-fits ok' r-2 r-2-is r-4 r-4-is r-6 r-6-is r-8 r-8-is r-10 r-10-is) (λ q-12 r-12 r-12-is r-12-good.
         use1 𝓛 (‵ (fat q-12 L-Frame.mir b-frames (place' 48 o-frames p) (val-Frame r-12))) (𝓛.laws.raw_at q-12 L-Frame.mir b-frames (place' 48 o-frames p) (val-Frame r-12)) $
         assigns ! (of_opd ! (load ! (from ! (hop ! (look ! 22 refl) (fld ! refl (stop !)))) (look_in ! 0 (sub ! 5 refl (whole !))))) (from ! (stop !)) (init ! 48 refl (tt, record { fits = (LL.owed M-Frame.the_type L-Frame.the_laws r-12 _ r-12-good).1.1.1.1.1.0.1 })) $
         use1 𝓛 (‵ (cell_at q-12 R-Frame.mir ((val-Frame r-12) ∷ []) b-frames (place' 48 o-frames p))) (𝓛.laws.at_raw q-12 L-Frame.mir b-frames (place' 48 o-frames p) (val-Frame r-12)) $
-        look-back ! tt R-Frame (LL.makes M-Frame.the_type L-Frame.the_plain 𝓛) q-12 b-frames o-frames n-frames frames p zero-Frame r-12 (val-Frame r-12 ∷ []) (refl) room-frames (F.inside-11 frames p room-frames.0 p-fits ok' r-2 r-2-is r-4 r-4-is r-6 r-6-is r-8 r-8-is r-10 r-10-is) r-12-is r-12-good $
+        look_back ! tt R-Frame (LL.makes M-Frame.the_type L-Frame.the_plain 𝓛) q-12 b-frames o-frames n-frames frames p zero-Frame r-12 (val-Frame r-12 ∷ []) (refl) room-frames (F.inside-11 frames p room-frames.0 p-fits ok' r-2 r-2-is r-4 r-4-is r-6 r-6-is r-8 r-8-is r-10 r-10-is) r-12-is r-12-good $
         assigns ! (bin ! (load ! (from ! (stop !)) (look ! 59 refl)) (const ! _ tt) (scaled_Fits p n-frames 48 (F.inside-13 frames p room-frames.0 p-fits ok' r-2 r-2-is r-4 r-4-is r-6 r-6-is r-8 r-8-is r-10 r-10-is r-12 r-12-is) room-frames.1)) (from ! (stop !)) (store ! 33 refl (tt, (scaled_Fits p n-frames 48 (F.inside-13 frames p room-frames.0 p-fits ok' r-2 r-2-is r-4 r-4-is r-6 r-6-is r-8 r-8-is r-10 r-10-is r-12 r-12-is) room-frames.1))) $
         assigns ! (bin ! (load ! (from ! (fld ! refl (stop !))) (look_in ! 63 (sub ! 0 refl (whole !)))) (load ! (from ! (stop !)) (look ! 33 refl)) tt) (from ! (stop !)) (init ! 19 refl (tt, tt)) $
         rewrite ! 19 (λ (p' : ℕ). ‵ (fat full_share ty_ptr l₂₃ 0 (vptr b-frames p'))) (sym (place_is 48 o-frames p)) refl $
-        look-out ! tt R-Frame (LL.vals M-Frame.the_type L-Frame.the_laws) (LL.tells M-Frame.the_type L-Frame.the_laws) (LL.copy M-Frame.the_type L-Frame.the_copy 𝓛) b-frames o-frames n-frames frames p zero-Frame (F.inside-13 frames p room-frames.0 p-fits ok' r-2 r-2-is r-4 r-4-is r-6 r-6-is r-8 r-8-is r-10 r-10-is r-12 r-12-is) (λ q-14 r-14 r-14-is r-14-good.
+        look_out ! tt R-Frame (LL.vals M-Frame.the_type L-Frame.the_laws) (LL.tells M-Frame.the_type L-Frame.the_laws) (LL.copy M-Frame.the_type L-Frame.the_copy 𝓛) b-frames o-frames n-frames frames p zero-Frame (F.inside-13 frames p room-frames.0 p-fits ok' r-2 r-2-is r-4 r-4-is r-6 r-6-is r-8 r-8-is r-10 r-10-is r-12 r-12-is) (λ q-14 r-14 r-14-is r-14-good.
         use1 𝓛 (‵ (fat q-14 L-Frame.mir b-frames (place' 48 o-frames p) (val-Frame r-14))) (𝓛.laws.raw_at q-14 L-Frame.mir b-frames (place' 48 o-frames p) (val-Frame r-14)) $
         assigns ! (of_opd ! (load ! (from ! (hop ! (look ! 20 refl) (fld ! refl (stop !)))) (look_in ! 0 (sub ! 6 refl (whole !))))) (from ! (stop !)) (init ! 46 refl (tt, record { fits = (LL.owed M-Frame.the_type L-Frame.the_laws r-14 _ r-14-good).1.1.1.1.1.1.0.1 })) $
         use1 𝓛 (‵ (cell_at q-14 R-Frame.mir ((val-Frame r-14) ∷ []) b-frames (place' 48 o-frames p))) (𝓛.laws.at_raw q-14 L-Frame.mir b-frames (place' 48 o-frames p) (val-Frame r-14)) $
-        look-back ! tt R-Frame (LL.makes M-Frame.the_type L-Frame.the_plain 𝓛) q-14 b-frames o-frames n-frames frames p zero-Frame r-14 (val-Frame r-14 ∷ []) (refl) room-frames (F.inside-13 frames p room-frames.0 p-fits ok' r-2 r-2-is r-4 r-4-is r-6 r-6-is r-8 r-8-is r-10 r-10-is r-12 r-12-is) r-14-is r-14-good $
+        look_back ! tt R-Frame (LL.makes M-Frame.the_type L-Frame.the_plain 𝓛) q-14 b-frames o-frames n-frames frames p zero-Frame r-14 (val-Frame r-14 ∷ []) (refl) room-frames (F.inside-13 frames p room-frames.0 p-fits ok' r-2 r-2-is r-4 r-4-is r-6 r-6-is r-8 r-8-is r-10 r-10-is r-12 r-12-is) r-14-is r-14-good $
         assigns ! (bin ! (load ! (from ! (stop !)) (look ! 59 refl)) (const ! _ tt) (scaled_Fits p n-frames 48 (F.inside-15 frames p room-frames.0 p-fits ok' r-2 r-2-is r-4 r-4-is r-6 r-6-is r-8 r-8-is r-10 r-10-is r-12 r-12-is r-14 r-14-is) room-frames.1)) (from ! (stop !)) (store ! 33 refl (tt, (scaled_Fits p n-frames 48 (F.inside-15 frames p room-frames.0 p-fits ok' r-2 r-2-is r-4 r-4-is r-6 r-6-is r-8 r-8-is r-10 r-10-is r-12 r-12-is r-14 r-14-is) room-frames.1))) $
         assigns ! (bin ! (load ! (from ! (fld ! refl (stop !))) (look_in ! 63 (sub ! 0 refl (whole !)))) (load ! (from ! (stop !)) (look ! 33 refl)) tt) (from ! (stop !)) (init ! 17 refl (tt, tt)) $
         rewrite ! 17 (λ (p' : ℕ). ‵ (fat full_share ty_ptr l₂₄ 0 (vptr b-frames p'))) (sym (place_is 48 o-frames p)) refl $
-        look-out ! tt R-Frame (LL.vals M-Frame.the_type L-Frame.the_laws) (LL.tells M-Frame.the_type L-Frame.the_laws) (LL.copy M-Frame.the_type L-Frame.the_copy 𝓛) b-frames o-frames n-frames frames p zero-Frame (F.inside-15 frames p room-frames.0 p-fits ok' r-2 r-2-is r-4 r-4-is r-6 r-6-is r-8 r-8-is r-10 r-10-is r-12 r-12-is r-14 r-14-is) (λ q-16 r-16 r-16-is r-16-good.
+        look_out ! tt R-Frame (LL.vals M-Frame.the_type L-Frame.the_laws) (LL.tells M-Frame.the_type L-Frame.the_laws) (LL.copy M-Frame.the_type L-Frame.the_copy 𝓛) b-frames o-frames n-frames frames p zero-Frame (F.inside-15 frames p room-frames.0 p-fits ok' r-2 r-2-is r-4 r-4-is r-6 r-6-is r-8 r-8-is r-10 r-10-is r-12 r-12-is r-14 r-14-is) (λ q-16 r-16 r-16-is r-16-good.
         use1 𝓛 (‵ (fat q-16 L-Frame.mir b-frames (place' 48 o-frames p) (val-Frame r-16))) (𝓛.laws.raw_at q-16 L-Frame.mir b-frames (place' 48 o-frames p) (val-Frame r-16)) $
         assigns ! (of_opd ! (load ! (from ! (hop ! (look ! 18 refl) (fld ! refl (fld ! refl (fld ! refl (stop !)))))) (look_in ! 0 (sub ! 0 refl (sub ! 0 refl (sub ! 7 refl (whole !))))))) (from ! (stop !)) (init ! 44 refl (tt, record { fits = (LL.owed M-Sum.the_type L-Sum.the_laws r-16.view.sum _ (LL.owed M-View.the_type L-View.the_laws r-16.view _ (LL.owed M-Frame.the_type L-Frame.the_laws r-16 _ r-16-good).1.1.1.1.1.1.1.0).0).0.1 })) $
         use1 𝓛 (‵ (cell_at q-16 R-Frame.mir ((val-Frame r-16) ∷ []) b-frames (place' 48 o-frames p))) (𝓛.laws.at_raw q-16 L-Frame.mir b-frames (place' 48 o-frames p) (val-Frame r-16)) $
-        look-back ! tt R-Frame (LL.makes M-Frame.the_type L-Frame.the_plain 𝓛) q-16 b-frames o-frames n-frames frames p zero-Frame r-16 (val-Frame r-16 ∷ []) (refl) room-frames (F.inside-15 frames p room-frames.0 p-fits ok' r-2 r-2-is r-4 r-4-is r-6 r-6-is r-8 r-8-is r-10 r-10-is r-12 r-12-is r-14 r-14-is) r-16-is r-16-good $
+        look_back ! tt R-Frame (LL.makes M-Frame.the_type L-Frame.the_plain 𝓛) q-16 b-frames o-frames n-frames frames p zero-Frame r-16 (val-Frame r-16 ∷ []) (refl) room-frames (F.inside-15 frames p room-frames.0 p-fits ok' r-2 r-2-is r-4 r-4-is r-6 r-6-is r-8 r-8-is r-10 r-10-is r-12 r-12-is r-14 r-14-is) r-16-is r-16-good $
         assigns ! (bin ! (load ! (from ! (stop !)) (look ! 59 refl)) (const ! _ tt) (scaled_Fits p n-frames 48 (F.inside-17 frames p room-frames.0 p-fits ok' r-2 r-2-is r-4 r-4-is r-6 r-6-is r-8 r-8-is r-10 r-10-is r-12 r-12-is r-14 r-14-is r-16 r-16-is) room-frames.1)) (from ! (stop !)) (store ! 33 refl (tt, (scaled_Fits p n-frames 48 (F.inside-17 frames p room-frames.0 p-fits ok' r-2 r-2-is r-4 r-4-is r-6 r-6-is r-8 r-8-is r-10 r-10-is r-12 r-12-is r-14 r-14-is r-16 r-16-is) room-frames.1))) $
         assigns ! (bin ! (load ! (from ! (fld ! refl (stop !))) (look_in ! 63 (sub ! 0 refl (whole !)))) (load ! (from ! (stop !)) (look ! 33 refl)) tt) (from ! (stop !)) (init ! 15 refl (tt, tt)) $
         rewrite ! 15 (λ (p' : ℕ). ‵ (fat full_share ty_ptr l₂₅ 0 (vptr b-frames p'))) (sym (place_is 48 o-frames p)) refl $
-        look-out ! tt R-Frame (LL.vals M-Frame.the_type L-Frame.the_laws) (LL.tells M-Frame.the_type L-Frame.the_laws) (LL.copy M-Frame.the_type L-Frame.the_copy 𝓛) b-frames o-frames n-frames frames p zero-Frame (F.inside-17 frames p room-frames.0 p-fits ok' r-2 r-2-is r-4 r-4-is r-6 r-6-is r-8 r-8-is r-10 r-10-is r-12 r-12-is r-14 r-14-is r-16 r-16-is) (λ q-18 r-18 r-18-is r-18-good.
+        look_out ! tt R-Frame (LL.vals M-Frame.the_type L-Frame.the_laws) (LL.tells M-Frame.the_type L-Frame.the_laws) (LL.copy M-Frame.the_type L-Frame.the_copy 𝓛) b-frames o-frames n-frames frames p zero-Frame (F.inside-17 frames p room-frames.0 p-fits ok' r-2 r-2-is r-4 r-4-is r-6 r-6-is r-8 r-8-is r-10 r-10-is r-12 r-12-is r-14 r-14-is r-16 r-16-is) (λ q-18 r-18 r-18-is r-18-good.
         use1 𝓛 (‵ (fat q-18 L-Frame.mir b-frames (place' 48 o-frames p) (val-Frame r-18))) (𝓛.laws.raw_at q-18 L-Frame.mir b-frames (place' 48 o-frames p) (val-Frame r-18)) $
         assigns ! (of_opd ! (load ! (from ! (hop ! (look ! 16 refl) (fld ! refl (fld ! refl (fld ! refl (stop !)))))) (look_in ! 0 (sub ! 0 refl (sub ! 1 refl (sub ! 7 refl (whole !))))))) (from ! (stop !)) (init ! 42 refl (tt, record { fits = (LL.owed M-Min.the_type L-Min.the_laws r-18.view.min _ (LL.owed M-View.the_type L-View.the_laws r-18.view _ (LL.owed M-Frame.the_type L-Frame.the_laws r-18 _ r-18-good).1.1.1.1.1.1.1.0).1.0).0.1 })) $
         use1 𝓛 (‵ (cell_at q-18 R-Frame.mir ((val-Frame r-18) ∷ []) b-frames (place' 48 o-frames p))) (𝓛.laws.at_raw q-18 L-Frame.mir b-frames (place' 48 o-frames p) (val-Frame r-18)) $
-        look-back ! tt R-Frame (LL.makes M-Frame.the_type L-Frame.the_plain 𝓛) q-18 b-frames o-frames n-frames frames p zero-Frame r-18 (val-Frame r-18 ∷ []) (refl) room-frames (F.inside-17 frames p room-frames.0 p-fits ok' r-2 r-2-is r-4 r-4-is r-6 r-6-is r-8 r-8-is r-10 r-10-is r-12 r-12-is r-14 r-14-is r-16 r-16-is) r-18-is r-18-good $
+        look_back ! tt R-Frame (LL.makes M-Frame.the_type L-Frame.the_plain 𝓛) q-18 b-frames o-frames n-frames frames p zero-Frame r-18 (val-Frame r-18 ∷ []) (refl) room-frames (F.inside-17 frames p room-frames.0 p-fits ok' r-2 r-2-is r-4 r-4-is r-6 r-6-is r-8 r-8-is r-10 r-10-is r-12 r-12-is r-14 r-14-is r-16 r-16-is) r-18-is r-18-good $
         assigns ! (bin ! (load ! (from ! (stop !)) (look ! 59 refl)) (const ! _ tt) (scaled_Fits p n-frames 48 (F.inside-19 frames p room-frames.0 p-fits ok' r-2 r-2-is r-4 r-4-is r-6 r-6-is r-8 r-8-is r-10 r-10-is r-12 r-12-is r-14 r-14-is r-16 r-16-is r-18 r-18-is) room-frames.1)) (from ! (stop !)) (store ! 33 refl (tt, (scaled_Fits p n-frames 48 (F.inside-19 frames p room-frames.0 p-fits ok' r-2 r-2-is r-4 r-4-is r-6 r-6-is r-8 r-8-is r-10 r-10-is r-12 r-12-is r-14 r-14-is r-16 r-16-is r-18 r-18-is) room-frames.1))) $
         assigns ! (bin ! (load ! (from ! (fld ! refl (stop !))) (look_in ! 63 (sub ! 0 refl (whole !)))) (load ! (from ! (stop !)) (look ! 33 refl)) tt) (from ! (stop !)) (init ! 13 refl (tt, tt)) $
         rewrite ! 13 (λ (p' : ℕ). ‵ (fat full_share ty_ptr l₂₆ 0 (vptr b-frames p'))) (sym (place_is 48 o-frames p)) refl $
-        look-out ! tt R-Frame (LL.vals M-Frame.the_type L-Frame.the_laws) (LL.tells M-Frame.the_type L-Frame.the_laws) (LL.copy M-Frame.the_type L-Frame.the_copy 𝓛) b-frames o-frames n-frames frames p zero-Frame (F.inside-19 frames p room-frames.0 p-fits ok' r-2 r-2-is r-4 r-4-is r-6 r-6-is r-8 r-8-is r-10 r-10-is r-12 r-12-is r-14 r-14-is r-16 r-16-is r-18 r-18-is) (λ q-20 r-20 r-20-is r-20-good.
+        look_out ! tt R-Frame (LL.vals M-Frame.the_type L-Frame.the_laws) (LL.tells M-Frame.the_type L-Frame.the_laws) (LL.copy M-Frame.the_type L-Frame.the_copy 𝓛) b-frames o-frames n-frames frames p zero-Frame (F.inside-19 frames p room-frames.0 p-fits ok' r-2 r-2-is r-4 r-4-is r-6 r-6-is r-8 r-8-is r-10 r-10-is r-12 r-12-is r-14 r-14-is r-16 r-16-is r-18 r-18-is) (λ q-20 r-20 r-20-is r-20-good.
         use1 𝓛 (‵ (fat q-20 L-Frame.mir b-frames (place' 48 o-frames p) (val-Frame r-20))) (𝓛.laws.raw_at q-20 L-Frame.mir b-frames (place' 48 o-frames p) (val-Frame r-20)) $
         assigns ! (of_opd ! (load ! (from ! (hop ! (look ! 14 refl) (fld ! refl (fld ! refl (fld ! refl (stop !)))))) (look_in ! 0 (sub ! 0 refl (sub ! 2 refl (sub ! 7 refl (whole !))))))) (from ! (stop !)) (init ! 40 refl (tt, record { fits = (LL.owed M-Affine.the_type L-Affine.the_laws r-20.view.affine _ (LL.owed M-View.the_type L-View.the_laws r-20.view _ (LL.owed M-Frame.the_type L-Frame.the_laws r-20 _ r-20-good).1.1.1.1.1.1.1.0).1.1.0).0.1 })) $
         use1 𝓛 (‵ (cell_at q-20 R-Frame.mir ((val-Frame r-20) ∷ []) b-frames (place' 48 o-frames p))) (𝓛.laws.at_raw q-20 L-Frame.mir b-frames (place' 48 o-frames p) (val-Frame r-20)) $
-        look-back ! tt R-Frame (LL.makes M-Frame.the_type L-Frame.the_plain 𝓛) q-20 b-frames o-frames n-frames frames p zero-Frame r-20 (val-Frame r-20 ∷ []) (refl) room-frames (F.inside-19 frames p room-frames.0 p-fits ok' r-2 r-2-is r-4 r-4-is r-6 r-6-is r-8 r-8-is r-10 r-10-is r-12 r-12-is r-14 r-14-is r-16 r-16-is r-18 r-18-is) r-20-is r-20-good $
+        look_back ! tt R-Frame (LL.makes M-Frame.the_type L-Frame.the_plain 𝓛) q-20 b-frames o-frames n-frames frames p zero-Frame r-20 (val-Frame r-20 ∷ []) (refl) room-frames (F.inside-19 frames p room-frames.0 p-fits ok' r-2 r-2-is r-4 r-4-is r-6 r-6-is r-8 r-8-is r-10 r-10-is r-12 r-12-is r-14 r-14-is r-16 r-16-is r-18 r-18-is) r-20-is r-20-good $
         assigns ! (bin ! (load ! (from ! (stop !)) (look ! 59 refl)) (const ! _ tt) (scaled_Fits p n-frames 48 (F.inside-21 frames p room-frames.0 p-fits ok' r-2 r-2-is r-4 r-4-is r-6 r-6-is r-8 r-8-is r-10 r-10-is r-12 r-12-is r-14 r-14-is r-16 r-16-is r-18 r-18-is r-20 r-20-is) room-frames.1)) (from ! (stop !)) (store ! 33 refl (tt, (scaled_Fits p n-frames 48 (F.inside-21 frames p room-frames.0 p-fits ok' r-2 r-2-is r-4 r-4-is r-6 r-6-is r-8 r-8-is r-10 r-10-is r-12 r-12-is r-14 r-14-is r-16 r-16-is r-18 r-18-is r-20 r-20-is) room-frames.1))) $
         assigns ! (bin ! (load ! (from ! (fld ! refl (stop !))) (look_in ! 63 (sub ! 0 refl (whole !)))) (load ! (from ! (stop !)) (look ! 33 refl)) tt) (from ! (stop !)) (init ! 11 refl (tt, tt)) $
         rewrite ! 11 (λ (p' : ℕ). ‵ (fat full_share ty_ptr l₂₇ 0 (vptr b-frames p'))) (sym (place_is 48 o-frames p)) refl $
-        look-out ! tt R-Frame (LL.vals M-Frame.the_type L-Frame.the_laws) (LL.tells M-Frame.the_type L-Frame.the_laws) (LL.copy M-Frame.the_type L-Frame.the_copy 𝓛) b-frames o-frames n-frames frames p zero-Frame (F.inside-21 frames p room-frames.0 p-fits ok' r-2 r-2-is r-4 r-4-is r-6 r-6-is r-8 r-8-is r-10 r-10-is r-12 r-12-is r-14 r-14-is r-16 r-16-is r-18 r-18-is r-20 r-20-is) (λ q-22 r-22 r-22-is r-22-good.
+        look_out ! tt R-Frame (LL.vals M-Frame.the_type L-Frame.the_laws) (LL.tells M-Frame.the_type L-Frame.the_laws) (LL.copy M-Frame.the_type L-Frame.the_copy 𝓛) b-frames o-frames n-frames frames p zero-Frame (F.inside-21 frames p room-frames.0 p-fits ok' r-2 r-2-is r-4 r-4-is r-6 r-6-is r-8 r-8-is r-10 r-10-is r-12 r-12-is r-14 r-14-is r-16 r-16-is r-18 r-18-is r-20 r-20-is) (λ q-22 r-22 r-22-is r-22-good.
         use1 𝓛 (‵ (fat q-22 L-Frame.mir b-frames (place' 48 o-frames p) (val-Frame r-22))) (𝓛.laws.raw_at q-22 L-Frame.mir b-frames (place' 48 o-frames p) (val-Frame r-22)) $
         assigns ! (of_opd ! (load ! (from ! (hop ! (look ! 12 refl) (fld ! refl (fld ! refl (fld ! refl (stop !)))))) (look_in ! 0 (sub ! 1 refl (sub ! 2 refl (sub ! 7 refl (whole !))))))) (from ! (stop !)) (init ! 38 refl (tt, record { fits = (LL.owed M-Affine.the_type L-Affine.the_laws r-22.view.affine _ (LL.owed M-View.the_type L-View.the_laws r-22.view _ (LL.owed M-Frame.the_type L-Frame.the_laws r-22 _ r-22-good).1.1.1.1.1.1.1.0).1.1.0).1.0.1 })) $
         use1 𝓛 (‵ (cell_at q-22 R-Frame.mir ((val-Frame r-22) ∷ []) b-frames (place' 48 o-frames p))) (𝓛.laws.at_raw q-22 L-Frame.mir b-frames (place' 48 o-frames p) (val-Frame r-22)) $
-        look-back ! tt R-Frame (LL.makes M-Frame.the_type L-Frame.the_plain 𝓛) q-22 b-frames o-frames n-frames frames p zero-Frame r-22 (val-Frame r-22 ∷ []) (refl) room-frames (F.inside-21 frames p room-frames.0 p-fits ok' r-2 r-2-is r-4 r-4-is r-6 r-6-is r-8 r-8-is r-10 r-10-is r-12 r-12-is r-14 r-14-is r-16 r-16-is r-18 r-18-is r-20 r-20-is) r-22-is r-22-good $
+        look_back ! tt R-Frame (LL.makes M-Frame.the_type L-Frame.the_plain 𝓛) q-22 b-frames o-frames n-frames frames p zero-Frame r-22 (val-Frame r-22 ∷ []) (refl) room-frames (F.inside-21 frames p room-frames.0 p-fits ok' r-2 r-2-is r-4 r-4-is r-6 r-6-is r-8 r-8-is r-10 r-10-is r-12 r-12-is r-14 r-14-is r-16 r-16-is r-18 r-18-is r-20 r-20-is) r-22-is r-22-good $
         assigns ! (bin ! (load ! (from ! (stop !)) (look ! 59 refl)) (const ! _ tt) (scaled_Fits p n-frames 48 (F.inside-23 frames p room-frames.0 p-fits ok' r-2 r-2-is r-4 r-4-is r-6 r-6-is r-8 r-8-is r-10 r-10-is r-12 r-12-is r-14 r-14-is r-16 r-16-is r-18 r-18-is r-20 r-20-is r-22 r-22-is) room-frames.1)) (from ! (stop !)) (store ! 33 refl (tt, (scaled_Fits p n-frames 48 (F.inside-23 frames p room-frames.0 p-fits ok' r-2 r-2-is r-4 r-4-is r-6 r-6-is r-8 r-8-is r-10 r-10-is r-12 r-12-is r-14 r-14-is r-16 r-16-is r-18 r-18-is r-20 r-20-is r-22 r-22-is) room-frames.1))) $
         assigns ! (bin ! (load ! (from ! (fld ! refl (stop !))) (look_in ! 63 (sub ! 0 refl (whole !)))) (load ! (from ! (stop !)) (look ! 33 refl)) tt) (from ! (stop !)) (init ! 9 refl (tt, tt)) $
         rewrite ! 9 (λ (p' : ℕ). ‵ (fat full_share ty_ptr l₂₈ 0 (vptr b-frames p'))) (sym (place_is 48 o-frames p)) refl $
-        look-out ! tt R-Frame (LL.vals M-Frame.the_type L-Frame.the_laws) (LL.tells M-Frame.the_type L-Frame.the_laws) (LL.copy M-Frame.the_type L-Frame.the_copy 𝓛) b-frames o-frames n-frames frames p zero-Frame (F.inside-23 frames p room-frames.0 p-fits ok' r-2 r-2-is r-4 r-4-is r-6 r-6-is r-8 r-8-is r-10 r-10-is r-12 r-12-is r-14 r-14-is r-16 r-16-is r-18 r-18-is r-20 r-20-is r-22 r-22-is) (λ q-24 r-24 r-24-is r-24-good.
+        look_out ! tt R-Frame (LL.vals M-Frame.the_type L-Frame.the_laws) (LL.tells M-Frame.the_type L-Frame.the_laws) (LL.copy M-Frame.the_type L-Frame.the_copy 𝓛) b-frames o-frames n-frames frames p zero-Frame (F.inside-23 frames p room-frames.0 p-fits ok' r-2 r-2-is r-4 r-4-is r-6 r-6-is r-8 r-8-is r-10 r-10-is r-12 r-12-is r-14 r-14-is r-16 r-16-is r-18 r-18-is r-20 r-20-is r-22 r-22-is) (λ q-24 r-24 r-24-is r-24-good.
         use1 𝓛 (‵ (fat q-24 L-Frame.mir b-frames (place' 48 o-frames p) (val-Frame r-24))) (𝓛.laws.raw_at q-24 L-Frame.mir b-frames (place' 48 o-frames p) (val-Frame r-24)) $
         assigns ! (of_opd ! (load ! (from ! (hop ! (look ! 10 refl) (fld ! refl (stop !)))) (look_in ! 0 (sub ! 8 refl (whole !))))) (from ! (stop !)) (init ! 36 refl (tt, record { fits = (LL.owed M-Frame.the_type L-Frame.the_laws r-24 _ r-24-good).1.1.1.1.1.1.1.1.0.1 })) $
         use1 𝓛 (‵ (cell_at q-24 R-Frame.mir ((val-Frame r-24) ∷ []) b-frames (place' 48 o-frames p))) (𝓛.laws.at_raw q-24 L-Frame.mir b-frames (place' 48 o-frames p) (val-Frame r-24)) $
-        look-back ! tt R-Frame (LL.makes M-Frame.the_type L-Frame.the_plain 𝓛) q-24 b-frames o-frames n-frames frames p zero-Frame r-24 (val-Frame r-24 ∷ []) (refl) room-frames (F.inside-23 frames p room-frames.0 p-fits ok' r-2 r-2-is r-4 r-4-is r-6 r-6-is r-8 r-8-is r-10 r-10-is r-12 r-12-is r-14 r-14-is r-16 r-16-is r-18 r-18-is r-20 r-20-is r-22 r-22-is) r-24-is r-24-good $
+        look_back ! tt R-Frame (LL.makes M-Frame.the_type L-Frame.the_plain 𝓛) q-24 b-frames o-frames n-frames frames p zero-Frame r-24 (val-Frame r-24 ∷ []) (refl) room-frames (F.inside-23 frames p room-frames.0 p-fits ok' r-2 r-2-is r-4 r-4-is r-6 r-6-is r-8 r-8-is r-10 r-10-is r-12 r-12-is r-14 r-14-is r-16 r-16-is r-18 r-18-is r-20 r-20-is r-22 r-22-is) r-24-is r-24-good $
         assigns ! (agg ! (and_then ! (load ! (from ! (stop !)) (look ! 43 refl)) (no_more !))) (from ! (stop !)) (init ! 7 refl ((LL.lawful M-Sum.the_type L-Sum.the_laws 𝓛).typed (make-Sum r-16.view.sum.value) _ (LL.owes M-Sum.the_type L-Sum.the_laws (make-Sum r-16.view.sum.value) ((refl, (LL.owed M-Sum.the_type L-Sum.the_laws r-16.view.sum _ (LL.owed M-View.the_type L-View.the_laws r-16.view _ (LL.owed M-Frame.the_type L-Frame.the_laws r-16 _ r-16-good).1.1.1.1.1.1.1.0).0).0.1), tt))).0) $
         assigns ! (agg ! (and_then ! (load ! (from ! (stop !)) (look ! 41 refl)) (no_more !))) (from ! (stop !)) (init ! 5 refl ((LL.lawful M-Min.the_type L-Min.the_laws 𝓛).typed (make-Min r-18.view.min.value) _ (LL.owes M-Min.the_type L-Min.the_laws (make-Min r-18.view.min.value) ((refl, (LL.owed M-Min.the_type L-Min.the_laws r-18.view.min _ (LL.owed M-View.the_type L-View.the_laws r-18.view _ (LL.owed M-Frame.the_type L-Frame.the_laws r-18 _ r-18-good).1.1.1.1.1.1.1.0).1.0).0.1), tt))).0) $
         assigns ! (agg ! (and_then ! (load ! (from ! (stop !)) (look ! 39 refl)) (and_then ! (load ! (from ! (stop !)) (look ! 37 refl)) (no_more !)))) (from ! (stop !)) (init ! 3 refl ((LL.lawful M-Affine.the_type L-Affine.the_laws 𝓛).typed (make-Affine r-20.view.affine.multiplier r-22.view.affine.addend) _ (LL.owes M-Affine.the_type L-Affine.the_laws (make-Affine r-20.view.affine.multiplier r-22.view.affine.addend) ((refl, (LL.owed M-Affine.the_type L-Affine.the_laws r-20.view.affine _ (LL.owed M-View.the_type L-View.the_laws r-20.view _ (LL.owed M-Frame.the_type L-Frame.the_laws r-20 _ r-20-good).1.1.1.1.1.1.1.0).1.1.0).0.1), ((refl, (LL.owed M-Affine.the_type L-Affine.the_laws r-22.view.affine _ (LL.owed M-View.the_type L-View.the_laws r-22.view _ (LL.owed M-Frame.the_type L-Frame.the_laws r-22 _ r-22-good).1.1.1.1.1.1.1.0).1.1.0).1.0.1), tt)))).0) $

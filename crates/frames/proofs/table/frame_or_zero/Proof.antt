@@ -44,8 +44,8 @@ use denote.Triple.Statement.{Triple}
 use denote.Triple.Table.{entered, cited}
 use denote.Triple.Walked.{says, needs, Stays, stay_slice, stay_none, stay_none_slice, walk_of, Walks, ends_at, walked, Goes-slice, Goes-none, Goes-none_slice, walk_Meets}
 use borrow.Author.Rules.{scaled_Fits}
-use Rattle.frames.proofs.Lent.{at-list, Mine, Yours, ty_at, exit-unless, exit-if, leave-if, fork, skipped, regroup, matched, matched-last, const, is_true, is_false, not-not, differ, widen, less-fits, after, turn-of, take_out, put_in, put_back, look-out, look-back, free_all}
-use Rattle.frames.specs.Frames.{frameAt}
+use Rattle.frames.proofs.Lent.{at_list, Mine, Yours, ty_at, exit_unless, exit_if, leave_if, fork, skipped, regroup, matched, matched_last, const, is_true, is_false, not_not, differ, widen, less_fits, after, turn_of_lem, take_out, put_in, put_back, look_out, look_back, free_all}
+use Rattle.frames.specs.Frames.{frame_at}
 use Rattle.frames.proofs.Called.is_place as S-is-place
 use Rattle.frames.proofs.records.is_place.Symbol as D-is-place
 use Rattle.frames.proofs.records.is_place.Symbol.{name as #is-place}
@@ -84,7 +84,7 @@ module _ {M : Type 1} {𝓤 : Ura M} (𝓛 : Logic 𝓤) (mem : Memory → SProp
   n-frames = length frames
 
   abbrev args' : Bor (List Frame) × (ℕ × Unit {0})
-  args' = (at-list b-frames o-frames γ-frames frames, (p, tt))
+  args' = (at_list b-frames o-frames γ-frames frames, (p, tt))
 
   abbrev vals' : Vals f'.signature (κ-frames, tt)
   vals' = (slice_val (b-frames, o-frames) (length frames) ∷ [], (vint w32 p ∷ [], tt))
@@ -95,7 +95,7 @@ module _ {M : Type 1} {𝓤 : Ura M} (𝓛 : Logic 𝓤) (mem : Memory → SProp
   abbrev Post : Val → SProp 𝓤
   Post = (walk_of 𝓛 f'.ended stayed (f'.clauses 𝓛 mem run)).post bound'
 
-  exits' : (res' : Frame) → Is R-Frame res' (val-Frame res' ∷ []) → res' ≡ frameAt frames p → ent 𝓤 (⋆ 𝓛 (‵ (Yours R-Frame κ-frames q-frames γ-frames b-frames o-frames n-frames frames) ∷ [])) (Post (val-Frame res'))
+  exits' : (res' : Frame) → Is R-Frame res' (val-Frame res' ∷ []) → res' ≡ frame_at frames p → ent 𝓤 (⋆ 𝓛 (‵ (Yours R-Frame κ-frames q-frames γ-frames b-frames o-frames n-frames frames) ∷ [])) (Post (val-Frame res'))
   exits' res' good' e' =
       qed 𝓛 (‵ (Yours R-Frame κ-frames q-frames γ-frames b-frames o-frames n-frames frames) ∷ []) ∵
       suffices ! _ (ends_at 𝓛 f'.ended stayed (f'.clauses 𝓛 mem run) bound' (val-Frame res') res' (tt, (tt, tt)) (tt, (tt, tt))) $ says ! e' $
@@ -119,7 +119,7 @@ module _ {M : Type 1} {𝓤 : Ura M} (𝓛 : Logic 𝓤) (mem : Memory → SProp
         S-is-place.step mem run ! fm known-is-place p (length frames) p-fits room-frames.0
         (and_then ! (load ! (from ! (stop !)) (look ! 6 refl)) (and_then ! (load ! (from ! (stop !)) (look ! 2 refl)) (no_more !))) (λ r-1 r-1-is.
         land ! (from ! (stop !)) (init ! 3 refl (tt, tt)) $
-        leave-if ! (load ! (from ! (stop !)) (look ! 3 refl))
+        leave_if ! (load ! (from ! (stop !)) (look ! 3 refl))
         (λ test-2.
         -- _0 = frames::table::frame_at(_1, _2)
         S-frame-at.step-g mem run ! fm known-frame-at b-frames o-frames n-frames frames p p-fits (F.needs-3 frames p room-frames.0 p-fits r-1 r-1-is (is_true r-1 test-2))
@@ -160,4 +160,4 @@ frame-or-zero-spec 𝓤 𝓛 𝓜 𝓡 =
     (meets 𝓛 𝓜.mem 𝓡.run (tables_of 𝓤 𝓛.H 𝓜 (tables 𝓤 𝓛.H 𝓜 𝓡 code.env))
     (cited 𝓤 𝓛.H (S-is-place.Asked 𝓛 𝓜.mem 𝓡.run) 𝓜 𝓡 code.env #is-place D-is-place.routine code.calls-frames::records::is-place (T-is-place.met 𝓤 𝓛 𝓜 𝓡))
     (cited 𝓤 𝓛.H (S-frame-at.Asked 𝓛 𝓜.mem 𝓡.run) 𝓜 𝓡 code.env #frame-at D-frame-at.routine code.calls-frames::table::frame-at (T-frame-at.met 𝓤 𝓛 𝓜 𝓡))
-    (cited 𝓤 𝓛.H (S-free-place.Asked 𝓛 𝓜.mem 𝓡.run) 𝓜 𝓡 code.env #free-place D-free-place.routine code.calls-frames::records::free-place (T-free-place.met 𝓤 𝓛 𝓜 𝓡)))
+    (cited 𝓤 𝓛.H (S-free-place.Asked 𝓛 𝓜.mem 𝓡.run) 𝓜 𝓡 code.env #free-place D-free-place.routine code.calls-frames::records::free_place_lem (T-free-place.met 𝓤 𝓛 𝓜 𝓡)))

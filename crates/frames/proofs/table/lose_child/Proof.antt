@@ -44,8 +44,8 @@ use denote.Triple.Statement.{Triple}
 use denote.Triple.Table.{entered, cited}
 use denote.Triple.Walked.{says, needs, Stays, stay_slice, stay_none, stay_none_slice, walk_of, Walks, ends_at, walked, Goes-slice, Goes-none, Goes-none_slice, walk_Meets}
 use borrow.Author.Rules.{scaled_Fits}
-use Rattle.frames.proofs.Lent.{at-list, Mine, Yours, ty_at, exit-unless, exit-if, leave-if, fork, skipped, regroup, matched, matched-last, const, is_true, is_false, not-not, differ, widen, less-fits, after, turn-of, take_out, put_in, put_back, look-out, look-back, free_all}
-use Rattle.frames.specs.Frames.{frameAt, setFrame, withoutChild}
+use Rattle.frames.proofs.Lent.{at_list, Mine, Yours, ty_at, exit_unless, exit_if, leave_if, fork, skipped, regroup, matched, matched_last, const, is_true, is_false, not_not, differ, widen, less_fits, after, turn_of_lem, take_out, put_in, put_back, look_out, look_back, free_all}
+use Rattle.frames.specs.Frames.{frame_at, set_frame, without_child}
 use Rattle.frames.proofs.Called.sub as S-sub
 use Rattle.words.proofs.sub.Symbol as D-sub
 use Rattle.words.proofs.sub.Symbol.{name as #sub}
@@ -88,7 +88,7 @@ module _ {M : Type 1} {𝓤 : Ura M} (𝓛 : Logic 𝓤) (mem : Memory → SProp
   n-frames = length frames
 
   abbrev args' : MutBor (List Frame) × (ℕ × Unit {0})
-  args' = (at-list b-frames o-frames γ-frames frames, (p, tt))
+  args' = (at_list b-frames o-frames γ-frames frames, (p, tt))
 
   abbrev vals' : Vals f'.signature (κ-frames, tt)
   vals' = (slice_val (b-frames, o-frames) (length frames) ∷ [], (vint w32 p ∷ [], tt))
@@ -99,7 +99,7 @@ module _ {M : Type 1} {𝓤 : Ura M} (𝓛 : Logic 𝓤) (mem : Memory → SProp
   abbrev Post : Val → SProp 𝓤
   Post = (walk_of 𝓛 f'.ended stayed (f'.clauses 𝓛 mem run)).post bound'
 
-  exits' : (zs-frames : List Frame) → zs-frames ≡ setFrame frames p (withoutChild (frameAt frames p)) → length zs-frames ≡ length frames → ent 𝓤 (⋆ 𝓛 (‵ (Mine R-Frame κ-frames q-frames γ-frames b-frames o-frames n-frames zs-frames) ∷ [])) (Post (vunit))
+  exits' : (zs-frames : List Frame) → zs-frames ≡ set_frame frames p (without_child (frame_at frames p)) → length zs-frames ≡ length frames → ent 𝓤 (⋆ 𝓛 (‵ (Mine R-Frame κ-frames q-frames γ-frames b-frames o-frames n-frames zs-frames) ∷ [])) (Post (vunit))
   exits' zs-frames e' same-frames =
       qed 𝓛 (‵ (Mine R-Frame κ-frames q-frames γ-frames b-frames o-frames n-frames zs-frames) ∷ []) ∵
       suffices ! _ (ends_at 𝓛 f'.ended stayed (f'.clauses 𝓛 mem run) bound' (vunit) tt (zs-frames, (tt, tt)) (same-frames, (tt, tt))) $ says ! e' $

@@ -2,8 +2,8 @@
 use mathlib.Core.Path.{◌≡◌, sym, ap, ◌∙◌}
 use native.Mathlib.Omega.{arith}
 use borrow.Author.Rules.{rules}
-use Rattle.image.specs.Image.{blocksFor, blocksCalled}
-use Rattle.image.proofs.Ends.{too_short, form-before, form-after, other_length, is-wrong, is_right}
+use Rattle.image.specs.Image.{blocks_for, blocks_called}
+use Rattle.image.proofs.Ends.{too_short, form_before, form_after, other_length_lem, is_wrong, is_right_lem}
 use Rattle.image.proofs.accept.check_image.Statement.{statement}
 use Rattle.image.proofs.accept.check_image.Tie as tie
 use Rattle.soundness.specs.Layout.{two_words}
@@ -14,8 +14,8 @@ first_of b = b.before.before.before.before
 abbrev start_of : tie.After-first-in → tie.Start
 start_of f = f.before.before.before
 
-called : (b : tie.After-blocks-for) → b.blocks-for.result ≡ blocksCalled two_words (start_of (first_of b)).args.image.now
-called b = b.blocks-for.ensures ∙ ap blocksFor b.before.words-called.ensures.0
+called : (b : tie.After-blocks-for) → b.blocks-for.result ≡ blocks_called two_words (start_of (first_of b)).args.image.now
+called b = b.blocks-for.ensures ∙ ap blocks_for b.before.words-called.ensures.0
 
 returns : tie.Need-returns
 returns c = too_short c.before.before.args.image.now c.if1.true
@@ -23,31 +23,31 @@ returns c = too_short c.before.before.args.image.now c.if1.true
 returns-2 : tie.Need-returns-2
 returns-2 c =
     let f = c.before in
-    form-before (start_of f).args.image.now f.first-in.result f.first-in.ensures (omega arith)
+    form_before (start_of f).args.image.now f.first_in_lem.result f.first_in_lem.ensures (omega arith)
 
 returns-3 : tie.Need-returns-3
 returns-3 c =
     let f = c.before.before in
-    form-after (start_of f).args.image.now f.first-in.result f.first-in.ensures (omega arith)
+    form_after (start_of f).args.image.now f.first_in_lem.result f.first_in_lem.ensures (omega arith)
 
 returns-4 : tie.Need-returns-4
 returns-4 c =
     let b = c.before in
-    other_length (start_of (first_of b)).args.image.now b.blocks-for.result (called b) (λ e. omega arith)
+    other_length_lem (start_of (first_of b)).args.image.now b.blocks-for.result (called b) (λ e. omega arith)
 
 returns-5 : tie.Need-returns-5
 returns-5 c =
     let w = c.before in
     let b = w.before.before in
     let f = first_of b in
-    is-wrong (start_of f).args.image.now f.first-in.result b.blocks-for.result f.first-in.ensures (omega arith, omega arith) (called b) (omega arith) (sym w.wrong-check.ensures ∙ c.if5.true)
+    is_wrong (start_of f).args.image.now f.first_in_lem.result b.blocks-for.result f.first_in_lem.ensures (omega arith, omega arith) (called b) (omega arith) (sym w.wrong-check.ensures ∙ c.if5.true)
 
 returns-6 : tie.Need-returns-6
 returns-6 c =
     let w = c.before in
     let b = w.before.before in
     let f = first_of b in
-    is_right (start_of f).args.image.now f.first-in.result b.blocks-for.result f.first-in.ensures (omega arith, omega arith) (called b) (omega arith) (sym w.wrong-check.ensures ∙ c.if5.false)
+    is_right_lem (start_of f).args.image.now f.first_in_lem.result b.blocks-for.result f.first_in_lem.ensures (omega arith, omega arith) (called b) (omega arith) (sym w.wrong-check.ensures ∙ c.if5.false)
 
 wrong-check-requires : tie.Need-wrong-check-requires
 wrong-check-requires c κs =

@@ -3,7 +3,7 @@ use mathlib.Core.Path.{sym, ◌∙◌}
 use native.Mathlib.Omega.{arith}
 use borrow.Author.Rules.{rules}
 use borrow.Author.Tests.{not-true, not-false}
-use Rattle.image.proofs.Ends.{checks-wrong, rest-tested}
+use Rattle.image.proofs.Ends.{checks_wrong, rest_tested}
 use Rattle.image.proofs.accept.wrong_check.Statement.{statement}
 use Rattle.image.proofs.accept.wrong_check.Tie as tie
 
@@ -11,14 +11,14 @@ returns : tie.Need-returns
 returns c =
     let k = c.before in
     let start = k.before.before in
-    checks-wrong start.args.image.now start.args.blocks start.requires.1 (sym k.checks-right.ensures ∙ not-true k.checks-right.result c.if1.true)
+    checks_wrong start.args.image.now start.args.blocks start.requires.1 (sym k.checks-right.ensures ∙ not-true k.checks-right.result c.if1.true)
 
 returns-2 : tie.Need-returns-2
 returns-2 c =
     let i = c.before in
     let k = i.before in
     let start = k.before.before in
-    rest-tested start.args.image.now start.args.blocks start.args.words c.zeros.result start.requires.1 start.requires.0 start.requires.2
+    rest_tested start.args.image.now start.args.blocks start.args.words c.zeros.result start.requires.1 start.requires.0 start.requires.2
     (sym k.checks-right.ensures ∙ not-false k.checks-right.result i.if1.false)
     c.zeros.ensures
 

@@ -7,7 +7,7 @@ use lib.Seq.{sets}
 use borrow.Author.Rules.{rules}
 use Rattle.words.specs.Basics.{plus}
 use Rattle.image.specs.Image.{bytes_of, check}
-use Rattle.image.proofs.Loops.{at-end, run-turn, run-start, run-sum}
+use Rattle.image.proofs.Loops.{at_end, run_turn, run-start, run-sum}
 use Rattle.image.proofs.bytes.put_run.Statement.{statement}
 use Rattle.image.proofs.bytes.put_run.Tie as tie
 
@@ -32,7 +32,7 @@ loop-again c =
     let a = (start_of l).args in
     let in-from : a.j + l.loop.k < length a.from.now = omega arith in
     let word : get_or a.from.now (a.j + l.loop.k) 0 < 4294967296 = (l.before.shared-slice-known.given (a.j + l.loop.k)).fits in (
-      p.put_word.ensures ∙ run-turn a.bytes.now l.loop.bytes a.from.now a.at a.j l.loop.k in-from l.loop.invariant.0,
+      p.put_word.ensures ∙ run_turn a.bytes.now l.loop.bytes a.from.now a.at a.j l.loop.k in-from l.loop.invariant.0,
       run-sum a.from.now a.before l.loop.sum c.add.result a.j l.loop.k in-from word c.add.ensures l.loop.invariant.1,
       p.put_word.auto.0 ∙ l.loop.invariant.2,
       omega arith,
@@ -42,8 +42,8 @@ returns : tie.Need-returns invariant-loop decreases-loop
 returns c =
     let l = c.before in
     let a = (start_of l).args in (
-      at-end (λ m. sets a.bytes.now a.at (bytes_of (take m (drop a.j a.from.now)))) l.loop.invariant.3 c.loop-test.false l.loop.invariant.0,
-      at-end (λ m. plus a.before (check (bytes_of (take m (drop a.j a.from.now))))) l.loop.invariant.3 c.loop-test.false l.loop.invariant.1,
+      at_end (λ m. sets a.bytes.now a.at (bytes_of (take m (drop a.j a.from.now)))) l.loop.invariant.3 c.loop-test.false l.loop.invariant.0,
+      at_end (λ m. plus a.before (check (bytes_of (take m (drop a.j a.from.now))))) l.loop.invariant.3 c.loop-test.false l.loop.invariant.1,
     )
 
 pub put-run-spec : {M : Type 1} → statement M

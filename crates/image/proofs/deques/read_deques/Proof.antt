@@ -4,18 +4,18 @@ use Prim.Native.Nat.{ℕ, ◌+◌, ◌-◌, ◌*◌, ◌≤◌}
 use native.Mathlib.Omega.{arith}
 use lib.ListN.{length, replicate}
 use borrow.Author.Rules.{rules}
-use Rattle.frames.specs.Widths.{maxWorkers, dequeStride, dequeWords}
-use Rattle.soundness.specs.Numbers.{numberCount}
-use Rattle.image.proofs.Workers.{next-deque, readSoFar, none_read, deque-fits, deque-read, all-deques}
+use Rattle.frames.specs.Widths.{max_workers, deque_stride, deque_words}
+use Rattle.soundness.specs.Numbers.{number_count}
+use Rattle.image.proofs.Workers.{next-deque, read_so_far, none_read, deque-fits, deque_read, all-deques}
 use Rattle.image.proofs.deques.read_deques.Statement.{statement}
 use Rattle.image.proofs.deques.read_deques.Tie as tie
 
 abbrev invariant-loop : tie.invariant-loop
 invariant-loop image deques₀ k words i₀ w₀ deques i w =
-    (deques ≡ readSoFar image k w) × (length deques ≡ dequeWords) × (i ≡ numberCount + w * (1 + k)) × (i ≤ numberCount + dequeStride * w) × (w ≤ maxWorkers)
+    (deques ≡ read_so_far image k w) × (length deques ≡ deque_words) × (i ≡ number_count + w * (1 + k)) × (i ≤ number_count + deque_stride * w) × (w ≤ max_workers)
 
 abbrev decreases-loop : tie.decreases-loop
-decreases-loop image deques₀ k words i₀ w₀ deques i w = maxWorkers - w
+decreases-loop image deques₀ k words i₀ w₀ deques i w = max_workers - w
 
 abbrev clear_of : tie.At-loop invariant-loop decreases-loop → tie.After-clear-all invariant-loop decreases-loop
 clear_of l = l.before.before.before
@@ -49,8 +49,8 @@ loop-again c =
     let l = t.before in
     let s = start_of (clear_of l) in
     let a = s.args in (
-      deque-read a.image.now s.pre.0 a.k s.pre.2 s.pre.3 l.loop.w l.loop.i t.loop-test.true l.loop.invariant.2 l.loop.deques _ l.loop.invariant.0 r.read-words.ensures,
-      r.read-words.auto.1.1.0 ∙ l.loop.invariant.1,
+      deque_read a.image.now s.pre.0 a.k s.pre.2 s.pre.3 l.loop.w l.loop.i t.loop-test.true l.loop.invariant.2 l.loop.deques _ l.loop.invariant.0 r.read_words_lem.ensures,
+      r.read_words_lem.auto.1.1.0 ∙ l.loop.invariant.1,
       next-deque l.loop.w a.k l.loop.i l.loop.invariant.2,
       omega arith,
       omega arith,

@@ -3,13 +3,13 @@ use mathlib.Core.Path.{ap, ◌∙◌}
 use Prim.Native.Nat.{◌*◌}
 use native.Mathlib.Omega.{arith}
 use borrow.Author.Rules.{rules}
-use Rattle.image.specs.Widths.{nodeWords, stateWords}
-use Rattle.image.specs.Theory.Promises.{whole-block}
-use Rattle.image.proofs.Ends.{fits, nodes-read}
+use Rattle.image.specs.Widths.{node_words, state_words}
+use Rattle.image.specs.Theory.Promises.{whole_block}
+use Rattle.image.proofs.Ends.{fits, nodes_read}
 use Rattle.image.proofs.read.read_beside.Statement.{statement}
 use Rattle.image.proofs.read.read_beside.Tie as tie
 use Rattle.soundness.specs.Layout.{two_words}
-use Rattle.image.specs.Theory.Version.{two-version}
+use Rattle.image.specs.Theory.Version.{two_version}
 
 abbrev start_of : tie.After-places-in → tie.Start
 start_of p = p.before.before.before.before.before
@@ -26,10 +26,10 @@ deques-of s = s.before.before.before
 places-in-requires : tie.Need-places-in-requires
 places-in-requires c κs =
     let start = c.before.before.before.before in
-    whole-block two_words two-version start.args.image.now start.requires.0
+    whole_block two_words two_version start.args.image.now start.requires.0
 
 nodes-in-requires : tie.Need-nodes-in-requires
-nodes-in-requires c κs = let start = start_of c in whole-block two_words two-version start.args.image.now start.pre.0
+nodes-in-requires c κs = let start = start_of c in whole_block two_words two_version start.args.image.now start.pre.0
 
 read-words-requires : tie.Need-read-words-requires
 read-words-requires c κs =
@@ -38,7 +38,7 @@ read-words-requires c κs =
     let p = n.before in
     let start = start_of p in (
       omega (arith, start.pre.4, n.nodes-in.ensures),
-      fits start.args.image.now start.pre.0 s.state-words.result (nodeWords * n.nodes-in.result) (omega (arith, n.nodes-in.ensures, p.places-in.ensures, s.state-words.ensures.0)),
+      fits start.args.image.now start.pre.0 s.state_words_lem.result (node_words * n.nodes-in.result) (omega (arith, n.nodes-in.ensures, p.places_in_lem.ensures, s.state_words_lem.ensures.0)),
     )
 
 returns : tie.Need-returns
@@ -52,8 +52,8 @@ returns c =
     let start = start_of p in (
       k.read-numbers.ensures,
       d.read-deques.ensures,
-      nodes-read start.args.image.now start.pre.0 start.args.pool.now _ s.state-words.result n.nodes-in.result (s.state-words.ensures.0 ∙ ap stateWords p.places-in.ensures) n.nodes-in.ensures
-          start.pre.4 w.read-words.ensures,
+      nodes_read start.args.image.now start.pre.0 start.args.pool.now _ s.state_words_lem.result n.nodes-in.result (s.state_words_lem.ensures.0 ∙ ap state_words p.places_in_lem.ensures) n.nodes-in.ensures
+          start.pre.4 w.read_words_lem.ensures,
     )
 
 pub read-beside-spec : {M : Type 1} → statement M

@@ -44,11 +44,11 @@ use denote.Triple.Statement.{Triple}
 use denote.Triple.Table.{entered, cited}
 use denote.Triple.Walked.{says, needs, Stays, stay_slice, stay_none, stay_none_slice, walk_of, Walks, ends_at, walked, Goes-slice, Goes-none, Goes-none_slice, walk_Meets}
 use borrow.Author.Rules.{scaled_Fits}
-use Rattle.frames.proofs.Lent.{at-list, Mine, Yours, ty_at, exit-unless, exit-if, leave-if, fork, skipped, regroup, matched, matched-last, const, is_true, is_false, not-not, differ, widen, less-fits, after, turn-of, take_out, put_in, put_back, look-out, look-back, free_all}
-use Rattle.soundness.specs.Numbers.{numberCount}
+use Rattle.frames.proofs.Lent.{at_list, Mine, Yours, ty_at, exit_unless, exit_if, leave_if, fork, skipped, regroup, matched, matched_last, const, is_true, is_false, not_not, differ, widen, less_fits, after, turn_of_lem, take_out, put_in, put_back, look_out, look_back, free_all}
+use Rattle.soundness.specs.Numbers.{number_count}
 use Rattle.image.specs.declared.ImageCheck.TheVariants.{Good}
-use Rattle.image.specs.Widths.{nodeWords}
-use Rattle.image.specs.Image.{nodesIn, imageCheck, numberWordsIn, Lengths, IsRead}
+use Rattle.image.specs.Widths.{node_words}
+use Rattle.image.specs.Image.{nodes_in, image_check, number_words_in, Lengths, IsRead}
 use Rattle.image.proofs.Called.read_beside as S-read-beside
 use Rattle.image.proofs.read.read_beside.Symbol as D-read-beside
 use Rattle.image.proofs.read.read_beside.Symbol.{name as #read-beside}
@@ -96,7 +96,7 @@ module _ {M : Type 1} {𝓤 : Ura M} (𝓛 : Logic 𝓤) (mem : Memory → SProp
   n-pool = length pool
 
   abbrev args' : Bor (List ℕ) × (Bor (List ℕ) × (Bor (List ℕ) × (Bor (List Frame) × (Bor (List ℕ) × Unit {0}))))
-  args' = (at-list b-image o-image γ-image image, (at-list b-numbers o-numbers γ-numbers numbers, (at-list b-deques o-deques γ-deques deques, (at-list b-frames o-frames γ-frames frames, (at-list b-pool o-pool γ-pool pool, tt)))))
+  args' = (at_list b-image o-image γ-image image, (at_list b-numbers o-numbers γ-numbers numbers, (at_list b-deques o-deques γ-deques deques, (at_list b-frames o-frames γ-frames frames, (at_list b-pool o-pool γ-pool pool, tt)))))
 
   abbrev vals' : Vals f'.signature (κ-image, (κ-numbers, (κ-deques, (κ-frames, (κ-pool, tt)))))
   vals' = (slice_val (b-image, o-image) (length image) ∷ [], (slice_val (b-numbers, o-numbers) (length numbers) ∷ [], (slice_val (b-deques, o-deques) (length deques) ∷ [], (slice_val (b-frames, o-frames) (length frames) ∷ [], (slice_val (b-pool, o-pool) (length pool) ∷ [], tt)))))
@@ -119,7 +119,7 @@ module _ {M : Type 1} {𝓤 : Ura M} (𝓛 : Logic 𝓤) (mem : Memory → SProp
     abbrev fm : FmC 𝓤 H 𝓛.laws 𝓣.C
     fm = fm_of 𝓤 H 𝓛.laws 𝓣
 
-    walk : (imageCheck two_words image ≡ Good) × (length numbers ≡ numberCount) × Lengths (numberWordsIn two_words image) deques frames × (nodeWords * nodesIn image ≤ length pool) → ent 𝓤 (on_entry 𝓛 f'.signature (κ-image, (κ-numbers, (κ-deques, (κ-frames, (κ-pool, tt))))) (q-image, (q-numbers, (q-deques, (q-frames, (q-pool, tt))))) args' vals') (WpFn 𝓤 H 𝓣.C 𝓣.Λ code.function (slice_val (b-image, o-image) (length image) ∷ slice_val (b-numbers, o-numbers) (length numbers) ∷ slice_val (b-deques, o-deques) (length deques) ∷ slice_val (b-frames, o-frames) (length frames) ∷ slice_val (b-pool, o-pool) (length pool) ∷ []) Post)
+    walk : (image_check two_words image ≡ Good) × (length numbers ≡ number_count) × Lengths (number_words_in two_words image) deques frames × (node_words * nodes_in image ≤ length pool) → ent 𝓤 (on_entry 𝓛 f'.signature (κ-image, (κ-numbers, (κ-deques, (κ-frames, (κ-pool, tt))))) (q-image, (q-numbers, (q-deques, (q-frames, (q-pool, tt))))) args' vals') (WpFn 𝓤 H 𝓣.C 𝓣.Λ code.function (slice_val (b-image, o-image) (length image) ∷ slice_val (b-numbers, o-numbers) (length numbers) ∷ slice_val (b-deques, o-deques) (length deques) ∷ slice_val (b-frames, o-frames) (length frames) ∷ slice_val (b-pool, o-pool) (length pool) ∷ []) Post)
     walk ok' =
         qed 𝓛 ((‵ (flft κ-image q-image) ⊛ ‵ (flft κ-numbers q-numbers) ⊛ ‵ (flft κ-deques q-deques) ⊛ ‵ (flft κ-frames q-frames) ⊛ ‵ (flft κ-pool q-pool) ⊛ ‵ ftrue) ∷ ‵ (owns (ShrSlice (named 0) κ-image u8 ∷ MutSlice (named 1) κ-numbers u32 ∷ MutSlice (named 2) κ-deques u32 ∷ MutSlice (named 3) κ-frames R-Frame ∷ MutSlice (named 4) κ-pool u32 ∷ []) args' vals') ∷ []) ∵ enter ! 𝓣.C 𝓣.Λ code.function (slice_val (b-image, o-image) (length image) ∷ slice_val (b-numbers, o-numbers) (length numbers) ∷ slice_val (b-deques, o-deques) (length deques) ∷ slice_val (b-frames, o-frames) (length frames) ∷ slice_val (b-pool, o-pool) (length pool) ∷ []) _ $
         alloc1 ! (λ l₀. alloc1 ! (λ l₁. alloc1 ! (λ l₂. alloc1 ! (λ l₃. alloc1 ! (λ l₄. alloc1 ! (λ l₅. alloc1 ! (λ l₆. alloc1 ! (λ l₇. alloc1 ! (λ l₈. alloc1 ! (λ l₉. alloc1 ! (λ l₁₀. alloc1 ! (λ l₁₁. alloc1 ! (λ l₁₂. alloc1 ! (λ l₁₃. alloc1 ! (λ l₁₄. alloc0 ! $ params1 ! $
@@ -157,7 +157,7 @@ module _ {M : Type 1} {𝓤 : Ura M} (𝓛 : Logic 𝓤) (mem : Memory → SProp
   walks known-read-beside known-read-table = walked 𝓛 f'.ended stayed (f'.clauses 𝓛 mem run) (WpFn 𝓤 H 𝓣.C 𝓣.Λ code.function)
       (λ κs. (shr_slice_vals, (shr_slice_vals, (shr_slice_vals, (shr_slice_vals, (shr_slice_vals, tt))))))
       (λ κs. (shr_slice_Tells (named 0) κs.0 u8, (mut_slice_Tells (named 1) κs.1.0 u32, (mut_slice_Tells (named 2) κs.1.1.0 u32, (mut_slice_Tells (named 3) κs.1.1.1.0 R-Frame, (mut_slice_Tells (named 4) κs.1.1.1.1.0 u32, tt))))))
-      (λ κs qs bounds a g are. needs 𝓤 ((imageCheck two_words a.0.now ≡ Good) × (length a.1.0.now ≡ numberCount) × Lengths (numberWordsIn two_words a.0.now) a.1.1.0.now a.1.1.1.0.now × (nodeWords * nodesIn a.0.now ≤ length a.1.1.1.1.0.now)) _
+      (λ κs qs bounds a g are. needs 𝓤 ((image_check two_words a.0.now ≡ Good) × (length a.1.0.now ≡ number_count) × Lengths (number_words_in two_words a.0.now) a.1.1.0.now a.1.1.1.0.now × (node_words * nodes_in a.0.now ≤ length a.1.1.1.1.0.now)) _
       (walk 𝓛 mem run κs.0 qs.0 a.0.ref_ptr.0 a.0.ref_ptr.1 a.0.ghost_name a.0.now κs.1.0 qs.1.0 a.1.0.ref_ptr.0 a.1.0.ref_ptr.1 a.1.0.ghost_name a.1.0.now κs.1.1.0 qs.1.1.0 a.1.1.0.ref_ptr.0 a.1.1.0.ref_ptr.1 a.1.1.0.ghost_name a.1.1.0.now κs.1.1.1.0 qs.1.1.1.0 a.1.1.1.0.ref_ptr.0 a.1.1.1.0.ref_ptr.1 a.1.1.1.0.ghost_name a.1.1.1.0.now κs.1.1.1.1.0 qs.1.1.1.1.0 a.1.1.1.1.0.ref_ptr.0 a.1.1.1.1.0.ref_ptr.1 a.1.1.1.1.0.ghost_name a.1.1.1.1.0.now are.0.0.1 are.1.0.0.1 are.1.1.0.0.1 are.1.1.1.0.0.1 are.1.1.1.1.0.0.1 𝓣 known-read-beside known-read-table))
 
   meets : Triple 𝓤 (𝓣.C #read-beside) (S-read-beside.Asked 𝓛 mem run) → Triple 𝓤 (𝓣.C #read-table) (S-read-table.Asked 𝓛 mem run) → Meets 𝓛 f'.signature (WpFn 𝓤 H 𝓣.C 𝓣.Λ code.function) (f'.spec 𝓛 mem run)

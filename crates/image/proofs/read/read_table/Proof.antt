@@ -45,32 +45,32 @@ use denote.Triple.Statement.{Triple}
 use denote.Triple.Table.{entered, cited}
 use denote.Triple.Walked.{says, needs, Stays, stay_slice, stay_none, stay_none_slice, walk_of, Walks, ends_at, walked, Goes-slice, Goes-none, Goes-none_slice, walk_Meets}
 use borrow.Author.Rules.{scaled_Fits}
-use Rattle.frames.proofs.Lent.{at-list, Mine, Yours, ty_at, exit-unless, exit-if, leave-if, fork, skipped, regroup, matched, matched-last, const, is_true, is_false, not-not, differ, widen, less-fits, after, turn-of, take_out, put_in, put_back, look-out, look-back, free_all}
+use Rattle.frames.proofs.Lent.{at_list, Mine, Yours, ty_at, exit_unless, exit_if, leave_if, fork, skipped, regroup, matched, matched_last, const, is_true, is_false, not_not, differ, widen, less_fits, after, turn_of_lem, take_out, put_in, put_back, look_out, look_back, free_all}
 use Rattle.image.specs.declared.ImageCheck.TheVariants.{Good}
-use Rattle.image.specs.Image.{placesIn, imageCheck, framesIn}
+use Rattle.image.specs.Image.{places_in, image_check, frames_in}
 use Rattle.image.proofs.Called.places_in as S-places-in
 use Rattle.image.proofs.read.places_in.Symbol as D-places-in
 use Rattle.image.proofs.read.places_in.Symbol.{name as #places-in}
 use Rattle.image.proofs.read.places_in.Met as T-places-in
-use Rattle.image.specs.Widths.{blockBytes}
+use Rattle.image.specs.Widths.{block_bytes}
 use Rattle.image.proofs.Called.deques_words as S-deques-words
 use Rattle.image.proofs.widths.deques_words.Symbol as D-deques-words
 use Rattle.image.proofs.widths.deques_words.Symbol.{name as #deques-words}
 use Rattle.image.proofs.widths.deques_words.Met as T-deques-words
-use Rattle.image.specs.Widths.{dequesWords}
+use Rattle.image.specs.Widths.{deques_words}
 use Rattle.image.proofs.Called.read_record as S-read-record
 use Rattle.image.proofs.records.read_record.Symbol as D-read-record
 use Rattle.image.proofs.records.read_record.Symbol.{name as #read-record}
 use Rattle.image.proofs.records.read_record.Met as T-read-record
-use Rattle.frames.specs.Widths.{recordWords}
-use Rattle.frames.specs.Frames.{recordIn}
-use Rattle.image.specs.Image.{blocksFor}
-use Rattle.image.specs.Inner.{readWords}
+use Rattle.frames.specs.Widths.{record_words}
+use Rattle.frames.specs.Frames.{record_in}
+use Rattle.image.specs.Image.{blocks_for}
+use Rattle.image.specs.Inner.{read_words}
 use Rattle.image.proofs.Called.put_frame as S-put-frame
 use Rattle.frames.proofs.put_frame.Symbol as D-put-frame
 use Rattle.frames.proofs.put_frame.Symbol.{name as #put-frame}
 use Rattle.frames.proofs.put_frame.Met as T-put-frame
-use Rattle.frames.specs.Frames.{setFrame}
+use Rattle.frames.specs.Frames.{set_frame}
 use Rattle.image.specs.contracts.read.read_table.Key.{name as #own}
 use Rattle.image.specs.contracts.read.read_table as f'
 use Rattle.image.proofs.read.read_table.Statement as stated
@@ -95,13 +95,13 @@ ty' i = ty_at (code.function).locals i
 
 -- the loop's body, and what runs after the loop
 abbrev turned' : Code
-turned' = turn-of (after 4 (code.function).body)
+turned' = turn_of_lem (after 4 (code.function).body)
 
 abbrev rest' : Code
 rest' = after 5 (code.function).body
 
 -- where a turn of the loop begins
-record State' (image : List ℕ) (frames : List Frame) (image-fits : length image < 2 ^ 64) (frames-fits : length frames < 2 ^ 64) (ok : (imageCheck two_words image ≡ Good) × (length frames ≡ placesIn image)) (places : ℕ) (places-fits : places < 2 ^ 32) (places_is : places ≡ placesIn image) (r-2 : ℕ) (r-2-fits : r-2 < 2 ^ 64) (r-2-is : (r-2 ≡ dequesWords places) × (r-2 < 2 ^ 36)) : Type 0 where
+record State' (image : List ℕ) (frames : List Frame) (image-fits : length image < 2 ^ 64) (frames-fits : length frames < 2 ^ 64) (ok : (image_check two_words image ≡ Good) × (length frames ≡ places_in image)) (places : ℕ) (places-fits : places < 2 ^ 32) (places_is : places ≡ places_in image) (r-2 : ℕ) (r-2-fits : r-2 < 2 ^ 64) (r-2-is : (r-2 ≡ deques_words places) × (r-2 < 2 ^ 36)) : Type 0 where
   v-p : ℕ
   g-p : v-p < 2 ^ 32
   l-frames : List Frame
@@ -119,7 +119,7 @@ module _ {M : Type 1} {𝓤 : Ura M} (𝓛 : Logic 𝓤) (mem : Memory → SProp
   n-frames = length frames
 
   abbrev args' : Bor (List ℕ) × (Bor (List Frame) × Unit {0})
-  args' = (at-list b-image o-image γ-image image, (at-list b-frames o-frames γ-frames frames, tt))
+  args' = (at_list b-image o-image γ-image image, (at_list b-frames o-frames γ-frames frames, tt))
 
   abbrev vals' : Vals f'.signature (κ-image, (κ-frames, tt))
   vals' = (slice_val (b-image, o-image) (length image) ∷ [], (slice_val (b-frames, o-frames) (length frames) ∷ [], tt))
@@ -130,7 +130,7 @@ module _ {M : Type 1} {𝓤 : Ura M} (𝓛 : Logic 𝓤) (mem : Memory → SProp
   abbrev Post : Val → SProp 𝓤
   Post = (walk_of 𝓛 f'.ended stayed (f'.clauses 𝓛 mem run)).post bound'
 
-  exits' : (zs-frames : List Frame) → zs-frames ≡ framesIn two_words image → length zs-frames ≡ length frames → ent 𝓤 (⋆ 𝓛 (‵ (Yours u8 κ-image q-image γ-image b-image o-image n-image image) ∷ ‵ (Mine R-Frame κ-frames q-frames γ-frames b-frames o-frames n-frames zs-frames) ∷ [])) (Post (vunit))
+  exits' : (zs-frames : List Frame) → zs-frames ≡ frames_in two_words image → length zs-frames ≡ length frames → ent 𝓤 (⋆ 𝓛 (‵ (Yours u8 κ-image q-image γ-image b-image o-image n-image image) ∷ ‵ (Mine R-Frame κ-frames q-frames γ-frames b-frames o-frames n-frames zs-frames) ∷ [])) (Post (vunit))
   exits' zs-frames e' same-frames =
       qed 𝓛 (‵ (Yours u8 κ-image q-image γ-image b-image o-image n-image image) ∷ ‵ (Mine R-Frame κ-frames q-frames γ-frames b-frames o-frames n-frames zs-frames) ∷ []) ∵
       suffices ! _ (ends_at 𝓛 f'.ended stayed (f'.clauses 𝓛 mem run) bound' (vunit) tt (tt, (zs-frames, tt)) (tt, (same-frames, tt))) $ says ! e' $
@@ -142,7 +142,7 @@ module _ {M : Type 1} {𝓤 : Ura M} (𝓛 : Logic 𝓤) (mem : Memory → SProp
     abbrev fm : FmC 𝓤 H 𝓛.laws 𝓣.C
     fm = fm_of 𝓤 H 𝓛.laws 𝓣
 
-    module _ (ok' : (imageCheck two_words image ≡ Good) × (length frames ≡ placesIn image)) (places : ℕ) (places-fits : places < 2 ^ 32) (places_is : places ≡ placesIn image) (r-2 : ℕ) (r-2-fits : r-2 < 2 ^ 64) (r-2-is : (r-2 ≡ dequesWords places) × (r-2 < 2 ^ 36)) (l₀ l₁ l₂ l₃ l₄ l₅ l₆ l₇ l₈ l₉ l₁₀ l₁₁ l₁₂ l₁₃ l₁₄ : ℕ) where
+    module _ (ok' : (image_check two_words image ≡ Good) × (length frames ≡ places_in image)) (places : ℕ) (places-fits : places < 2 ^ 32) (places_is : places ≡ places_in image) (r-2 : ℕ) (r-2-fits : r-2 < 2 ^ 64) (r-2-is : (r-2 ≡ deques_words places) × (r-2 < 2 ^ 36)) (l₀ l₁ l₂ l₃ l₄ l₅ l₆ l₇ l₈ l₉ l₁₀ l₁₁ l₁₂ l₁₃ l₁₄ : ℕ) where
       abbrev S' : Type 0
       S' = State' image frames room-image.0 room-frames.0 ok' places places-fits places_is r-2 r-2-fits r-2-is
 
@@ -167,7 +167,7 @@ module _ {M : Type 1} {𝓤 : Ura M} (𝓛 : Logic 𝓤) (mem : Memory → SProp
         unfolding after_turn
         turn' =
             assigns ! (bin ! (load ! (from ! (stop !)) (look ! 20 refl)) (load ! (from ! (stop !)) (look ! 24 refl)) tt) (from ! (stop !)) (init ! 14 refl (tt, tt)) $
-            exit-unless ! (load ! (from ! (stop !)) (look ! 14 refl))
+            exit_unless ! (load ! (from ! (stop !)) (look ! 14 refl))
             (λ test-5.
             exec ! 𝓣.C 𝓣.Λ En' rest' (at_ret En' Post) $
             assigns ! (of_opd ! (const ! _ tt)) (from ! (stop !)) (init ! 30 refl (tt, tt)) $
@@ -198,7 +198,7 @@ module _ {M : Type 1} {𝓤 : Ura M} (𝓛 : Logic 𝓤) (mem : Memory → SProp
       unfolding after_turn
       loop' = loops ! 𝓣 Less' less_wf Inv' (λ s'. turn' s'.v-p s'.l-frames s'.g-p s'.s-frames s'.holds) (record { v-p = 0; g-p = (lit< tt); l-frames = frames; s-frames = refl; holds = (F.begins image frames room-image.0 room-frames.0 ok' places places-fits places_is r-2 r-2-fits r-2-is) })
 
-    walk : (imageCheck two_words image ≡ Good) × (length frames ≡ placesIn image) → ent 𝓤 (on_entry 𝓛 f'.signature (κ-image, (κ-frames, tt)) (q-image, (q-frames, tt)) args' vals') (WpFn 𝓤 H 𝓣.C 𝓣.Λ code.function (slice_val (b-image, o-image) (length image) ∷ slice_val (b-frames, o-frames) (length frames) ∷ []) Post)
+    walk : (image_check two_words image ≡ Good) × (length frames ≡ places_in image) → ent 𝓤 (on_entry 𝓛 f'.signature (κ-image, (κ-frames, tt)) (q-image, (q-frames, tt)) args' vals') (WpFn 𝓤 H 𝓣.C 𝓣.Λ code.function (slice_val (b-image, o-image) (length image) ∷ slice_val (b-frames, o-frames) (length frames) ∷ []) Post)
     walk ok' =
         qed 𝓛 ((‵ (flft κ-image q-image) ⊛ ‵ (flft κ-frames q-frames) ⊛ ‵ ftrue) ∷ ‵ (owns (ShrSlice (named 0) κ-image u8 ∷ MutSlice (named 1) κ-frames R-Frame ∷ []) args' vals') ∷ []) ∵ enter ! 𝓣.C 𝓣.Λ code.function (slice_val (b-image, o-image) (length image) ∷ slice_val (b-frames, o-frames) (length frames) ∷ []) _ $
         alloc1 ! (λ l₀. alloc1 ! (λ l₁. alloc1 ! (λ l₂. alloc1 ! (λ l₃. alloc1 ! (λ l₄. alloc1 ! (λ l₅. alloc1 ! (λ l₆. alloc1 ! (λ l₇. alloc1 ! (λ l₈. alloc1 ! (λ l₉. alloc1 ! (λ l₁₀. alloc1 ! (λ l₁₁. alloc1 ! (λ l₁₂. alloc1 ! (λ l₁₃. alloc1 ! (λ l₁₄. alloc0 ! $ params1 ! $
@@ -224,7 +224,7 @@ module _ {M : Type 1} {𝓤 : Ura M} (𝓛 : Logic 𝓤) (mem : Memory → SProp
   walks known-places-in known-deques-words known-read-record known-put-frame = walked 𝓛 f'.ended stayed (f'.clauses 𝓛 mem run) (WpFn 𝓤 H 𝓣.C 𝓣.Λ code.function)
       (λ κs. (shr_slice_vals, (shr_slice_vals, tt)))
       (λ κs. (shr_slice_Tells (named 0) κs.0 u8, (mut_slice_Tells (named 1) κs.1.0 R-Frame, tt)))
-      (λ κs qs bounds a g are. needs 𝓤 ((imageCheck two_words a.0.now ≡ Good) × (length a.1.0.now ≡ placesIn a.0.now)) _
+      (λ κs qs bounds a g are. needs 𝓤 ((image_check two_words a.0.now ≡ Good) × (length a.1.0.now ≡ places_in a.0.now)) _
       (walk 𝓛 mem run κs.0 qs.0 a.0.ref_ptr.0 a.0.ref_ptr.1 a.0.ghost_name a.0.now κs.1.0 qs.1.0 a.1.0.ref_ptr.0 a.1.0.ref_ptr.1 a.1.0.ghost_name a.1.0.now are.0.0.1 are.1.0.0.1 𝓣 known-places-in known-deques-words known-read-record known-put-frame))
 
   meets : Triple 𝓤 (𝓣.C #places-in) (S-places-in.Asked 𝓛 mem run) → Triple 𝓤 (𝓣.C #deques-words) (S-deques-words.Asked 𝓛 mem run) → Triple 𝓤 (𝓣.C #read-record) (S-read-record.Asked 𝓛 mem run) → Triple 𝓤 (𝓣.C #put-frame) (S-put-frame.Asked 𝓛 mem run) → Meets 𝓛 f'.signature (WpFn 𝓤 H 𝓣.C 𝓣.Λ code.function) (f'.spec 𝓛 mem run)
@@ -238,7 +238,7 @@ read-table-spec 𝓤 𝓛 𝓜 𝓡 =
     entered 𝓤 𝓛.H (triple_of 𝓛 f'.signature (f'.spec 𝓛 𝓜.mem 𝓡.run))
     (tables 𝓤 𝓛.H 𝓜 𝓡 code.env).C (tables 𝓤 𝓛.H 𝓜 𝓡 code.env).Λ #own code.function (code.unfolded 𝓤 𝓛.H 𝓜 𝓡)
     (meets 𝓛 𝓜.mem 𝓡.run (tables_of 𝓤 𝓛.H 𝓜 (tables 𝓤 𝓛.H 𝓜 𝓡 code.env))
-    (cited 𝓤 𝓛.H (S-places-in.Asked 𝓛 𝓜.mem 𝓡.run) 𝓜 𝓡 code.env #places-in D-places-in.routine code.calls-image::read::places-in (T-places-in.met 𝓤 𝓛 𝓜 𝓡))
+    (cited 𝓤 𝓛.H (S-places-in.Asked 𝓛 𝓜.mem 𝓡.run) 𝓜 𝓡 code.env #places-in D-places-in.routine code.calls-image::read::places_in_lem (T-places-in.met 𝓤 𝓛 𝓜 𝓡))
     (cited 𝓤 𝓛.H (S-deques-words.Asked 𝓛 𝓜.mem 𝓡.run) 𝓜 𝓡 code.env #deques-words D-deques-words.routine code.calls-image::widths::deques-words (T-deques-words.met 𝓤 𝓛 𝓜 𝓡))
     (cited 𝓤 𝓛.H (S-read-record.Asked 𝓛 𝓜.mem 𝓡.run) 𝓜 𝓡 code.env #read-record D-read-record.routine code.calls-image::records::read-record (T-read-record.met 𝓤 𝓛 𝓜 𝓡))
     (cited 𝓤 𝓛.H (S-put-frame.Asked 𝓛 𝓜.mem 𝓡.run) 𝓜 𝓡 code.env #put-frame D-put-frame.routine code.calls-frames::put-frame (T-put-frame.met 𝓤 𝓛 𝓜 𝓡)))

@@ -4,7 +4,7 @@ use Prim.Native.Nat.{ℕ, ◌+◌, ◌-◌, ◌/◌, ◌≤◌}
 use native.Mathlib.Omega.{arith}
 use lib.ListN.{length}
 use borrow.Author.Rules.{rules}
-use Rattle.image.proofs.Parts.{blocks-in, parts-fit, runs_fit, all_read}
+use Rattle.image.proofs.Parts.{blocks_in, parts_fit, runs_fit, all_read}
 use Rattle.image.proofs.read.read_words.Statement.{statement}
 use Rattle.image.proofs.read.read_words.Tie as tie
 
@@ -28,8 +28,8 @@ read-blocks-requires c κs =
     let a = start.args in
     let h : ℕ = r.run_length.result in
     let m : ℕ = (a.n - h) / 127 in
-    let blocks = blocks-in a.i a.n h m r.run_length.ensures refl in
-    let fit = parts-fit a.i a.n h m r.run_length.ensures refl (length a.image.now) start.pre.1 in
+    let blocks = blocks_in a.i a.n h m r.run_length.ensures refl in
+    let fit = parts_fit a.i a.n h m r.run_length.ensures refl (length a.image.now) start.pre.1 in
     let long : a.j + a.n ≤ length a.to.now = start.pre.0 in
     (fit.1, omega (arith, blocks.0, long, w.read-run.auto.1.1.0))
 
@@ -43,7 +43,7 @@ read-run-requires-2 c κs =
     let a = start.args in
     let h : ℕ = r.run_length.result in
     let m : ℕ = (a.n - h) / 127 in
-    let blocks = blocks-in a.i a.n h m r.run_length.ensures refl in
+    let blocks = blocks_in a.i a.n h m r.run_length.ensures refl in
     let fit = runs_fit a.i a.n h m r.run_length.ensures refl (length a.image.now) start.pre.1 in
     let long : a.j + a.n ≤ length a.to.now = start.pre.0 in
     (omega (arith, fit.1, p.place-of2.ensures), omega (arith, blocks.0, long, w.read-run.kept.1.1.0, b.read-blocks.kept.1.1.0))

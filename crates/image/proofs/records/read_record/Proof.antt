@@ -1,10 +1,10 @@
 -- The words of the local array are the ones that were read.
 use mathlib.Core.Path.{ap}
 use borrow.Author.Rules.{rules}
-use Rattle.frames.specs.Widths.{recordWords}
-use Rattle.frames.specs.Frames.{recordIn}
-use Rattle.image.specs.Inner.{readWords}
-use Rattle.image.proofs.Loops.{length-data-words}
+use Rattle.frames.specs.Widths.{record_words}
+use Rattle.frames.specs.Frames.{record_in}
+use Rattle.image.specs.Inner.{read_words}
+use Rattle.image.proofs.Loops.{length_data_words}
 use Rattle.image.proofs.Ends.{all-stored}
 use Rattle.image.proofs.records.read_record.Statement.{statement}
 use Rattle.image.proofs.records.read_record.Tie as tie
@@ -13,8 +13,8 @@ returns : tie.Need-returns
 returns c =
     let r = c.before in
     let a = r.before.before.before.args in
-    let ks = readWords recordWords a.image.now a.i in
-    ap recordIn (all-stored _ _ ks (length-data-words recordWords a.image.now a.i) r.read-words.ensures)
+    let ks = read_words record_words a.image.now a.i in
+    ap record_in (all-stored _ _ ks (length_data_words record_words a.image.now a.i) r.read_words_lem.ensures)
 
 pub read-record-spec : {M : Type 1} → statement M
 read-record-spec =

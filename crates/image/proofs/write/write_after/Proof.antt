@@ -4,7 +4,7 @@ use Prim.Native.Nat.{◌+◌, ◌*◌, ◌<◌}
 use native.Mathlib.Omega.{arith}
 use lib.ListN.{get_or}
 use borrow.Author.Rules.{rules}
-use Rattle.image.specs.Inner.{sumBefore}
+use Rattle.image.specs.Inner.{sum_before}
 use Rattle.image.proofs.Ends.{after-stored}
 use Rattle.image.proofs.write.write_after.Statement.{statement}
 use Rattle.image.proofs.write.write_after.Tie as tie
@@ -22,19 +22,19 @@ abbrev pool-of : tie.After-blocks-for → tie.After-write-words
 pool-of b = b.before.before.before
 
 -- the sum of the words is in 64 bits
-small : (s : tie.After-state-words) → s.state-words.result + 2 * get_or (start_of (nodes-of s)).args.numbers.now 2 0 < 137438953472
+small : (s : tie.After-state-words) → s.state_words_lem.result + 2 * get_or (start_of (nodes-of s)).args.numbers.now 2 0 < 137438953472
 small s =
     let k = nodes-of s in
     let a = (start_of k).args in
     let places : get_or a.numbers.now 9 0 < 4294967296 = (k.shared-slice-known4.given 9).fits in
     let nodes : get_or a.numbers.now 2 0 < 4294967296 = (k.shared-slice-known4.given 2).fits in
-    omega (arith, places, nodes, s.state-words.ensures.0)
+    omega (arith, places, nodes, s.state_words_lem.ensures.0)
 
 write-words-requires : tie.Need-write-words-requires
 write-words-requires c κs =
     let s = c.before in
     let start = start_of (nodes-of s) in
-    (start.pre.1, omega (arith, start.pre.2, s.state-words.ensures.0), start.pre.3 ∙ ap (sumBefore start.args.target.now) (sym s.state-words.ensures.0))
+    (start.pre.1, omega (arith, start.pre.2, s.state_words_lem.ensures.0), start.pre.3 ∙ ap (sum_before start.args.target.now) (sym s.state_words_lem.ensures.0))
 
 blocks-for-requires : tie.Need-blocks-for-requires
 blocks-for-requires c κs = small (state-of c.before.before)
@@ -45,7 +45,7 @@ write-rest-requires c κs =
     let w = pool-of b in
     let s = state-of w in
     let start = start_of (nodes-of s) in
-    (small s, b.blocks-for.ensures, omega (arith, start.pre.2, s.state-words.ensures.0, b.blocks-for.ensures, w.write-words.kept.0), w.write-words.ensures.1)
+    (small s, b.blocks-for.ensures, omega (arith, start.pre.2, s.state_words_lem.ensures.0, b.blocks-for.ensures, w.write-words.kept.0), w.write-words.ensures.1)
 
 returns : tie.Need-returns
 returns c =
@@ -55,7 +55,7 @@ returns c =
     let s = state-of w in
     let start = start_of (nodes-of s) in
     let a = start.args in
-    after-stored a.target.now _ _ a.pool.now (get_or a.numbers.now 9 0) (get_or a.numbers.now 2 0) s.state-words.result b.blocks-for.result s.state-words.ensures.0 start.pre.1
+    after-stored a.target.now _ _ a.pool.now (get_or a.numbers.now 9 0) (get_or a.numbers.now 2 0) s.state_words_lem.result b.blocks-for.result s.state_words_lem.ensures.0 start.pre.1
     b.blocks-for.ensures w.write-words.ensures.0 z.write-rest.ensures
 
 pub write-after-spec : {M : Type 1} → statement M

@@ -2,13 +2,13 @@
 use native.Mathlib.Omega.{arith}
 use lib.ListN.{get_or}
 use borrow.Author.Rules.{rules}
-use Rattle.image.specs.Image.{versioned, dequesFor}
+use Rattle.image.specs.Image.{versioned, deques_for}
 use Rattle.image.specs.Theory.Version.{length-versioned}
 use Rattle.image.proofs.Stores.{put_next}
 use Rattle.image.proofs.write.write_before.Statement.{statement}
 use Rattle.image.proofs.write.write_before.Tie as tie
 use Rattle.soundness.specs.Layout.{two_words}
-use Rattle.image.specs.Theory.Version.{two-version}
+use Rattle.image.specs.Theory.Version.{two_version}
 
 abbrev numbers_of : tie.After-write-deques → tie.After-write-numbers
 numbers_of d = d.before.before.before.before
@@ -23,7 +23,7 @@ returns c =
     let start = start_of n in
     let a = start.args in
     let ns = a.numbers.now in (
-      put_next a.target.now _ _ (versioned two_words ns) (dequesFor (get_or ns 9 0) a.deques.now) 0 10 n.write-numbers.ensures.0 (omega (arith, length-versioned two_words two-version ns, start.pre.0)) d.write-deques.ensures.0,
+      put_next a.target.now _ _ (versioned two_words ns) (deques_for (get_or ns 9 0) a.deques.now) 0 10 n.write-numbers.ensures.0 (omega (arith, length-versioned two_words two_version ns, start.pre.0)) d.write-deques.ensures.0,
       d.write-deques.ensures.1,
     )
 

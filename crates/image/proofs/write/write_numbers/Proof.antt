@@ -1,7 +1,7 @@
 -- The first number, then the others: `first-stored`, `numbers-stored`.
 use native.Mathlib.Omega.{arith}
 use borrow.Author.Rules.{rules}
-use Rattle.image.proofs.Ends.{first-stored, numbers-stored}
+use Rattle.image.proofs.Ends.{first-stored, numbers_stored}
 use Rattle.image.proofs.write.write_numbers.Statement.{statement}
 use Rattle.image.proofs.write.write_numbers.Tie as tie
 
@@ -24,7 +24,7 @@ returns c =
     let w = r.before.before.before.before in
     let start = start_of w in
     let first = first-stored start.args.numbers.now start.args.target.now _ (add-of w).add.result start.pre.1 (add-of w).add.ensures w.put_word.ensures in (
-      numbers-stored start.args.numbers.now start.args.target.now _ _ (add-of w).add.result start.pre.0 (add-of w).add.ensures first.0 r.write-run.ensures.0,
+      numbers_stored start.args.numbers.now start.args.target.now _ _ (add-of w).add.result start.pre.0 (add-of w).add.ensures first.0 r.write-run.ensures.0,
       r.write-run.ensures.1,
     )
 

@@ -6,7 +6,7 @@ use lib.ListN.{take, drop, length-drop}
 use lib.Seq.{length-take-le}
 use borrow.Author.Rules.{rules}
 use Rattle.image.proofs.Stores.{sum-none}
-use Rattle.image.proofs.Ends.{run-open, run-full}
+use Rattle.image.proofs.Ends.{run_open, run_full}
 use Rattle.image.proofs.write.write_run.Statement.{statement}
 use Rattle.image.proofs.write.write_run.Tie as tie
 
@@ -25,8 +25,8 @@ returns c =
     let place = place_of r in
     let start = start_of r in
     let a = start.args in
-    run-open (take a.n (drop a.j a.from.now)) a.target.now _ a.i a.n place.place_of.result a.before r.put-run.result
-    (length-take-le a.n (drop a.j a.from.now) (omega (arith, length-drop a.j a.from.now))) (omega arith) place.place_of.ensures start.pre.3 r.put-run.ensures.0 r.put-run.ensures.1 c.if1.true
+    run_open (take a.n (drop a.j a.from.now)) a.target.now _ a.i a.n place.place_of.result a.before r.put_run.result
+    (length-take-le a.n (drop a.j a.from.now) (omega (arith, length-drop a.j a.from.now))) (omega arith) place.place_of.ensures start.pre.3 r.put_run.ensures.0 r.put_run.ensures.1 c.if1.true
 
 returns-2 : tie.Need-returns-2
 returns-2 c =
@@ -35,8 +35,8 @@ returns-2 c =
     let place = place_of r in
     let start = start_of r in
     let a = start.args in (
-      run-full (take a.n (drop a.j a.from.now)) a.target.now _ a.i a.n place.place_of.result a.before r.put-run.result
-          (length-take-le a.n (drop a.j a.from.now) (omega (arith, length-drop a.j a.from.now))) (omega arith) place.place_of.ensures start.pre.3 r.put-run.ensures.0 r.put-run.ensures.1 _ _ (omega arith) (omega (arith, place.place_of.ensures)) w.put_word.ensures,
+      run_full (take a.n (drop a.j a.from.now)) a.target.now _ a.i a.n place.place_of.result a.before r.put_run.result
+          (length-take-le a.n (drop a.j a.from.now) (omega (arith, length-drop a.j a.from.now))) (omega arith) place.place_of.ensures start.pre.3 r.put_run.ensures.0 r.put_run.ensures.1 _ _ (omega arith) (omega (arith, place.place_of.ensures)) w.put_word.ensures,
       sym (sum-none _ (a.i + a.n) (omega arith)),
     )
 

@@ -45,16 +45,16 @@ use denote.Triple.Statement.{Triple}
 use denote.Triple.Table.{entered, cited}
 use denote.Triple.Walked.{says, needs, Stays, stay_slice, stay_none, stay_none_slice, walk_of, Walks, ends_at, walked, Goes-slice, Goes-none, Goes-none_slice, walk_Meets}
 use borrow.Author.Rules.{scaled_Fits}
-use Rattle.frames.proofs.Lent.{at-list, Mine, Yours, ty_at, exit-unless, exit-if, leave-if, fork, skipped, regroup, matched, matched-last, const, is_true, is_false, not-not, differ, widen, less-fits, after, turn-of, take_out, put_in, put_back, look-out, look-back, free_all}
-use Rattle.frames.specs.Widths.{maxPlaces, recordWords}
-use Rattle.image.specs.Widths.{blockBytes}
-use Rattle.image.specs.Image.{tableWords, blocksFor}
-use Rattle.image.specs.Inner.{putWords, sumBefore}
+use Rattle.frames.proofs.Lent.{at_list, Mine, Yours, ty_at, exit_unless, exit_if, leave_if, fork, skipped, regroup, matched, matched_last, const, is_true, is_false, not_not, differ, widen, less_fits, after, turn_of_lem, take_out, put_in, put_back, look_out, look_back, free_all}
+use Rattle.frames.specs.Widths.{max_places, record_words}
+use Rattle.image.specs.Widths.{block_bytes}
+use Rattle.image.specs.Image.{table_words, blocks_for}
+use Rattle.image.specs.Inner.{put_words, sum_before}
 use Rattle.image.proofs.Called.frame_at as S-frame-at
 use Rattle.frames.proofs.frame_at.Symbol as D-frame-at
 use Rattle.frames.proofs.frame_at.Symbol.{name as #frame-at}
 use Rattle.frames.proofs.frame_at.Met as T-frame-at
-use Rattle.frames.specs.Frames.{frameAt}
+use Rattle.frames.specs.Frames.{frame_at}
 use Rattle.image.proofs.Called.write_record as S-write-record
 use Rattle.image.proofs.records.write_record.Symbol as D-write-record
 use Rattle.image.proofs.records.write_record.Symbol.{name as #write-record}
@@ -83,13 +83,13 @@ ty' i = ty_at (code.function).locals i
 
 -- the loop's body, and what runs after the loop
 abbrev turned' : Code
-turned' = turn-of (after 2 (code.function).body)
+turned' = turn_of_lem (after 2 (code.function).body)
 
 abbrev rest' : Code
 rest' = after 3 (code.function).body
 
 -- where a turn of the loop begins
-record State' (target : List ℕ) (i : ℕ) (frames : List Frame) (before : ℕ) (target_fits : length target < 2 ^ 64) (i-fits : i < 2 ^ 64) (frames-fits : length frames < 2 ^ 64) (before-fits : before < 2 ^ 32) (ok : (length frames ≤ maxPlaces) × (blockBytes * blocksFor (i + recordWords * length frames) ≤ length target) × (before ≡ sumBefore target i)) : Type 0 where
+record State' (target : List ℕ) (i : ℕ) (frames : List Frame) (before : ℕ) (target_fits : length target < 2 ^ 64) (i-fits : i < 2 ^ 64) (frames-fits : length frames < 2 ^ 64) (before-fits : before < 2 ^ 32) (ok : (length frames ≤ max_places) × (block_bytes * blocks_for (i + record_words * length frames) ≤ length target) × (before ≡ sum_before target i)) : Type 0 where
   v_sum : ℕ
   g-sum : v_sum < 2 ^ 32
   v-p : ℕ
@@ -109,7 +109,7 @@ module _ {M : Type 1} {𝓤 : Ura M} (𝓛 : Logic 𝓤) (mem : Memory → SProp
   n-frames = length frames
 
   abbrev args' : Bor (List ℕ) × (ℕ × (Bor (List Frame) × (ℕ × Unit {0})))
-  args' = (at-list b-target o-target γ-target target, (i, (at-list b-frames o-frames γ-frames frames, (before, tt))))
+  args' = (at_list b-target o-target γ-target target, (i, (at_list b-frames o-frames γ-frames frames, (before, tt))))
 
   abbrev vals' : Vals f'.signature (κ-target, (κ-frames, tt))
   vals' = (slice_val (b-target, o-target) (length target) ∷ [], (vint w64 i ∷ [], (slice_val (b-frames, o-frames) (length frames) ∷ [], (vint w32 before ∷ [], tt))))
@@ -120,7 +120,7 @@ module _ {M : Type 1} {𝓤 : Ura M} (𝓛 : Logic 𝓤) (mem : Memory → SProp
   abbrev Post : Val → SProp 𝓤
   Post = (walk_of 𝓛 f'.ended stayed (f'.clauses 𝓛 mem run)).post bound'
 
-  exits' : (res' : ℕ) (zs-target : List ℕ) → res' < 2 ^ 32 → (zs-target ≡ putWords target i (tableWords frames)) × (res' ≡ sumBefore zs-target (i + recordWords * length frames)) → length zs-target ≡ length target → ent 𝓤 (⋆ 𝓛 (‵ (Mine u8 κ-target q-target γ-target b-target o-target n-target zs-target) ∷ ‵ (Yours R-Frame κ-frames q-frames γ-frames b-frames o-frames n-frames frames) ∷ [])) (Post (vint w32 res'))
+  exits' : (res' : ℕ) (zs-target : List ℕ) → res' < 2 ^ 32 → (zs-target ≡ put_words target i (table_words frames)) × (res' ≡ sum_before zs-target (i + record_words * length frames)) → length zs-target ≡ length target → ent 𝓤 (⋆ 𝓛 (‵ (Mine u8 κ-target q-target γ-target b-target o-target n-target zs-target) ∷ ‵ (Yours R-Frame κ-frames q-frames γ-frames b-frames o-frames n-frames frames) ∷ [])) (Post (vint w32 res'))
   exits' res' zs-target good' e' same_target =
       qed 𝓛 (‵ (Mine u8 κ-target q-target γ-target b-target o-target n-target zs-target) ∷ ‵ (Yours R-Frame κ-frames q-frames γ-frames b-frames o-frames n-frames frames) ∷ []) ∵
       suffices ! _ (ends_at 𝓛 f'.ended stayed (f'.clauses 𝓛 mem run) bound' (vint w32 res') res' (zs-target, (tt, (tt, (tt, tt)))) (same_target, (tt, (tt, (tt, tt))))) $ says ! e' $
@@ -132,7 +132,7 @@ module _ {M : Type 1} {𝓤 : Ura M} (𝓛 : Logic 𝓤) (mem : Memory → SProp
     abbrev fm : FmC 𝓤 H 𝓛.laws 𝓣.C
     fm = fm_of 𝓤 H 𝓛.laws 𝓣
 
-    module _ (ok' : (length frames ≤ maxPlaces) × (blockBytes * blocksFor (i + recordWords * length frames) ≤ length target) × (before ≡ sumBefore target i)) (l₀ l₁ l₂ l₃ l₄ l₅ l₆ l₇ l₈ l₉ l₁₀ l₁₁ l₁₂ l₁₃ : ℕ) where
+    module _ (ok' : (length frames ≤ max_places) × (block_bytes * blocks_for (i + record_words * length frames) ≤ length target) × (before ≡ sum_before target i)) (l₀ l₁ l₂ l₃ l₄ l₅ l₆ l₇ l₈ l₉ l₁₀ l₁₁ l₁₂ l₁₃ : ℕ) where
       abbrev S' : Type 0
       S' = State' target i frames before room-target.0 i-fits room-frames.0 before-fits ok'
 
@@ -159,7 +159,7 @@ module _ {M : Type 1} {𝓤 : Ura M} (𝓛 : Logic 𝓤) (mem : Memory → SProp
             assigns ! (un ! (load ! (from ! (stop !)) (look ! 16 refl)) (record { fits = (widen p (2 ^ 32) (2 ^ 64) tt p-fits) })) (from ! (stop !)) (init ! 12 refl (tt, record { fits = (widen p (2 ^ 32) (2 ^ 64) tt p-fits) })) $
             assigns ! (of_opd ! (load ! (from ! (fld ! refl (stop !))) (look_in ! 22 (sub ! 1 refl (whole !))))) (from ! (stop !)) (init ! 10 refl (tt, record { fits = room-frames.0 })) $
             assigns ! (bin ! (load ! (from ! (stop !)) (look ! 12 refl)) (load ! (from ! (stop !)) (look ! 10 refl)) tt) (from ! (stop !)) (init ! 8 refl (tt, tt)) $
-            exit-unless ! (load ! (from ! (stop !)) (look ! 8 refl))
+            exit_unless ! (load ! (from ! (stop !)) (look ! 8 refl))
             (λ test-3.
             exec ! 𝓣.C 𝓣.Λ En' rest' (at_ret En' Post) $
             assigns ! (of_opd ! (load ! (from ! (stop !)) (look ! 18 refl))) (from ! (stop !)) (init ! 28 refl (tt, record { fits = sum_fits })) $
@@ -190,7 +190,7 @@ module _ {M : Type 1} {𝓤 : Ura M} (𝓛 : Logic 𝓤) (mem : Memory → SProp
       unfolding after_turn
       loop' = loops ! 𝓣 Less' less_wf Inv' (λ s'. turn' s'.v_sum s'.v-p s'.l-target s'.g-sum s'.g-p s'.s-target s'.holds) (record { v_sum = before; g-sum = before-fits; v-p = 0; g-p = (lit< tt); l-target = target; s-target = refl; holds = (F.begins target i frames before room-target.0 i-fits room-frames.0 before-fits ok') })
 
-    walk : (length frames ≤ maxPlaces) × (blockBytes * blocksFor (i + recordWords * length frames) ≤ length target) × (before ≡ sumBefore target i) → ent 𝓤 (on_entry 𝓛 f'.signature (κ-target, (κ-frames, tt)) (q-target, (q-frames, tt)) args' vals') (WpFn 𝓤 H 𝓣.C 𝓣.Λ code.function (slice_val (b-target, o-target) (length target) ∷ vint w64 i ∷ slice_val (b-frames, o-frames) (length frames) ∷ vint w32 before ∷ []) Post)
+    walk : (length frames ≤ max_places) × (block_bytes * blocks_for (i + record_words * length frames) ≤ length target) × (before ≡ sum_before target i) → ent 𝓤 (on_entry 𝓛 f'.signature (κ-target, (κ-frames, tt)) (q-target, (q-frames, tt)) args' vals') (WpFn 𝓤 H 𝓣.C 𝓣.Λ code.function (slice_val (b-target, o-target) (length target) ∷ vint w64 i ∷ slice_val (b-frames, o-frames) (length frames) ∷ vint w32 before ∷ []) Post)
     walk ok' =
         qed 𝓛 ((‵ (flft κ-target q-target) ⊛ ‵ (flft κ-frames q-frames) ⊛ ‵ ftrue) ∷ ‵ (owns (MutSlice (named 0) κ-target u8 ∷ usize ∷ ShrSlice (named 1) κ-frames R-Frame ∷ u32 ∷ []) args' vals') ∷ []) ∵ enter ! 𝓣.C 𝓣.Λ code.function (slice_val (b-target, o-target) (length target) ∷ vint w64 i ∷ slice_val (b-frames, o-frames) (length frames) ∷ vint w32 before ∷ []) _ $
         alloc1 ! (λ l₀. alloc1 ! (λ l₁. alloc1 ! (λ l₂. alloc1 ! (λ l₃. alloc1 ! (λ l₄. alloc1 ! (λ l₅. alloc1 ! (λ l₆. alloc1 ! (λ l₇. alloc1 ! (λ l₈. alloc1 ! (λ l₉. alloc1 ! (λ l₁₀. alloc1 ! (λ l₁₁. alloc1 ! (λ l₁₂. alloc1 ! (λ l₁₃. alloc0 ! $ params1 ! $
@@ -208,7 +208,7 @@ module _ {M : Type 1} {𝓤 : Ura M} (𝓛 : Logic 𝓤) (mem : Memory → SProp
   walks known-frame-at known-write-record = walked 𝓛 f'.ended stayed (f'.clauses 𝓛 mem run) (WpFn 𝓤 H 𝓣.C 𝓣.Λ code.function)
       (λ κs. (shr_slice_vals, (uint_vals w64, (shr_slice_vals, (uint_vals w32, tt)))))
       (λ κs. (mut_slice_Tells (named 0) κs.0 u8, (uint_Tells w64, (shr_slice_Tells (named 1) κs.1.0 R-Frame, (uint_Tells w32, tt)))))
-      (λ κs qs bounds a g are. needs 𝓤 ((length a.1.1.0.now ≤ maxPlaces) × (blockBytes * blocksFor (a.1.0 + recordWords * length a.1.1.0.now) ≤ length a.0.now) × (a.1.1.1.0 ≡ sumBefore a.0.now a.1.0)) _
+      (λ κs qs bounds a g are. needs 𝓤 ((length a.1.1.0.now ≤ max_places) × (block_bytes * blocks_for (a.1.0 + record_words * length a.1.1.0.now) ≤ length a.0.now) × (a.1.1.1.0 ≡ sum_before a.0.now a.1.0)) _
       (walk 𝓛 mem run κs.0 qs.0 a.0.ref_ptr.0 a.0.ref_ptr.1 a.0.ghost_name a.0.now κs.1.0 qs.1.0 a.1.1.0.ref_ptr.0 a.1.1.0.ref_ptr.1 a.1.1.0.ghost_name a.1.1.0.now a.1.0 are.1.0.1 a.1.1.1.0 are.1.1.1.0.1 are.0.0.1 are.1.1.0.0.1 𝓣 known-frame-at known-write-record))
 
   meets : Triple 𝓤 (𝓣.C #frame-at) (S-frame-at.Asked 𝓛 mem run) → Triple 𝓤 (𝓣.C #write-record) (S-write-record.Asked 𝓛 mem run) → Meets 𝓛 f'.signature (WpFn 𝓤 H 𝓣.C 𝓣.Λ code.function) (f'.spec 𝓛 mem run)

@@ -4,7 +4,7 @@ use Prim.Native.Nat.{ℕ, ◌-◌, ◌/◌}
 use native.Mathlib.Omega.{arith}
 use lib.ListN.{length}
 use borrow.Author.Rules.{rules}
-use Rattle.image.proofs.Parts.{first-in, blocks-in, last-in, parts-fit, sum_kept, sum-all, all-stored}
+use Rattle.image.proofs.Parts.{first_in_lem, blocks_in, last_in, parts_fit, sum_kept, sum-all, all-stored}
 use Rattle.image.proofs.write.write_words.Statement.{statement}
 use Rattle.image.proofs.write.write_words.Tie as tie
 
@@ -27,8 +27,8 @@ write-run-requires c κs =
     let a = start.args in
     let h : ℕ = r.run_length.result in
     let m : ℕ = (a.n - h) / 127 in
-    let first = first-in a.i a.n h m r.run_length.ensures refl in
-    let fit = parts-fit a.i a.n h m r.run_length.ensures refl (length a.target.now) start.pre.1 in
+    let first = first_in_lem a.i a.n h m r.run_length.ensures refl in
+    let fit = parts_fit a.i a.n h m r.run_length.ensures refl (length a.target.now) start.pre.1 in
     (first.1, omega (arith, first.0), fit.0, start.pre.2)
 
 write-blocks-requires : tie.Need-write-blocks-requires
@@ -39,8 +39,8 @@ write-blocks-requires c κs =
     let a = start.args in
     let h : ℕ = r.run_length.result in
     let m : ℕ = (a.n - h) / 127 in
-    let blocks = blocks-in a.i a.n h m r.run_length.ensures refl in
-    let fit = parts-fit a.i a.n h m r.run_length.ensures refl (length a.target.now) start.pre.1 in
+    let blocks = blocks_in a.i a.n h m r.run_length.ensures refl in
+    let fit = parts_fit a.i a.n h m r.run_length.ensures refl (length a.target.now) start.pre.1 in
     (omega (arith, fit.1, w.write-run.auto.0), omega (arith, blocks.0))
 
 write-run-requires-2 : tie.Need-write-run-requires-2
@@ -52,9 +52,9 @@ write-run-requires-2 c κs =
     let a = start.args in
     let h : ℕ = r.run_length.result in
     let m : ℕ = (a.n - h) / 127 in
-    let blocks = blocks-in a.i a.n h m r.run_length.ensures refl in
-    let fit = parts-fit a.i a.n h m r.run_length.ensures refl (length a.target.now) start.pre.1 in (
-      last-in a.i a.n h m r.run_length.ensures refl,
+    let blocks = blocks_in a.i a.n h m r.run_length.ensures refl in
+    let fit = parts_fit a.i a.n h m r.run_length.ensures refl (length a.target.now) start.pre.1 in (
+      last_in a.i a.n h m r.run_length.ensures refl,
       omega (arith, blocks.0),
       omega (arith, fit.2, w.write-run.kept.0, b.write-blocks.auto.0),
       sum_kept a.i a.n h m r.run_length.ensures refl a.from.now a.target.now _ _ start.pre.0 w.write-run.ensures.0 b.write-blocks.ensures w.write-run.result w.write-run.ensures.1,

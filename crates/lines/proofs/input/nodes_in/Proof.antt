@@ -1,5 +1,5 @@
 -- The number of the bytes that are read.
-use Rattle.lines.specs.Lines.{number32At}
+use Rattle.lines.specs.Lines.{number32_at}
 use borrow.Author.Rules.{rules}
 use Rattle.lines.proofs.input.nodes_in.Statement.{statement}
 use Rattle.lines.proofs.input.nodes_in.Tie as tie
@@ -20,7 +20,7 @@ number32-requires : tie.Need-number32-requires
 number32-requires c κs = search rules
 
 returns : tie.Need-returns
-unfolding number32At
+unfolding number32_at
 returns c =
     let p1 = c.before in
     let p2 = p1.before in

@@ -5,14 +5,14 @@ use Prim.Native.Nat.{ℕ, ◌+◌, ◌-◌, ◌*◌, ◌≤◌}
 use native.Mathlib.Omega.{arith}
 use lib.ListN.{length, take, length-set}
 use borrow.Author.Rules.{rules}
-use Rattle.lines.specs.Lines.{number32At, numbersAt}
-use Rattle.lines.proofs.Loops.{values-turn, values-end}
+use Rattle.lines.specs.Lines.{number32_at, numbers_at}
+use Rattle.lines.proofs.Loops.{values_turn, values_end}
 use Rattle.lines.proofs.input.read_values.Statement.{statement}
 use Rattle.lines.proofs.input.read_values.Tie as tie
 
 abbrev invariant-loop : tie.invariant-loop
 invariant-loop input values₀ i₀ at₀ values i at =
-    (take i values ++ numbersAt (length values₀ - i) input at ≡ numbersAt (length values₀) input 8) × (length values ≡ length values₀) × (i ≤ length values₀) × (at ≡ 8 + 4 * i)
+    (take i values ++ numbers_at (length values₀ - i) input at ≡ numbers_at (length values₀) input 8) × (length values ≡ length values₀) × (i ≤ length values₀) × (at ≡ 8 + 4 * i)
 
 abbrev decreases-loop : tie.decreases-loop
 decreases-loop input values₀ i₀ at₀ values i at = length values₀ - i
@@ -20,7 +20,7 @@ decreases-loop input values₀ i₀ at₀ values i at = length values₀ - i
 loop-holds : tie.Need-loop-init invariant-loop decreases-loop
 loop-holds c =
     let e : length c.before.before.args.values.now - 0 ≡ length c.before.before.args.values.now = omega arith in
-    (ap (λ (k : ℕ). numbersAt k c.before.before.args.input.now 8) e, refl, omega arith, omega arith)
+    (ap (λ (k : ℕ). numbers_at k c.before.before.args.input.now 8) e, refl, omega arith, omega arith)
 
 byte-requires : tie.Need-byte-requires invariant-loop decreases-loop
 byte-requires c κs = search rules
@@ -64,7 +64,7 @@ loop-less : tie.Need-loop-smaller invariant-loop decreases-loop
 loop-less c = omega arith
 
 loop-again : tie.Need-loop-preserved invariant-loop decreases-loop
-unfolding number32At
+unfolding number32_at
 loop-again c =
     let p1 = c.before in
     let p2 = p1.before in
@@ -73,14 +73,14 @@ loop-again c =
     let p5 = p4.before in
     let p6 = p5.before in
     let p7 = p6.before.before.before in
-    let v : c.number32.result ≡ number32At p7.args.input.now p6.loop.at = rw (p4.byte.ensures, p3.byte2.ensures, p2.byte3.ensures, p1.byte4.ensures) at c.number32.ensures in
-    (values-turn _ _ _ _ _ _ p5.loop-test.true p6.loop.invariant.1 v p6.loop.invariant.0, simp length-set p6.loop.invariant.1, omega arith, omega arith)
+    let v : c.number32.result ≡ number32_at p7.args.input.now p6.loop.at = rw (p4.byte.ensures, p3.byte2.ensures, p2.byte3.ensures, p1.byte4.ensures) at c.number32.ensures in
+    (values_turn _ _ _ _ _ _ p5.loop-test.true p6.loop.invariant.1 v p6.loop.invariant.0, simp length-set p6.loop.invariant.1, omega arith, omega arith)
 
 same_length : tie.Need-same-length invariant-loop decreases-loop
 same_length c = search rules
 
 returns : tie.Need-returns invariant-loop decreases-loop
-returns c = values-end _ _ _ _ _ c.loop-test.false c.before.loop.invariant.1 c.before.loop.invariant.0
+returns c = values_end _ _ _ _ _ c.loop-test.false c.before.loop.invariant.1 c.before.loop.invariant.0
 
 pub read-values-spec : {M : Type 1} → statement M
 read-values-spec =

@@ -1,5 +1,5 @@
 -- The number of the bytes that are read.
-use Rattle.lines.specs.Lines.{splittersIn}
+use Rattle.lines.specs.Lines.{splitters_in}
 use borrow.Author.Rules.{rules}
 use Rattle.lines.proofs.input.splitters_in.Statement.{statement}
 use Rattle.lines.proofs.input.splitters_in.Tie as tie
@@ -14,7 +14,7 @@ number16-requires : tie.Need-number16-requires
 number16-requires c κs = search rules
 
 returns : tie.Need-returns
-unfolding splittersIn
+unfolding splitters_in
 returns c = rw (c.before.before.byte.ensures, c.before.byte2.ensures) at c.number16.ensures
 
 pub splitters-in-spec : {M : Type 1} → statement M

@@ -6,15 +6,15 @@ use native.Mathlib.Omega.{arith}
 use lib.ListN.{length}
 use borrow.Author.Rules.{rules}
 use Rattle.words.specs.Basics.{follow}
-use Rattle.packed.specs.Pool.{nextFree}
-use Rattle.soundness.specs.PackedTrees.{freeNodes}
-use Rattle.lines.proofs.Loops.{follow-none, follow-turn, follow-end}
+use Rattle.packed.specs.Pool.{next_free}
+use Rattle.soundness.specs.PackedTrees.{free_nodes}
+use Rattle.lines.proofs.Loops.{follow-none, follow_turn, follow_end}
 use Rattle.lines.proofs.run.count_free.Statement.{statement}
 use Rattle.lines.proofs.run.count_free.Tie as tie
 
 abbrev invariant-loop : tie.invariant-loop
 invariant-loop nodes pool first left₀ i₀ count₀ left i count =
-    (count + length (follow left (nextFree pool) i) ≡ length (freeNodes nodes pool first)) × (count + left ≡ nodes + 1)
+    (count + length (follow left (next_free pool) i) ≡ length (free_nodes nodes pool first)) × (count + left ≡ nodes + 1)
 
 abbrev decreases-loop : tie.decreases-loop
 decreases-loop nodes pool first left₀ i₀ count₀ left i count = left
@@ -25,13 +25,13 @@ add_left c = omega arith
 loop-holds : tie.Need-loop-init invariant-loop decreases-loop
 loop-holds c =
     let s = c.before.args in
-    (omega (arith, ap (λ (k : ℕ). length (follow k (nextFree s.pool.now) s.first)) (add-one s.nodes)), omega arith)
+    (omega (arith, ap (λ (k : ℕ). length (follow k (next_free s.pool.now) s.first)) (add-one s.nodes)), omega arith)
 
 returns : tie.Need-returns invariant-loop decreases-loop
 returns c =
     let p1 = c.before.before in
     let p2 = p1.before.before in
-    omega (arith, p1.loop.invariant.0, ap length (follow-none p1.loop.left (nextFree p2.args.pool.now) p1.loop.i c.if1.true))
+    omega (arith, p1.loop.invariant.0, ap length (follow-none p1.loop.left (next_free p2.args.pool.now) p1.loop.i c.if1.true))
 
 next-of-requires : tie.Need-next-of-requires invariant-loop decreases-loop
 next-of-requires c κs = search rules
@@ -51,19 +51,19 @@ loop-again c =
     let p2 = p1.before in
     let p3 = p2.before in
     let p4 = p3.before.before in
-    let next = nextFree p4.args.pool.now in
+    let next = next_free p4.args.pool.now in
     let l = p3.loop in (
       omega (
         arith,
         l.invariant.0,
-        ap length (follow-turn l.left next l.i p2.loop-test.true p1.if1.false),
+        ap length (follow_turn l.left next l.i p2.loop-test.true p1.if1.false),
         ap (λ (x : ℕ). length (follow (l.left - 1) next x)) c.next_of.ensures,
       ),
       omega (arith, l.invariant.1, p2.loop-test.true),
     )
 
 returns-2 : tie.Need-returns-2 invariant-loop decreases-loop
-returns-2 c = omega (arith, c.before.loop.invariant.0, ap length (follow-end c.before.loop.left (nextFree c.before.before.before.args.pool.now) c.before.loop.i c.loop-test.false))
+returns-2 c = omega (arith, c.before.loop.invariant.0, ap length (follow_end c.before.loop.left (next_free c.before.before.before.args.pool.now) c.before.loop.i c.loop-test.false))
 
 pub count-free-spec : {M : Type 1} → statement M
 count-free-spec =

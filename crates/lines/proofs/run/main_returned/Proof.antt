@@ -3,13 +3,13 @@ use mathlib.Core.Path.{◌≡◌, refl, sym, ◌∙◌}
 use Prim.Native.Nat.{◌-◌, ◌≤◌}
 use native.Mathlib.Omega.{arith}
 use lib.ListN.{length, drop}
-use Rattle.lines.specs.Lines.{mainReturned}
-use Rattle.lines.specs.Theory.Returned.{returned-here, returned-turn, returned-end}
+use Rattle.lines.specs.Lines.{main_returned}
+use Rattle.lines.specs.Theory.Returned.{returned_here, returned_turn, returned_end}
 use Rattle.lines.proofs.run.main_returned.Statement.{statement}
 use Rattle.lines.proofs.run.main_returned.Tie as tie
 
 abbrev invariant-loop : tie.invariant-loop
-invariant-loop answers i₀ i = (mainReturned (drop i answers) ≡ mainReturned answers) × (i ≤ length answers)
+invariant-loop answers i₀ i = (main_returned (drop i answers) ≡ main_returned answers) × (i ≤ length answers)
 
 abbrev decreases-loop : tie.decreases-loop
 decreases-loop answers i₀ i = length answers - i
@@ -38,7 +38,7 @@ shared-slice-read-if1-2 c = omega arith
 returns : tie.Need-returns invariant-loop decreases-loop
 returns c =
     let p = c.before.before.before in
-    sym (returned-here _ _ p.loop-test.true c.if1.true) ∙ p.before.loop.invariant.0
+    sym (returned_here _ _ p.loop-test.true c.if1.true) ∙ p.before.loop.invariant.0
 
 add-i : tie.Need-overflow-add-i invariant-loop decreases-loop
 add-i c = omega arith
@@ -49,10 +49,10 @@ loop-less c = omega arith
 loop-again : tie.Need-loop-preserved invariant-loop decreases-loop
 loop-again c =
     let p = c.before.before.before in
-    (returned-turn _ _ p.loop-test.true c.if1.false ∙ p.before.loop.invariant.0, omega (arith, p.loop-test.true))
+    (returned_turn _ _ p.loop-test.true c.if1.false ∙ p.before.loop.invariant.0, omega (arith, p.loop-test.true))
 
 returns-2 : tie.Need-returns-2 invariant-loop decreases-loop
-returns-2 c = sym (returned-end _ _ c.loop-test.false) ∙ c.before.loop.invariant.0
+returns-2 c = sym (returned_end _ _ c.loop-test.false) ∙ c.before.loop.invariant.0
 
 pub main-returned-spec : {M : Type 1} → statement M
 main-returned-spec =

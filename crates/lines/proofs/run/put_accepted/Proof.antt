@@ -1,6 +1,6 @@
 -- The lines of the answer words, that of the free nodes, that of the totals, and that of the nodes visited.
-use Rattle.lines.proofs.Sizes.{answers-short}
-use Rattle.lines.specs.Theory.{up-to-then}
+use Rattle.lines.proofs.Sizes.{answers_short}
+use Rattle.lines.specs.Theory.{up_to_then}
 use borrow.Author.Rules.{rules}
 use Rattle.lines.proofs.run.put_accepted.Statement.{statement}
 use Rattle.lines.proofs.run.put_accepted.Tie as tie
@@ -24,8 +24,8 @@ returns c =
     let r = reduced-of v in
     let f = free_of r in
     let a = answers_of f in
-    up-to-then _ _ _ _ (a.put-answers.ensures, answers-short _ (λ i. ((answers-known a).shared-slice-known.given i).fits))
-    (up-to-then _ _ _ _ f.put-free.ensures (up-to-then _ _ _ _ r.put-reduced.ensures v.put-visits.ensures))
+    up_to_then _ _ _ _ (a.put-answers.ensures, answers_short _ (λ i. ((answers-known a).shared-slice-known.given i).fits))
+    (up_to_then _ _ _ _ f.put-free.ensures (up_to_then _ _ _ _ r.put-reduced.ensures v.put-visits.ensures))
 
 pub put-accepted-spec : {M : Type 1} → statement M
 put-accepted-spec =

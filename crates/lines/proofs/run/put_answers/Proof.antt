@@ -4,16 +4,16 @@ use Prim.Native.Nat.{◌-◌, ◌≤◌}
 use native.Mathlib.Omega.{arith}
 use lib.ListN.{length, drop}
 use borrow.Author.Rules.{rules}
-use Rattle.lines.specs.Lines.{answerLines}
-use Rattle.lines.specs.Output.{storeAll}
-use Rattle.lines.specs.Theory.{stores-turn, stores-end}
-use Rattle.lines.proofs.Loops.{answers-turn, answers-end}
+use Rattle.lines.specs.Lines.{answer_lines}
+use Rattle.lines.specs.Output.{store_all}
+use Rattle.lines.specs.Theory.{stores_turn, stores_end}
+use Rattle.lines.proofs.Loops.{answers_turn, answers_end}
 use Rattle.lines.proofs.run.put_answers.Statement.{statement}
 use Rattle.lines.proofs.run.put_answers.Tie as tie
 
 abbrev invariant-loop : tie.invariant-loop
 invariant-loop out₀ at answers to₀ i₀ out to i =
-    (storeAll (out, to) (answerLines (drop i answers)) ≡ storeAll (out₀, at) (answerLines answers)) × (i ≤ length answers) × (length out ≡ length out₀)
+    (store_all (out, to) (answer_lines (drop i answers)) ≡ store_all (out₀, at) (answer_lines answers)) × (i ≤ length answers) × (length out ≡ length out₀)
 
 abbrev decreases-loop : tie.decreases-loop
 decreases-loop out₀ at answers to₀ i₀ out to i = length answers - i
@@ -53,13 +53,13 @@ loop-again c =
     let p1 = c.before.before in
     let p2 = p1.before.before.before.before in
     let p3 = p2.before in
-    (stores-turn _ _ _ _ _ (answers-turn _ _ p2.loop-test.true) p1.put_two.ensures ∙ p3.loop.invariant.0, omega (arith, p2.loop-test.true), p1.put_two.auto.0 ∙ p3.loop.invariant.2)
+    (stores_turn _ _ _ _ _ (answers_turn _ _ p2.loop-test.true) p1.put_two.ensures ∙ p3.loop.invariant.0, omega (arith, p2.loop-test.true), p1.put_two.auto.0 ∙ p3.loop.invariant.2)
 
 same_length : tie.Need-same-length invariant-loop decreases-loop
 same_length c = search rules
 
 returns : tie.Need-returns invariant-loop decreases-loop
-returns c = stores-end _ _ _ (answers-end _ _ c.loop-test.false) c.before.loop.invariant.0
+returns c = stores_end _ _ _ (answers_end _ _ c.loop-test.false) c.before.loop.invariant.0
 
 pub put-answers-spec : {M : Type 1} → statement M
 put-answers-spec =

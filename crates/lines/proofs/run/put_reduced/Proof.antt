@@ -1,5 +1,5 @@
 -- Main has not returned, or the word and the four totals are the line.
-use Rattle.lines.proofs.LastLines.{reduced-none, reduced-stored}
+use Rattle.lines.proofs.LastLines.{reduced_none, reduced_stored}
 use borrow.Author.Rules.{rules}
 use Rattle.lines.proofs.run.put_reduced.Statement.{statement}
 use Rattle.lines.proofs.run.put_reduced.Tie as tie
@@ -17,7 +17,7 @@ test_of p = p.before.before.before
 returns : tie.Need-returns
 returns c =
     let a = (start_of c.before).args in
-    reduced-none a.out.now a.at a.numbers.now c.before.main-returned.ensures c.if1.true
+    reduced_none a.out.now a.at a.numbers.now c.before.main-returned.ensures c.if1.true
 
 returns-2 : tie.Need-returns-2
 returns-2 c =
@@ -26,7 +26,7 @@ returns-2 c =
     let p = bytes_of w in
     let i = test_of p in
     let a = (start_of i.before).args in
-    reduced-stored a.out.now a.at a.numbers.now i.before.main-returned.ensures _ _ _ _ i.if1.left
+    reduced_stored a.out.now a.at a.numbers.now i.before.main-returned.ensures _ _ _ _ i.if1.left
     w.word.ensures f.before.before.before.word2.ensures f.before.before.word3.ensures f.before.word4.ensures p.put-bytes.ensures f.put_four.ensures
 
 pub put-reduced-spec : {M : Type 1} → statement M

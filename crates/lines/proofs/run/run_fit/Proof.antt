@@ -1,7 +1,7 @@
 -- The parts of the arrays are zeros, and the part of the input is the records.
 use Prim.Native.Nat.{◌*◌}
 use native.Mathlib.Omega.{arith}
-use Rattle.lines.proofs.Whole.{length_part, fit-stored}
+use Rattle.lines.proofs.Whole.{length_part, fit_stored}
 use borrow.Author.Rules.{rules}
 use Rattle.lines.proofs.run.run_fit.Statement.{statement}
 use Rattle.lines.proofs.run.run_fit.Tie as tie
@@ -71,7 +71,7 @@ returns c =
     let p1 = c.before.before.before.before.before.before in
     let p2 = p1.before.before.before.before.before.before.before.before.before in
     let a = p2.args in
-    fit-stored a.workers a.n a.nodes a.at a.input.now a.out.now 256 2048 1024 4096 p2.requires.0 (omega (arith, p2.requires.1)) p2.requires.1 (omega (arith, p2.requires.3))
+    fit_stored a.workers a.n a.nodes a.at a.input.now a.out.now 256 2048 1024 4096 p2.requires.0 (omega (arith, p2.requires.1)) p2.requires.1 (omega (arith, p2.requires.3))
     p1.run_on.ensures
 
 pub run-fit-spec : {M : Type 1} → statement M

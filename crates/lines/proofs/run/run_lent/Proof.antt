@@ -44,14 +44,14 @@ use denote.Triple.Statement.{Triple}
 use denote.Triple.Table.{entered, cited}
 use denote.Triple.Walked.{says, needs, Stays, stay_slice, stay_none, stay_none_slice, walk_of, Walks, ends_at, walked, Goes-slice, Goes-none, Goes-none_slice, walk_Meets}
 use borrow.Author.Rules.{scaled_Fits}
-use Rattle.frames.proofs.Lent.{at-list, Mine, Yours, ty_at, exit-unless, exit-if, leave-if, fork, skipped, regroup, matched, matched-last, const, is_true, is_false, not-not, differ, widen, less-fits, after, turn-of, take_out, put_in, put_back, look-out, look-back, free_all}
+use Rattle.frames.proofs.Lent.{at_list, Mine, Yours, ty_at, exit_unless, exit_if, leave_if, fork, skipped, regroup, matched, matched_last, const, is_true, is_false, not_not, differ, widen, less_fits, after, turn_of_lem, take_out, put_in, put_back, look_out, look_back, free_all}
 use lib.ListN.{replicate}
 use types.Part.{rep}
 use denote.Plain.{uint_Lawful}
 use denote.Array.{Array, array_val, array_vals, Array-Tells, Array-Makes}
-use Rattle.frames.proofs.Local.{listVal, array-is, array-fits, open-local, shut-local}
+use Rattle.frames.proofs.Local.{list_val, array_is, array_fits, open_local, shut_local}
 use Rattle.semantics.specs.Promises.{parts}
-use Rattle.lines.specs.Lines.{runLines, lentTable}
+use Rattle.lines.specs.Lines.{run_lines, lent_table}
 use Rattle.lines.specs.Output.{StoresUpTo}
 use Rattle.lines.proofs.Called.free_place as S-free-place
 use Rattle.frames.proofs.free_place.Symbol as D-free-place
@@ -111,7 +111,7 @@ module _ {M : Type 1} {𝓤 : Ura M} (𝓛 : Logic 𝓤) (mem : Memory → SProp
   n-out = length out
 
   abbrev args' : Bor (List ℕ) × (Bor (List ℕ) × (Bor (List ℕ) × (ℕ × (Bor (List ℕ) × (Bor (List ℕ) × (Bor (List ℕ) × (Bor (List ℕ) × (Bor (List ℕ) × (Bor (List ℕ) × (ℕ × Unit {0}))))))))))
-  args' = (at-list b-numbers o-numbers γ-numbers numbers, (at-list b-deques o-deques γ-deques deques, (at-list b-memory o-memory γ-memory memory, (workers, (at-list b-values o-values γ-values values, (at-list b-pool o-pool γ-pool pool, (at-list b-work o-work γ-work work, (at-list b-records o-records γ-records records, (at-list b-answers o-answers γ-answers answers, (at-list b-out o-out γ-out out, (at, tt)))))))))))
+  args' = (at_list b-numbers o-numbers γ-numbers numbers, (at_list b-deques o-deques γ-deques deques, (at_list b-memory o-memory γ-memory memory, (workers, (at_list b-values o-values γ-values values, (at_list b-pool o-pool γ-pool pool, (at_list b-work o-work γ-work work, (at_list b-records o-records γ-records records, (at_list b-answers o-answers γ-answers answers, (at_list b-out o-out γ-out out, (at, tt)))))))))))
 
   abbrev vals' : Vals f'.signature (κ-numbers, (κ-deques, (κ-memory, (κ-values, (κ-pool, (κ-work, (κ-records, (κ-answers, (κ-out, tt)))))))))
   vals' = (slice_val (b-numbers, o-numbers) (length numbers) ∷ [], (slice_val (b-deques, o-deques) (length deques) ∷ [], (slice_val (b-memory, o-memory) (length memory) ∷ [], (vint w32 workers ∷ [], (slice_val (b-values, o-values) (length values) ∷ [], (slice_val (b-pool, o-pool) (length pool) ∷ [], (slice_val (b-work, o-work) (length work) ∷ [], (slice_val (b-records, o-records) (length records) ∷ [], (slice_val (b-answers, o-answers) (length answers) ∷ [], (slice_val (b-out, o-out) (length out) ∷ [], (vint w64 at ∷ [], tt)))))))))))
@@ -131,10 +131,10 @@ module _ {M : Type 1} {𝓤 : Ura M} (𝓛 : Logic 𝓤) (mem : Memory → SProp
   room-frames : Room R-Frame n-frames
   room-frames = (lit< tt, lit< tt)
 
-  exits' : (res' : ℕ) (zs-numbers : List ℕ) (zs-deques : List ℕ) (zs-memory : List ℕ) (zs-pool : List ℕ) (zs-work : List ℕ) (zs-answers : List ℕ) (zs-out : List ℕ) → res' < 2 ^ 64 → StoresUpTo (11 * length answers + 99) out at (runLines (parts numbers deques lentTable) memory workers values pool work records answers) zs-out res' → length zs-numbers ≡ length numbers → length zs-deques ≡ length deques → length zs-memory ≡ length memory → length zs-pool ≡ length pool → length zs-work ≡ length work → length zs-answers ≡ length answers → length zs-out ≡ length out → ent 𝓤 (⋆ 𝓛 (‵ (Mine u32 κ-numbers q-numbers γ-numbers b-numbers o-numbers n-numbers zs-numbers) ∷ ‵ (Mine u32 κ-deques q-deques γ-deques b-deques o-deques n-deques zs-deques) ∷ ‵ (Mine u32 κ-memory q-memory γ-memory b-memory o-memory n-memory zs-memory) ∷ ‵ (Yours u32 κ-values q-values γ-values b-values o-values n-values values) ∷ ‵ (Mine u32 κ-pool q-pool γ-pool b-pool o-pool n-pool zs-pool) ∷ ‵ (Mine u32 κ-work q-work γ-work b-work o-work n-work zs-work) ∷ ‵ (Yours u8 κ-records q-records γ-records b-records o-records n-records records) ∷ ‵ (Mine u32 κ-answers q-answers γ-answers b-answers o-answers n-answers zs-answers) ∷ ‵ (Mine u8 κ-out q-out γ-out b-out o-out n-out zs-out) ∷ [])) (Post (vint w64 res'))
-  exits' res' zs-numbers zs-deques zs-memory zs-pool zs-work zs-answers zs-out good' e' same_numbers same-deques same_memory same-pool same-work same-answers same_out =
+  exits' : (res' : ℕ) (zs-numbers : List ℕ) (zs-deques : List ℕ) (zs-memory : List ℕ) (zs-pool : List ℕ) (zs-work : List ℕ) (zs-answers : List ℕ) (zs-out : List ℕ) → res' < 2 ^ 64 → StoresUpTo (11 * length answers + 99) out at (run_lines (parts numbers deques lent_table) memory workers values pool work records answers) zs-out res' → length zs-numbers ≡ length numbers → length zs-deques ≡ length deques → length zs-memory ≡ length memory → length zs-pool ≡ length pool → length zs-work ≡ length work → length zs-answers ≡ length answers → length zs-out ≡ length out → ent 𝓤 (⋆ 𝓛 (‵ (Mine u32 κ-numbers q-numbers γ-numbers b-numbers o-numbers n-numbers zs-numbers) ∷ ‵ (Mine u32 κ-deques q-deques γ-deques b-deques o-deques n-deques zs-deques) ∷ ‵ (Mine u32 κ-memory q-memory γ-memory b-memory o-memory n-memory zs-memory) ∷ ‵ (Yours u32 κ-values q-values γ-values b-values o-values n-values values) ∷ ‵ (Mine u32 κ-pool q-pool γ-pool b-pool o-pool n-pool zs-pool) ∷ ‵ (Mine u32 κ-work q-work γ-work b-work o-work n-work zs-work) ∷ ‵ (Yours u8 κ-records q-records γ-records b-records o-records n-records records) ∷ ‵ (Mine u32 κ-answers q-answers γ-answers b-answers o-answers n-answers zs-answers) ∷ ‵ (Mine u8 κ-out q-out γ-out b-out o-out n-out zs-out) ∷ [])) (Post (vint w64 res'))
+  exits' res' zs-numbers zs-deques zs-memory zs-pool zs-work zs-answers zs-out good' e' same_numbers same-deques same_memory same-pool same_work same-answers same_out =
       qed 𝓛 (‵ (Mine u32 κ-numbers q-numbers γ-numbers b-numbers o-numbers n-numbers zs-numbers) ∷ ‵ (Mine u32 κ-deques q-deques γ-deques b-deques o-deques n-deques zs-deques) ∷ ‵ (Mine u32 κ-memory q-memory γ-memory b-memory o-memory n-memory zs-memory) ∷ ‵ (Yours u32 κ-values q-values γ-values b-values o-values n-values values) ∷ ‵ (Mine u32 κ-pool q-pool γ-pool b-pool o-pool n-pool zs-pool) ∷ ‵ (Mine u32 κ-work q-work γ-work b-work o-work n-work zs-work) ∷ ‵ (Yours u8 κ-records q-records γ-records b-records o-records n-records records) ∷ ‵ (Mine u32 κ-answers q-answers γ-answers b-answers o-answers n-answers zs-answers) ∷ ‵ (Mine u8 κ-out q-out γ-out b-out o-out n-out zs-out) ∷ []) ∵
-      suffices ! _ (ends_at 𝓛 f'.ended stayed (f'.clauses 𝓛 mem run) bound' (vint w64 res') res' (zs-numbers, (zs-deques, (zs-memory, (tt, (tt, (zs-pool, (zs-work, (tt, (zs-answers, (zs-out, (tt, tt))))))))))) (same_numbers, (same-deques, (same_memory, (tt, (tt, (same-pool, (same-work, (tt, (same-answers, (same_out, (tt, tt)))))))))))) $ says ! e' $
+      suffices ! _ (ends_at 𝓛 f'.ended stayed (f'.clauses 𝓛 mem run) bound' (vint w64 res') res' (zs-numbers, (zs-deques, (zs-memory, (tt, (tt, (zs-pool, (zs-work, (tt, (zs-answers, (zs-out, (tt, tt))))))))))) (same_numbers, (same-deques, (same_memory, (tt, (tt, (same-pool, (same_work, (tt, (same-answers, (same_out, (tt, tt)))))))))))) $ says ! e' $
       fsplit ! $ move ! (2 ∷ []) $ fsplit ! $ move ! (4 ∷ []) $ fsplit ! $ move ! (6 ∷ []) $ fsplit ! $ move ! (8 ∷ []) $ fsplit ! $ move ! (10 ∷ []) $ fsplit ! $ move ! (12 ∷ []) $ fsplit ! $ move ! (14 ∷ []) $ fsplit ! $ move ! (16 ∷ []) $ fsplit ! $ nothing ! $ move ! (18 ∷ 16 ∷ 14 ∷ 12 ∷ 10 ∷ 8 ∷ 6 ∷ 4 ∷ 2 ∷ 0 ∷ []) $ group ! 10 $ frame ! $
       nothing ! $ owned ! usize (Is usize) (uint_Makes 𝓛 w64) at _ (refl, at-fits) $ fjoin ! $ move ! (1 ∷ 0 ∷ []) $ fjoin ! $ move ! (1 ∷ 0 ∷ []) $ fjoin ! $ move ! (1 ∷ 0 ∷ []) $ fjoin ! $ move ! (1 ∷ 0 ∷ []) $ fjoin ! $ move ! (1 ∷ 0 ∷ []) $ fjoin ! $ move ! (1 ∷ 0 ∷ []) $ fjoin ! $ owned ! u32 (Is u32) (uint_Makes 𝓛 w32) workers _ (refl, workers-fits) $ fjoin ! $ move ! (1 ∷ 0 ∷ []) $ fjoin ! $ move ! (1 ∷ 0 ∷ []) $ fjoin ! $ move ! (1 ∷ 0 ∷ []) $ fjoin ! $ frame ! $
       owned ! usize (Is usize) (uint_Makes 𝓛 w64) res' _ (refl, good') $ done !
@@ -154,13 +154,13 @@ module _ {M : Type 1} {𝓤 : Ura M} (𝓛 : Logic 𝓤) (mem : Memory → SProp
         S-free-place.step mem run ! fm known-free-place 0 (lit< tt)
         (and_then ! (const ! _ tt) (no_more !)) (λ zero zero-good zero_is.
         land ! (from ! (stop !)) (init ! 43 refl ((LL.lawful M-Frame.the_type L-Frame.the_laws 𝓛).typed zero _ zero-good).0) $
-        assigns ! (rep ! 64 (load ! (from ! (stop !)) (look ! 43 refl))) (from ! (stop !)) (init ! 41 refl (array-fits 𝓛 R-Frame (LL.lawful M-Frame.the_type L-Frame.the_laws 𝓛) 64 (replicate 64 zero) _ (array-is R-Frame 64 zero (val-Frame zero) zero-good))) $
+        assigns ! (rep ! 64 (load ! (from ! (stop !)) (look ! 43 refl))) (from ! (stop !)) (init ! 41 refl (array_fits 𝓛 R-Frame (LL.lawful M-Frame.the_type L-Frame.the_laws 𝓛) 64 (replicate 64 zero) _ (array_is R-Frame 64 zero (val-Frame zero) zero-good))) $
         assigns ! (addr ! (from ! (fld ! refl (hop ! (look_in ! 65 (sub ! 0 refl (whole !))) (stop !))))) (from ! (stop !)) (init ! 39 refl (tt, tt)) $
         assigns ! (agg ! (and_then ! (load ! (from ! (stop !)) (look ! 39 refl)) (and_then ! (load ! (from ! (fld ! refl (stop !))) (look_in ! 65 (sub ! 1 refl (whole !)))) (no_more !)))) (from ! (stop !)) (init ! 37 refl (tt, (tt, (record { fits = room-numbers.0 }, tt)))) $
         assigns ! (addr ! (from ! (fld ! refl (hop ! (look_in ! 63 (sub ! 0 refl (whole !))) (stop !))))) (from ! (stop !)) (init ! 35 refl (tt, tt)) $
         assigns ! (agg ! (and_then ! (load ! (from ! (stop !)) (look ! 35 refl)) (and_then ! (load ! (from ! (fld ! refl (stop !))) (look_in ! 63 (sub ! 1 refl (whole !)))) (no_more !)))) (from ! (stop !)) (init ! 33 refl (tt, (tt, (record { fits = room-deques.0 }, tt)))) $
         move ! (41 ∷ []) $
-        open-local ! tt R-Frame tt (LL.makes M-Frame.the_type L-Frame.the_plain 𝓛) n-frames b-frames (replicate 64 zero) ((array_val (replicate 64 (val-Frame zero)))) (array-is R-Frame 64 zero (val-Frame zero) zero-good) room-frames (λ ν-frames γ-frames frames frames-is frames-length.
+        open_local ! tt R-Frame tt (LL.makes M-Frame.the_type L-Frame.the_plain 𝓛) n-frames b-frames (replicate 64 zero) ((array_val (replicate 64 (val-Frame zero)))) (array_is R-Frame 64 zero (val-Frame zero) zero-good) room-frames (λ ν-frames γ-frames frames frames-is frames-length.
         move ! (0 ∷ 2 ∷ 3 ∷ 4 ∷ 5 ∷ 6 ∷ 7 ∷ 8 ∷ 9 ∷ 10 ∷ 11 ∷ 12 ∷ 13 ∷ 14 ∷ 15 ∷ 16 ∷ 17 ∷ 18 ∷ 19 ∷ 20 ∷ 21 ∷ 22 ∷ 23 ∷ 24 ∷ 25 ∷ 26 ∷ 27 ∷ 28 ∷ 29 ∷ 30 ∷ 31 ∷ 32 ∷ 33 ∷ 34 ∷ 35 ∷ 36 ∷ 37 ∷ 38 ∷ 39 ∷ 40 ∷ 41 ∷ 42 ∷ 1 ∷ []) $
         assigns ! (addr ! (from ! (stop !))) (from ! (stop !)) (init ! 32 refl (tt, tt)) $
         assigns ! (agg ! (and_then ! (load ! (from ! (stop !)) (look ! 32 refl)) (and_then ! (const ! _ tt) (no_more !)))) (from ! (stop !)) (init ! 30 refl (tt, (tt, (record { fits = room-frames.0 }, tt)))) $
@@ -180,7 +180,7 @@ module _ {M : Type 1} {𝓤 : Ura M} (𝓛 : Logic 𝓤) (mem : Memory → SProp
         (λ ν-0 δ-0 ν-1 δ-1 ν-2 δ-2 ν-3 δ-3 ν-4 δ-4 ν-5 δ-5 ν-6 δ-6 ν-7 δ-7. and_then ! (load ! (from ! (stop !)) (look ! 39 refl)) (and_then ! (load ! (from ! (stop !)) (look ! 35 refl)) (and_then ! (load ! (from ! (stop !)) (look ! 31 refl)) (and_then ! (load ! (from ! (stop !)) (look ! 27 refl)) (and_then ! (load ! (from ! (stop !)) (look ! 61 refl)) (and_then ! (load ! (from ! (stop !)) (look ! 59 refl)) (and_then ! (load ! (from ! (stop !)) (look ! 23 refl)) (and_then ! (load ! (from ! (stop !)) (look ! 19 refl)) (and_then ! (load ! (from ! (stop !)) (look ! 53 refl)) (and_then ! (load ! (from ! (stop !)) (look ! 15 refl)) (and_then ! (load ! (from ! (stop !)) (look ! 11 refl)) (and_then ! (load ! (from ! (stop !)) (look ! 47 refl)) (no_more !))))))))))))) (λ r-2 numbers-2 deques-2 frames-2 memory-2 pool-2 work-2 answers-2 out-2 r-2-fits r-2-is same-numbers-2 same-deques-2 same-frames-2 same-memory-2 same-pool-2 same-work-2 same-answers-2 same-out-2.
         land ! (from ! (stop !)) (init ! 68 refl (tt, record { fits = r-2-fits })) $
         move ! (2 ∷ 42 ∷ []) $
-        shut-local ! tt R-Frame n-frames b-frames frames-2 (λ v-frames v-frames-is.
+        shut_local ! tt R-Frame n-frames b-frames frames-2 (λ v-frames v-frames-is.
         move ! (1 ∷ 2 ∷ 3 ∷ 4 ∷ 5 ∷ 6 ∷ 7 ∷ 8 ∷ 9 ∷ 10 ∷ 11 ∷ 12 ∷ 13 ∷ 14 ∷ 15 ∷ 16 ∷ 17 ∷ 18 ∷ 19 ∷ 20 ∷ 21 ∷ 22 ∷ 23 ∷ 24 ∷ 25 ∷ 26 ∷ 27 ∷ 28 ∷ 29 ∷ 30 ∷ 31 ∷ 32 ∷ 33 ∷ 34 ∷ 35 ∷ 36 ∷ 37 ∷ 38 ∷ 39 ∷ 40 ∷ 41 ∷ 0 ∷ []) $
         returns_within ! Post refl (look ! 67 refl) $ forget ! 9 refl $ forget ! 11 refl $ forget ! 13 refl $ forget ! 15 refl $ forget ! 17 refl $ forget ! 19 refl $ forget ! 21 refl $ forget ! 23 refl $ forget ! 25 refl $ forget ! 27 refl $ forget ! 29 refl $ forget ! 31 refl $ forget ! 33 refl $ forget ! 35 refl $ forget ! 37 refl $ forget ! 39 refl $ forget ! 41 refl $ forget ! 43 refl $ forget ! 45 refl $ forget ! 47 refl $ forget ! 49 refl $ forget ! 51 refl $ forget ! 53 refl $ forget ! 55 refl $ forget ! 57 refl $ forget ! 59 refl $ forget ! 61 refl $ forget ! 63 refl $ forget ! 65 refl $ forget ! 67 refl $
         free_all ! 9 refl $
@@ -207,5 +207,5 @@ run-lent-spec 𝓤 𝓛 𝓜 𝓡 =
     entered 𝓤 𝓛.H (triple_of 𝓛 f'.signature (f'.spec 𝓛 𝓜.mem 𝓡.run))
     (tables 𝓤 𝓛.H 𝓜 𝓡 code.env).C (tables 𝓤 𝓛.H 𝓜 𝓡 code.env).Λ #own code.function (code.unfolded 𝓤 𝓛.H 𝓜 𝓡)
     (meets 𝓛 𝓜.mem 𝓡.run (tables_of 𝓤 𝓛.H 𝓜 (tables 𝓤 𝓛.H 𝓜 𝓡 code.env))
-    (cited 𝓤 𝓛.H (S-free-place.Asked 𝓛 𝓜.mem 𝓡.run) 𝓜 𝓡 code.env #free-place D-free-place.routine code.calls-frames::free-place (T-free-place.met 𝓤 𝓛 𝓜 𝓡))
+    (cited 𝓤 𝓛.H (S-free-place.Asked 𝓛 𝓜.mem 𝓡.run) 𝓜 𝓡 code.env #free-place D-free-place.routine code.calls-frames::free_place_lem (T-free-place.met 𝓤 𝓛 𝓜 𝓡))
     (cited 𝓤 𝓛.H (S-run-calls.Asked 𝓛 𝓜.mem 𝓡.run) 𝓜 𝓡 code.env #run-calls D-run-calls.routine code.calls-lines::run::run-calls (T-run-calls.met 𝓤 𝓛 𝓜 𝓡)))

@@ -1,8 +1,8 @@
 -- The values are read, and the parts and the memory are zeros.
-use Rattle.memory.specs.Memory.{noMemory}
+use Rattle.memory.specs.Memory.{no_memory}
 use Rattle.semantics.specs.Entries.{zeros}
-use Rattle.lines.specs.Lines.{lentTable}
-use Rattle.lines.proofs.Calls.{run-read}
+use Rattle.lines.specs.Lines.{lent_table}
+use Rattle.lines.proofs.Calls.{run_read}
 use borrow.Author.Rules.{rules}
 use Rattle.lines.proofs.run.run_on.Statement.{statement}
 use Rattle.lines.proofs.run.run_on.Tie as tie
@@ -19,7 +19,7 @@ returns c =
     let r = c.before.before.before.before.before.before.before.before.before.before.before in
     let v = values_of r in
     let a = (start_of v).args in
-    run-read a.out.now a.at (zeros lentTable) noMemory a.workers _ _ a.pool.now a.work.now a.records.now a.answers.now v.read-values.ensures r.run_lent.ensures
+    run_read a.out.now a.at (zeros lent_table) no_memory a.workers _ _ a.pool.now a.work.now a.records.now a.answers.now v.read-values.ensures r.run_lent.ensures
 
 pub run-on-spec : {M : Type 1} → statement M
 run-on-spec =

@@ -44,10 +44,10 @@ use denote.Triple.Statement.{Triple}
 use denote.Triple.Table.{entered, cited}
 use denote.Triple.Walked.{says, needs, Stays, stay_slice, stay_none, stay_none_slice, walk_of, Walks, ends_at, walked, Goes-slice, Goes-none, Goes-none_slice, walk_Meets}
 use borrow.Author.Rules.{scaled_Fits}
-use Rattle.frames.proofs.Lent.{at-list, Mine, Yours, ty_at, exit-unless, exit-if, leave-if, fork, skipped, regroup, matched, matched-last, const, is_true, is_false, not-not, differ, widen, less-fits, after, turn-of, take_out, put_in, put_back, look-out, look-back, free_all}
+use Rattle.frames.proofs.Lent.{at_list, Mine, Yours, ty_at, exit_unless, exit_if, leave_if, fork, skipped, regroup, matched, matched_last, const, is_true, is_false, not_not, differ, widen, less_fits, after, turn_of_lem, take_out, put_in, put_back, look_out, look_back, free_all}
 use Rattle.semantics.specs.Promises.{parts}
-use Rattle.semantics.specs.Remembering.{tapeRemembering}
-use Rattle.lines.specs.Lines.{tapeLines}
+use Rattle.semantics.specs.Remembering.{tape_remembering}
+use Rattle.lines.specs.Lines.{tape_lines}
 use Rattle.lines.specs.Output.{StoresUpTo}
 use Rattle.soundness.specs.Layout.{two_words}
 use Rattle.lines.proofs.Called.splitter_tape as S-splitter-tape
@@ -121,7 +121,7 @@ module _ {M : Type 1} {𝓤 : Ura M} (𝓛 : Logic 𝓤) (mem : Memory → SProp
   n-out = length out
 
   abbrev args' : Bor (List ℕ) × (Bor (List ℕ) × (Bor (List Frame) × (Bor (List ℕ) × (Bor (List ℕ) × (Bor (List ℕ) × (Bor (List ℕ) × (Bor (List ℕ) × (Bor (List ℕ) × (ℕ × Unit {0})))))))))
-  args' = (at-list b-numbers o-numbers γ-numbers numbers, (at-list b-deques o-deques γ-deques deques, (at-list b-frames o-frames γ-frames frames, (at-list b-memory o-memory γ-memory memory, (at-list b-pool o-pool γ-pool pool, (at-list b-work o-work γ-work work, (at-list b-records o-records γ-records records, (at-list b-answers o-answers γ-answers answers, (at-list b-out o-out γ-out out, (at, tt))))))))))
+  args' = (at_list b-numbers o-numbers γ-numbers numbers, (at_list b-deques o-deques γ-deques deques, (at_list b-frames o-frames γ-frames frames, (at_list b-memory o-memory γ-memory memory, (at_list b-pool o-pool γ-pool pool, (at_list b-work o-work γ-work work, (at_list b-records o-records γ-records records, (at_list b-answers o-answers γ-answers answers, (at_list b-out o-out γ-out out, (at, tt))))))))))
 
   abbrev vals' : Vals f'.signature (κ-numbers, (κ-deques, (κ-frames, (κ-memory, (κ-pool, (κ-work, (κ-records, (κ-answers, (κ-out, tt)))))))))
   vals' = (slice_val (b-numbers, o-numbers) (length numbers) ∷ [], (slice_val (b-deques, o-deques) (length deques) ∷ [], (slice_val (b-frames, o-frames) (length frames) ∷ [], (slice_val (b-memory, o-memory) (length memory) ∷ [], (slice_val (b-pool, o-pool) (length pool) ∷ [], (slice_val (b-work, o-work) (length work) ∷ [], (slice_val (b-records, o-records) (length records) ∷ [], (slice_val (b-answers, o-answers) (length answers) ∷ [], (slice_val (b-out, o-out) (length out) ∷ [], (vint w64 at ∷ [], tt))))))))))
@@ -132,10 +132,10 @@ module _ {M : Type 1} {𝓤 : Ura M} (𝓛 : Logic 𝓤) (mem : Memory → SProp
   abbrev Post : Val → SProp 𝓤
   Post = (walk_of 𝓛 f'.ended stayed (f'.clauses 𝓛 mem run)).post bound'
 
-  exits' : (res' : ℕ) (zs-numbers : List ℕ) (zs-deques : List ℕ) (zs-frames : List Frame) (zs-memory : List ℕ) (zs-pool : List ℕ) (zs-work : List ℕ) (zs-answers : List ℕ) (zs-out : List ℕ) → res' < 2 ^ 64 → StoresUpTo (11 * length answers + 99) out at (tapeLines (tapeRemembering two_words (parts numbers deques frames) memory pool work records answers)) zs-out res' → length zs-numbers ≡ length numbers → length zs-deques ≡ length deques → length zs-frames ≡ length frames → length zs-memory ≡ length memory → length zs-pool ≡ length pool → length zs-work ≡ length work → length zs-answers ≡ length answers → length zs-out ≡ length out → ent 𝓤 (⋆ 𝓛 (‵ (Mine u32 κ-numbers q-numbers γ-numbers b-numbers o-numbers n-numbers zs-numbers) ∷ ‵ (Mine u32 κ-deques q-deques γ-deques b-deques o-deques n-deques zs-deques) ∷ ‵ (Mine R-Frame κ-frames q-frames γ-frames b-frames o-frames n-frames zs-frames) ∷ ‵ (Mine u32 κ-memory q-memory γ-memory b-memory o-memory n-memory zs-memory) ∷ ‵ (Mine u32 κ-pool q-pool γ-pool b-pool o-pool n-pool zs-pool) ∷ ‵ (Mine u32 κ-work q-work γ-work b-work o-work n-work zs-work) ∷ ‵ (Yours u8 κ-records q-records γ-records b-records o-records n-records records) ∷ ‵ (Mine u32 κ-answers q-answers γ-answers b-answers o-answers n-answers zs-answers) ∷ ‵ (Mine u8 κ-out q-out γ-out b-out o-out n-out zs-out) ∷ [])) (Post (vint w64 res'))
-  exits' res' zs-numbers zs-deques zs-frames zs-memory zs-pool zs-work zs-answers zs-out good' e' same_numbers same-deques same-frames same_memory same-pool same-work same-answers same_out =
+  exits' : (res' : ℕ) (zs-numbers : List ℕ) (zs-deques : List ℕ) (zs-frames : List Frame) (zs-memory : List ℕ) (zs-pool : List ℕ) (zs-work : List ℕ) (zs-answers : List ℕ) (zs-out : List ℕ) → res' < 2 ^ 64 → StoresUpTo (11 * length answers + 99) out at (tape_lines (tape_remembering two_words (parts numbers deques frames) memory pool work records answers)) zs-out res' → length zs-numbers ≡ length numbers → length zs-deques ≡ length deques → length zs-frames ≡ length frames → length zs-memory ≡ length memory → length zs-pool ≡ length pool → length zs-work ≡ length work → length zs-answers ≡ length answers → length zs-out ≡ length out → ent 𝓤 (⋆ 𝓛 (‵ (Mine u32 κ-numbers q-numbers γ-numbers b-numbers o-numbers n-numbers zs-numbers) ∷ ‵ (Mine u32 κ-deques q-deques γ-deques b-deques o-deques n-deques zs-deques) ∷ ‵ (Mine R-Frame κ-frames q-frames γ-frames b-frames o-frames n-frames zs-frames) ∷ ‵ (Mine u32 κ-memory q-memory γ-memory b-memory o-memory n-memory zs-memory) ∷ ‵ (Mine u32 κ-pool q-pool γ-pool b-pool o-pool n-pool zs-pool) ∷ ‵ (Mine u32 κ-work q-work γ-work b-work o-work n-work zs-work) ∷ ‵ (Yours u8 κ-records q-records γ-records b-records o-records n-records records) ∷ ‵ (Mine u32 κ-answers q-answers γ-answers b-answers o-answers n-answers zs-answers) ∷ ‵ (Mine u8 κ-out q-out γ-out b-out o-out n-out zs-out) ∷ [])) (Post (vint w64 res'))
+  exits' res' zs-numbers zs-deques zs-frames zs-memory zs-pool zs-work zs-answers zs-out good' e' same_numbers same-deques same-frames same_memory same-pool same_work same-answers same_out =
       qed 𝓛 (‵ (Mine u32 κ-numbers q-numbers γ-numbers b-numbers o-numbers n-numbers zs-numbers) ∷ ‵ (Mine u32 κ-deques q-deques γ-deques b-deques o-deques n-deques zs-deques) ∷ ‵ (Mine R-Frame κ-frames q-frames γ-frames b-frames o-frames n-frames zs-frames) ∷ ‵ (Mine u32 κ-memory q-memory γ-memory b-memory o-memory n-memory zs-memory) ∷ ‵ (Mine u32 κ-pool q-pool γ-pool b-pool o-pool n-pool zs-pool) ∷ ‵ (Mine u32 κ-work q-work γ-work b-work o-work n-work zs-work) ∷ ‵ (Yours u8 κ-records q-records γ-records b-records o-records n-records records) ∷ ‵ (Mine u32 κ-answers q-answers γ-answers b-answers o-answers n-answers zs-answers) ∷ ‵ (Mine u8 κ-out q-out γ-out b-out o-out n-out zs-out) ∷ []) ∵
-      suffices ! _ (ends_at 𝓛 f'.ended stayed (f'.clauses 𝓛 mem run) bound' (vint w64 res') res' (zs-numbers, (zs-deques, (zs-frames, (zs-memory, (zs-pool, (zs-work, (tt, (zs-answers, (zs-out, (tt, tt)))))))))) (same_numbers, (same-deques, (same-frames, (same_memory, (same-pool, (same-work, (tt, (same-answers, (same_out, (tt, tt))))))))))) $ says ! e' $
+      suffices ! _ (ends_at 𝓛 f'.ended stayed (f'.clauses 𝓛 mem run) bound' (vint w64 res') res' (zs-numbers, (zs-deques, (zs-frames, (zs-memory, (zs-pool, (zs-work, (tt, (zs-answers, (zs-out, (tt, tt)))))))))) (same_numbers, (same-deques, (same-frames, (same_memory, (same-pool, (same_work, (tt, (same-answers, (same_out, (tt, tt))))))))))) $ says ! e' $
       fsplit ! $ move ! (2 ∷ []) $ fsplit ! $ move ! (4 ∷ []) $ fsplit ! $ move ! (6 ∷ []) $ fsplit ! $ move ! (8 ∷ []) $ fsplit ! $ move ! (10 ∷ []) $ fsplit ! $ move ! (12 ∷ []) $ fsplit ! $ move ! (14 ∷ []) $ fsplit ! $ move ! (16 ∷ []) $ fsplit ! $ nothing ! $ move ! (18 ∷ 16 ∷ 14 ∷ 12 ∷ 10 ∷ 8 ∷ 6 ∷ 4 ∷ 2 ∷ 0 ∷ []) $ group ! 10 $ frame ! $
       nothing ! $ owned ! usize (Is usize) (uint_Makes 𝓛 w64) at _ (refl, at-fits) $ fjoin ! $ move ! (1 ∷ 0 ∷ []) $ fjoin ! $ move ! (1 ∷ 0 ∷ []) $ fjoin ! $ move ! (1 ∷ 0 ∷ []) $ fjoin ! $ move ! (1 ∷ 0 ∷ []) $ fjoin ! $ move ! (1 ∷ 0 ∷ []) $ fjoin ! $ move ! (1 ∷ 0 ∷ []) $ fjoin ! $ move ! (1 ∷ 0 ∷ []) $ fjoin ! $ move ! (1 ∷ 0 ∷ []) $ fjoin ! $ move ! (1 ∷ 0 ∷ []) $ fjoin ! $ frame ! $
       owned ! usize (Is usize) (uint_Makes 𝓛 w64) res' _ (refl, good') $ done !
@@ -170,7 +170,7 @@ module _ {M : Type 1} {𝓤 : Ura M} (𝓛 : Logic 𝓤) (mem : Memory → SProp
         (λ ν-0 δ-0 ν-1 δ-1 ν-2 δ-2 ν-3 δ-3 ν-4 δ-4 ν-5 δ-5 ν-6 δ-6. and_then ! (load ! (from ! (stop !)) (look ! 56 refl)) (and_then ! (load ! (from ! (stop !)) (look ! 52 refl)) (and_then ! (load ! (from ! (stop !)) (look ! 48 refl)) (and_then ! (load ! (from ! (stop !)) (look ! 44 refl)) (and_then ! (load ! (from ! (stop !)) (look ! 40 refl)) (and_then ! (load ! (from ! (stop !)) (look ! 36 refl)) (and_then ! (load ! (from ! (stop !)) (look ! 68 refl)) (and_then ! (load ! (from ! (stop !)) (look ! 32 refl)) (no_more !))))))))) (λ taped numbers-1 deques-1 frames-1 memory-1 pool-1 work-1 answers-1 taped-good taped-is same-numbers-1 same-deques-1 same-frames-1 same-memory-1 same-pool-1 same-work-1 same-answers-1.
         land ! (from ! (stop !)) (init ! 59 refl ((LL.lawful M-Taped.the_type L-Taped.the_laws 𝓛).typed taped _ taped-good).0) $
         assigns ! (bin ! (load ! (from ! (fld ! refl (stop !))) (look_in ! 59 (sub ! 0 refl (whole !)))) (const ! _ tt) tt) (from ! (stop !)) (init ! 29 refl (tt, tt)) $
-        leave-if ! (load ! (from ! (stop !)) (look ! 29 refl))
+        leave_if ! (load ! (from ! (stop !)) (look ! 29 refl))
         (λ test-2.
         assigns ! (addr ! (from ! (fld ! refl (hop ! (look_in ! 63 (sub ! 0 refl (whole !))) (stop !))))) (from ! (stop !)) (init ! 27 refl (tt, tt)) $
         assigns ! (agg ! (and_then ! (load ! (from ! (stop !)) (look ! 27 refl)) (and_then ! (load ! (from ! (fld ! refl (stop !))) (look_in ! 63 (sub ! 1 refl (whole !)))) (no_more !)))) (from ! (stop !)) (init ! 25 refl (tt, (tt, (record { fits = room_out.0 }, tt)))) $
@@ -200,7 +200,7 @@ module _ {M : Type 1} {𝓤 : Ura M} (𝓛 : Logic 𝓤) (mem : Memory → SProp
         returns_within ! Post refl (look ! 81 refl) $ forget ! 9 refl $ forget ! 11 refl $ forget ! 13 refl $ forget ! 15 refl $ forget ! 17 refl $ forget ! 19 refl $ forget ! 21 refl $ forget ! 23 refl $ forget ! 29 refl $ forget ! 31 refl $ forget ! 33 refl $ forget ! 35 refl $ forget ! 37 refl $ forget ! 39 refl $ forget ! 41 refl $ forget ! 43 refl $ forget ! 45 refl $ forget ! 47 refl $ forget ! 49 refl $ forget ! 51 refl $ forget ! 53 refl $ forget ! 55 refl $ forget ! 57 refl $ forget ! 59 refl $ forget ! 61 refl $ forget ! 63 refl $ forget ! 65 refl $ forget ! 67 refl $ forget ! 69 refl $ forget ! 71 refl $ forget ! 73 refl $ forget ! 75 refl $ forget ! 77 refl $ forget ! 79 refl $ forget ! 81 refl $
         free_all ! 9 refl $
         move ! (2 ∷ 4 ∷ 5 ∷ 6 ∷ 3 ∷ 7 ∷ 8 ∷ 1 ∷ 0 ∷ []) $
-        by ! (exits' r-5 numbers-1 deques-1 frames-1 memory-1 pool-1 work-1 answers-1 out-5 r-5-fits (F.out-6 numbers deques frames memory pool work records answers out at room-numbers.0 room-deques.0 room-frames.0 room-memory.0 room-pool.0 room-work.0 room-records.0 room-answers.0 room_out.0 at-fits taped numbers-1 deques-1 frames-1 memory-1 pool-1 work-1 answers-1 taped-is same-numbers-1 same-deques-1 same-frames-1 same-memory-1 same-pool-1 same-work-1 same-answers-1 (eqb→eq taped.result 0 (not-not (eqb taped.result 0) test-2)) r-5 out-5 r-5-fits r-5-is same-out-5) (same-numbers-1) (same-deques-1) (same-frames-1) (same-memory-1) (same-pool-1) (same-work-1) (same-answers-1) (same-out-5))))))))))))))))))))))))))))))))))))))))))
+        by ! (exits' r-5 numbers-1 deques-1 frames-1 memory-1 pool-1 work-1 answers-1 out-5 r-5-fits (F.out-6 numbers deques frames memory pool work records answers out at room-numbers.0 room-deques.0 room-frames.0 room-memory.0 room-pool.0 room-work.0 room-records.0 room-answers.0 room_out.0 at-fits taped numbers-1 deques-1 frames-1 memory-1 pool-1 work-1 answers-1 taped-is same-numbers-1 same-deques-1 same-frames-1 same-memory-1 same-pool-1 same-work-1 same-answers-1 (eqb→eq taped.result 0 (not_not (eqb taped.result 0) test-2)) r-5 out-5 r-5-fits r-5-is same-out-5) (same-numbers-1) (same-deques-1) (same-frames-1) (same-memory-1) (same-pool-1) (same-work-1) (same-answers-1) (same-out-5))))))))))))))))))))))))))))))))))))))))))
 
 module _ {M : Type 1} {𝓤 : Ura M} (𝓛 : Logic 𝓤) (mem : Memory → SProp 𝓤) (run : Routine → Fun 𝓤) (𝓣 : Tables 𝓤 𝓛.H) where
   open 𝓛 use {H}

@@ -1,6 +1,6 @@
 -- Unfit or not, by the test that the code makes; then the first line and the rest.
 use mathlib.Core.Path.{sym, ◌∙◌}
-use Rattle.lines.proofs.Whole.{output-unfit, output-fit, fit-numbers}
+use Rattle.lines.proofs.Whole.{output_unfit, output_fit, fit_numbers}
 use borrow.Author.Rules.{rules}
 use Rattle.lines.proofs.run.split_run.Statement.{statement}
 use Rattle.lines.proofs.run.split_run.Tie as tie
@@ -34,7 +34,7 @@ returns c =
     let p4 = p3.before in
     let p5 = p4.before in
     let p6 = p5.before.before.before.before in
-    output-unfit p6.args.input.now p6.args.out.now _ _ p5.splitters-in.ensures p4.nodes-in.ensures (sym p3.is-unfit.ensures ∙ p2.if1.true) p1.put-bytes.ensures
+    output_unfit p6.args.input.now p6.args.out.now _ _ p5.splitters-in.ensures p4.nodes-in.ensures (sym p3.is-unfit.ensures ∙ p2.if1.true) p1.put-bytes.ensures
 
 put-three-requires : tie.Need-put-three-requires
 put-three-requires c κs = search rules
@@ -43,7 +43,7 @@ run-fit-requires : tie.Need-run-fit-requires
 run-fit-requires c κs =
     let p1 = c.before.before.before.before.before in
     let p2 = p1.before in
-    fit-numbers _ _ _ (sym p2.is-unfit.ensures ∙ p1.if1.false)
+    fit_numbers _ _ _ (sym p2.is-unfit.ensures ∙ p1.if1.false)
 
 same-length-2 : tie.Need-same-length-2
 same-length-2 c = search rules
@@ -58,7 +58,7 @@ returns-2 c =
     let p6 = p5.before in
     let p7 = p6.before in
     let p8 = p7.before.before.before in
-    output-fit p8.args.input.now p8.args.out.now _ _ _ p7.workers-in.ensures p6.splitters-in.ensures p5.nodes-in.ensures
+    output_fit p8.args.input.now p8.args.out.now _ _ _ p7.workers-in.ensures p6.splitters-in.ensures p5.nodes-in.ensures
     (sym p4.is-unfit.ensures ∙ p3.if1.false) p2.put_three.ensures p1.run-fit.ensures
 
 pub split-run-spec : {M : Type 1} → statement M

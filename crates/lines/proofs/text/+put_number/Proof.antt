@@ -4,8 +4,8 @@ use native.Mathlib.Omega.{arith}
 use borrow.Author.Rules.{rules}
 use borrow.Fn.Kinds.{In}
 use borrow.Fn.PlainCycle.{Measures, is, falls, and}
-use Rattle.lines.specs.Theory.{stores-then}
-use Rattle.lines.proofs.Numbers.{decimal-one, decimal-more}
+use Rattle.lines.specs.Theory.{stores_then}
+use Rattle.lines.proofs.Numbers.{decimal_one, decimal_more}
 use Rattle.lines.proofs.text.put_number.Reads as put-number
 use Rattle.lines.proofs.text.put_number.Kinds as put-number-kinds
 use Rattle.lines.proofs.text.+put_number.Lts-put_number as put-number-lts
@@ -37,14 +37,14 @@ returns : (t : ℕ) → put-number-lts.Need-returns (calls t) (put-number-at t) 
 returns t c =
     let p1 = c.before.before in
     let p2 = p1.before.before in
-    rw (decimal-one _ p2.if1.true, ← p2.before.digit-of.ensures) p1.put_byte.ensures
+    rw (decimal_one _ p2.if1.true, ← p2.before.digit-of.ensures) p1.put_byte.ensures
 
 returns-2 : (t : ℕ) → put-number-lts.Need-returns-2 (calls t) (put-number-at t) put-number.Post
 returns-2 t c =
     let p1 = c.before.before in
     let p2 = p1.before.before.before.before in
     let p3 = p2.before.before in
-    rw (decimal-more _ p3.if1.false, ← p3.before.digit-of.ensures) (stores-then _ _ _ _ p2.put-number.ensures p1.put-byte2.ensures)
+    rw (decimal_more _ p3.if1.false, ← p3.before.digit-of.ensures) (stores_then _ _ _ _ p2.put-number.ensures p1.put-byte2.ensures)
 
 pub +put-number-spec : {M : Type 1} → statement M
 +put-number-spec = close μ-put-number λ t. put-number-lts.spec (calls t) (put-number-at t) put-number.Post

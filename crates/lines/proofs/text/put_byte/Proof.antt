@@ -1,6 +1,6 @@
 -- A byte that fits, and one that does not.
 use borrow.Author.Rules.{rules}
-use Rattle.lines.specs.Theory.{stores-byte, stores-none}
+use Rattle.lines.specs.Theory.{stores_byte, stores_none}
 use Rattle.lines.proofs.text.put_byte.Statement.{statement}
 use Rattle.lines.proofs.text.put_byte.Tie as tie
 
@@ -14,10 +14,10 @@ same_length : tie.Need-same-length
 same_length c = search rules
 
 returns : tie.Need-returns
-returns c = stores-byte _ _ _ c.if1.true
+returns c = stores_byte _ _ _ c.if1.true
 
 returns-2 : tie.Need-returns-2
-returns-2 c = stores-none _ _ _ c.if1.false
+returns-2 c = stores_none _ _ _ c.if1.false
 
 pub put-byte-spec : {M : Type 1} → statement M
 put-byte-spec = tie.close (tie.spec slice-write-out add-result same_length returns returns-2)

@@ -4,15 +4,15 @@ use Prim.Native.Nat.{◌≤◌, ◌-◌}
 use native.Mathlib.Omega.{arith}
 use lib.ListN.{length, drop, drop_of_length-le}
 use borrow.Author.Rules.{rules}
-use Rattle.lines.specs.Output.{storeAll}
-use Rattle.lines.specs.Theory.{stores-turn, stores-end}
+use Rattle.lines.specs.Output.{store_all}
+use Rattle.lines.specs.Theory.{stores_turn, stores_end}
 use Rattle.lines.specs.Theory.Returned.{drop_more}
 use Rattle.lines.proofs.text.put_bytes.Statement.{statement}
 use Rattle.lines.proofs.text.put_bytes.Tie as tie
 
 abbrev invariant-loop : tie.invariant-loop
 invariant-loop out₀ at bytes to₀ i₀ out to i =
-    (storeAll (out, to) (drop i bytes) ≡ storeAll (out₀, at) bytes) × (i ≤ length bytes) × (length out ≡ length out₀)
+    (store_all (out, to) (drop i bytes) ≡ store_all (out₀, at) bytes) × (i ≤ length bytes) × (length out ≡ length out₀)
 
 abbrev decreases-loop : tie.decreases-loop
 decreases-loop out₀ at bytes to₀ i₀ out to i = length bytes - i
@@ -44,13 +44,13 @@ loop-again c =
     let call = p1.put_byte in
     let test = p2.loop-test in
     let l = p3.loop in
-    (stores-turn _ _ _ _ _ (drop_more _ _ test.true) call.ensures ∙ l.invariant.0, omega (arith, test.true), call.auto.0 ∙ l.invariant.2)
+    (stores_turn _ _ _ _ _ (drop_more _ _ test.true) call.ensures ∙ l.invariant.0, omega (arith, test.true), call.auto.0 ∙ l.invariant.2)
 
 same_length : tie.Need-same-length invariant-loop decreases-loop
 same_length c = search rules
 
 returns : tie.Need-returns invariant-loop decreases-loop
-returns c = stores-end _ _ _ (drop_of_length-le _ c.loop-test.false) c.before.loop.invariant.0
+returns c = stores_end _ _ _ (drop_of_length-le _ c.loop-test.false) c.before.loop.invariant.0
 
 pub put-bytes-spec : {M : Type 1} → statement M
 put-bytes-spec =

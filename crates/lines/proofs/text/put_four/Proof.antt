@@ -1,7 +1,7 @@
 -- The parts of the line, one after another.
-use Rattle.lines.proofs.Sizes.{four-short}
+use Rattle.lines.proofs.Sizes.{four_short}
 use Rattle.lines.specs.Lines.{decimal}
-use Rattle.lines.specs.Theory.{stores-field}
+use Rattle.lines.specs.Theory.{stores_field}
 use borrow.Author.Rules.{rules}
 use Rattle.lines.proofs.text.put_four.Statement.{statement}
 use Rattle.lines.proofs.text.put_four.Tie as tie
@@ -28,10 +28,10 @@ returns c =
     let p3 = p2.before.before.before.before in
     let p4 = p3.before.before.before.before in
     let p5 = p4.before.before.before in (
-      stores-field _ _ (decimal p5.args.a) 32 _ p4.put-field.ensures
-          (stores-field _ _ (decimal p5.args.b) 32 _ p3.put-field2.ensures
-          (stores-field _ _ (decimal p5.args.c) 32 _ p2.put-field3.ensures p1.put_last.ensures)),
-      four-short _ _ _ _ (search rules) (search rules) (search rules) (search rules),
+      stores_field _ _ (decimal p5.args.a) 32 _ p4.put-field.ensures
+          (stores_field _ _ (decimal p5.args.b) 32 _ p3.put-field2.ensures
+          (stores_field _ _ (decimal p5.args.c) 32 _ p2.put-field3.ensures p1.put_last.ensures)),
+      four_short _ _ _ _ (search rules) (search rules) (search rules) (search rules),
     )
 
 pub put-four-spec : {M : Type 1} → statement M

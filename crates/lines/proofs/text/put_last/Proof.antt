@@ -1,5 +1,5 @@
 -- The parts of the line, one after another.
-use Rattle.lines.specs.Theory.{stores-then}
+use Rattle.lines.specs.Theory.{stores_then}
 use borrow.Author.Rules.{rules}
 use Rattle.lines.proofs.text.put_last.Statement.{statement}
 use Rattle.lines.proofs.text.put_last.Tie as tie
@@ -17,7 +17,7 @@ returns : tie.Need-returns
 returns c =
     let p1 = c.before.before in
     let p2 = p1.before.before.before.before in
-    stores-then _ _ _ _ p2.put-number.ensures p1.put_byte.ensures
+    stores_then _ _ _ _ p2.put-number.ensures p1.put_byte.ensures
 
 pub put-last-spec : {M : Type 1} → statement M
 put-last-spec = tie.close (tie.spec put-number-requires put-byte-requires same_length returns)

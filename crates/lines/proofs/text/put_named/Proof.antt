@@ -1,5 +1,5 @@
 -- The parts of the line, one after another.
-use Rattle.lines.specs.Theory.{stores-then}
+use Rattle.lines.specs.Theory.{stores_then}
 use borrow.Author.Rules.{rules}
 use Rattle.lines.proofs.text.put_named.Statement.{statement}
 use Rattle.lines.proofs.text.put_named.Tie as tie
@@ -17,7 +17,7 @@ returns : tie.Need-returns
 returns c =
     let p1 = c.before.before in
     let p2 = p1.before.before.before.before in
-    stores-then _ _ _ _ p2.put-bytes.ensures p1.put_last.ensures
+    stores_then _ _ _ _ p2.put-bytes.ensures p1.put_last.ensures
 
 pub put-named-spec : {M : Type 1} → statement M
 put-named-spec = tie.close (tie.spec put-bytes-requires put-last-requires same_length returns)

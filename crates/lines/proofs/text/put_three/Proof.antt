@@ -1,7 +1,7 @@
 -- The parts of the line, one after another.
-use Rattle.lines.proofs.Sizes.{three-short}
+use Rattle.lines.proofs.Sizes.{three_short}
 use Rattle.lines.specs.Lines.{decimal}
-use Rattle.lines.specs.Theory.{stores-field}
+use Rattle.lines.specs.Theory.{stores_field}
 use borrow.Author.Rules.{rules}
 use Rattle.lines.proofs.text.put_three.Statement.{statement}
 use Rattle.lines.proofs.text.put_three.Tie as tie
@@ -24,9 +24,9 @@ returns c =
     let p2 = p1.before.before.before.before in
     let p3 = p2.before.before.before.before in
     let p4 = p3.before.before.before in (
-      stores-field _ _ (decimal p4.args.a) 32 _ p3.put-field.ensures
-          (stores-field _ _ (decimal p4.args.b) 32 _ p2.put-field2.ensures p1.put_last.ensures),
-      three-short _ _ _ (search rules) (search rules) (search rules),
+      stores_field _ _ (decimal p4.args.a) 32 _ p3.put-field.ensures
+          (stores_field _ _ (decimal p4.args.b) 32 _ p2.put-field2.ensures p1.put_last.ensures),
+      three_short _ _ _ (search rules) (search rules) (search rules),
     )
 
 pub put-three-spec : {M : Type 1} → statement M

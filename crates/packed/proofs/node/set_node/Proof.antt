@@ -1,10 +1,10 @@
 use borrow.Author.Rules.{rules}
-use Rattle.packed.specs.Pool.{setNode}
+use Rattle.packed.specs.Pool.{set_node}
 use Rattle.packed.proofs.node.set_node.Statement.{statement}
 use Rattle.packed.proofs.node.set_node.Tie as tie
 
 returns : tie.Need-returns
-unfolding setNode
+unfolding set_node
 returns c = cc
 
 pub set-node-spec : {M : Type 1} → statement M

@@ -5,8 +5,8 @@ use borrow.Author.Rules.{rules}
 use borrow.Fn.Kinds.{In}
 use borrow.Fn.PlainCycle.{Measures, is, falls, and}
 use Rattle.packed.proofs.Words.{left-half, right-half}
-use Rattle.packed.proofs.Laws.{parts₃, release-leaf, release-inner}
-use Rattle.packed.proofs.Freeing.{to_free, freed-now, kept-now}
+use Rattle.packed.proofs.Laws.{parts₃, release_leaf, release-inner}
+use Rattle.packed.proofs.Freeing.{to_free, freed_now, kept_now}
 use Rattle.packed.proofs.refs.free_tree.Reads as free-tree
 use Rattle.packed.proofs.refs.free_tree.Kinds as free-tree-kinds
 use Rattle.packed.proofs.refs.+free_tree.Lts-free_tree as free-tree-lts
@@ -52,7 +52,7 @@ returns t c =
     let p1 = c.before in
     let p2 = p1.before.before.before.before in
     let p3 = p2.before.before.before.before.before in
-    rw (p2.store-node.ensures, p1.add.ensures) (parts₃ (release-leaf _ _ _ _ _ _ p3.requires.1.2 p3.requires.1.3 c.if1.true))
+    rw (p2.store-node.ensures, p1.add.ensures) (parts₃ (release_leaf _ _ _ _ _ _ p3.requires.1.2 p3.requires.1.3 c.if1.true))
 
 let-go-requires : (t : ℕ) → free-tree-lts.Need-let-go-requires (calls t) (free-tree-at t) free-tree.Post
 let-go-requires t c κs =
@@ -102,8 +102,8 @@ returns-2 t c =
     let p11 = p10.before.before.before in
     release-inner _ _ _ _ _ _ _ _ (p11.requires.1.1, p11.requires.1.2, p11.requires.1.3) p7.if1.false
     (left-half _ _ _ p10.content-in.ensures) (right-half _ _ p10.content-in.result (search rules) p10.content-in.ensures) p9.store-node.ensures p8.add.ensures
-    (freed-now _ _ _ _ _ _ _ _ p5.if2.true p6.let_go.ensures p4.free-tree.ensures)
-    (freed-now _ _ _ _ _ _ _ _ p2.if3.true p3.let-go2.ensures p1.free-tree2.ensures)
+    (freed_now _ _ _ _ _ _ _ _ p5.if2.true p6.let_go.ensures p4.free-tree.ensures)
+    (freed_now _ _ _ _ _ _ _ _ p2.if3.true p3.let-go2.ensures p1.free-tree2.ensures)
 
 returns-3 : (t : ℕ) → free-tree-lts.Need-returns-3 (calls t) (free-tree-at t) free-tree.Post
 returns-3 t c =
@@ -118,8 +118,8 @@ returns-3 t c =
     let p9 = p8.before.before.before in
     release-inner _ _ _ _ _ _ _ _ (p9.requires.1.1, p9.requires.1.2, p9.requires.1.3) p5.if1.false
     (left-half _ _ _ p8.content-in.ensures) (right-half _ _ p8.content-in.result (search rules) p8.content-in.ensures) p7.store-node.ensures p6.add.ensures
-    (freed-now _ _ _ _ _ _ _ _ p3.if2.true p4.let_go.ensures p2.free-tree.ensures)
-    (kept-now _ _ _ _ _ _ _ _ c.if3.false p1.let-go2.ensures)
+    (freed_now _ _ _ _ _ _ _ _ p3.if2.true p4.let_go.ensures p2.free-tree.ensures)
+    (kept_now _ _ _ _ _ _ _ _ c.if3.false p1.let-go2.ensures)
 
 -- the left link's node is kept
 let-go-requires-3 : (t : ℕ) → free-tree-lts.Need-let-go-requires-3 (calls t) (free-tree-at t) free-tree.Post
@@ -152,8 +152,8 @@ returns-4 t c =
     let p10 = p9.before.before.before in
     release-inner _ _ _ _ _ _ _ _ (p10.requires.1.1, p10.requires.1.2, p10.requires.1.3) p6.if1.false
     (left-half _ _ _ p9.content-in.ensures) (right-half _ _ p9.content-in.result (search rules) p9.content-in.ensures) p8.store-node.ensures p7.add.ensures
-    (kept-now _ _ _ _ _ _ _ _ p4.if2.false p5.let_go.ensures)
-    (freed-now _ _ _ _ _ _ _ _ p2.if4.true p3.let-go3.ensures p1.free-tree3.ensures)
+    (kept_now _ _ _ _ _ _ _ _ p4.if2.false p5.let_go.ensures)
+    (freed_now _ _ _ _ _ _ _ _ p2.if4.true p3.let-go3.ensures p1.free-tree3.ensures)
 
 returns-5 : (t : ℕ) → free-tree-lts.Need-returns-5 (calls t) (free-tree-at t) free-tree.Post
 returns-5 t c =
@@ -167,7 +167,7 @@ returns-5 t c =
     let p8 = p7.before.before.before in
     release-inner _ _ _ _ _ _ _ _ (p8.requires.1.1, p8.requires.1.2, p8.requires.1.3) p4.if1.false
     (left-half _ _ _ p7.content-in.ensures) (right-half _ _ p7.content-in.result (search rules) p7.content-in.ensures) p6.store-node.ensures p5.add.ensures
-    (kept-now _ _ _ _ _ _ _ _ p2.if2.false p3.let_go.ensures) (kept-now _ _ _ _ _ _ _ _ c.if4.false p1.let-go3.ensures)
+    (kept_now _ _ _ _ _ _ _ _ p2.if2.false p3.let_go.ensures) (kept_now _ _ _ _ _ _ _ _ c.if4.false p1.let-go3.ensures)
 
 pub +free-tree-spec : {M : Type 1} → statement M
 +free-tree-spec = close μ-free-tree λ t. free-tree-lts.spec (calls t) (free-tree-at t) free-tree.Post

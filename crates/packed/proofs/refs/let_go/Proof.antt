@@ -1,7 +1,7 @@
 use mathlib.Core.Path.{refl}
 use borrow.Author.Rules.{rules}
-use Rattle.packed.specs.Pool.{refcount, setRefcount}
-use Rattle.packed.proofs.Laws.{release-none, release-held}
+use Rattle.packed.specs.Pool.{refcount, set_refcount}
+use Rattle.packed.proofs.Laws.{release-none, release_held}
 use Rattle.packed.proofs.refs.let_go.Statement.{statement}
 use Rattle.packed.proofs.refs.let_go.Tie as tie
 
@@ -9,8 +9,8 @@ returns : tie.Need-returns
 returns c = λ l f k. release-none _ l _ f k _ c.if1.true
 
 returns-2 : tie.Need-returns-2
-unfolding setRefcount refcount
-returns-2 c = λ l f k. release-held _ l _ f k _ c.before.before.if1.false c.if2.true
+unfolding set_refcount refcount
+returns-2 c = λ l f k. release_held _ l _ f k _ c.before.before.if1.false c.if2.true
 
 returns-3 : tie.Need-returns-3
 unfolding refcount

@@ -1,6 +1,6 @@
 use native.Mathlib.Omega.{arith}
 use borrow.Author.Rules.{rules}
-use Rattle.packed.proofs.Freeing.{to_free, freed-now, kept-now}
+use Rattle.packed.proofs.Freeing.{to_free, freed_now, kept_now}
 use Rattle.packed.proofs.refs.release.Statement.{statement}
 use Rattle.packed.proofs.refs.release.Tie as tie
 
@@ -16,10 +16,10 @@ returns c =
     let freed = c.before.before in
     let test = freed.before.before.before in
     let gone = test.before.before.before in
-    freed-now _ _ _ _ _ _ _ _ test.if1.true gone.let_go.ensures freed.free-tree.ensures
+    freed_now _ _ _ _ _ _ _ _ test.if1.true gone.let_go.ensures freed.free-tree.ensures
 
 returns-2 : tie.Need-returns-2
-returns-2 c = kept-now _ _ _ _ _ _ _ _ c.if1.false c.before.before.before.let_go.ensures
+returns-2 c = kept_now _ _ _ _ _ _ _ _ c.if1.false c.before.before.before.let_go.ensures
 
 pub release_spec : {M : Type 1} → statement M
 release_spec =

@@ -1,19 +1,19 @@
 use native.Mathlib.Omega.{arith}
 use borrow.Author.Rules.{rules}
 use borrow.Author.Tests.{eq-eqb, ne_eqb}
-use Rattle.pool.specs.Theory.Links.{link-in}
-use Rattle.packed.specs.Pool.{refcount, setRefcount, retain}
+use Rattle.pool.specs.Theory.Links.{link_in_lem}
+use Rattle.packed.specs.Pool.{refcount, set_refcount, retain}
 use Rattle.packed.proofs.refs.retain.Statement.{statement}
 use Rattle.packed.proofs.refs.retain.Tie as tie
 
 slice-read-add : tie.Need-slice-read-add
-slice-read-add c = omega (arith, link-in c.before.before.before.requires.1 c.before.if1.true)
+slice-read-add c = omega (arith, link_in_lem c.before.before.before.requires.1 c.before.if1.true)
 
 slice-write-pool : tie.Need-slice-write-pool
-slice-write-pool c = omega (arith, link-in c.before.before.before.before.requires.1 c.before.before.if1.true)
+slice-write-pool c = omega (arith, link_in_lem c.before.before.before.before.requires.1 c.before.before.if1.true)
 
 returns : tie.Need-returns
-unfolding retain setRefcount refcount
+unfolding retain set_refcount refcount
 returns c = rw (ne_eqb _ _ c.before.before.if1.true, c.add.ensures)
 
 returns-2 : tie.Need-returns-2

@@ -3,13 +3,13 @@ use mathlib.Core.Path.{◌≡◌, refl, ◌∙◌}
 use native.Mathlib.Omega.{arith}
 use borrow.Author.Rules.{rules}
 use lib.ListN.{length}
-use Rattle.packed.specs.Pool.{initFree}
-use Rattle.packed.proofs.Laws.{free_step, free-end}
+use Rattle.packed.specs.Pool.{init_free}
+use Rattle.packed.proofs.Laws.{free_step, free_end}
 use Rattle.packed.proofs.start.init_free.Statement.{statement}
 use Rattle.packed.proofs.start.init_free.Tie as tie
 
 abbrev invariant-loop : tie.invariant-loop
-invariant-loop pool₀ count first c₀ i₀ pool c i = (initFree c pool i ≡ initFree count pool₀ first) × (length pool ≡ length pool₀)
+invariant-loop pool₀ count first c₀ i₀ pool c i = (init_free c pool i ≡ init_free count pool₀ first) × (length pool ≡ length pool₀)
 
 abbrev decreases-loop : tie.decreases-loop
 decreases-loop pool₀ count first c₀ i₀ pool c i = c
@@ -26,7 +26,7 @@ loop-again c =
     )
 
 returns : tie.Need-returns invariant-loop decreases-loop
-returns c = free-end _ _ _ c.loop-test.false ∙ c.before.loop.invariant.0
+returns c = free_end _ _ _ c.loop-test.false ∙ c.before.loop.invariant.0
 
 pub init-free-spec : {M : Type 1} → statement M
 init-free-spec =

@@ -3,14 +3,14 @@ use mathlib.Core.Path.{◌≡◌, refl, ◌∙◌}
 use native.Mathlib.Omega.{arith}
 use borrow.Author.Rules.{rules}
 use lib.ListN.{length}
-use Rattle.packed.specs.Pool.{initInner}
-use Rattle.packed.proofs.Laws.{parts, inner-step, inner-end}
+use Rattle.packed.specs.Pool.{init_inner}
+use Rattle.packed.proofs.Laws.{parts, inner-step, inner_end}
 use Rattle.packed.proofs.start.init_inner.Statement.{statement}
 use Rattle.packed.proofs.start.init_inner.Tie as tie
 
 abbrev invariant-loop : tie.invariant-loop
 invariant-loop pool₀ height n first l₀ i₀ pool l i =
-    (initInner l pool n i ≡ initInner height pool₀ n first) × (length pool ≡ length pool₀)
+    (init_inner l pool n i ≡ init_inner height pool₀ n first) × (length pool ≡ length pool₀)
 
 abbrev decreases-loop : tie.decreases-loop
 decreases-loop pool₀ height n first l₀ i₀ pool l i = l
@@ -29,7 +29,7 @@ loop-again c =
     )
 
 returns : tie.Need-returns invariant-loop decreases-loop
-returns c = parts (inner-end _ _ _ _ c.loop-test.false ∙ c.before.loop.invariant.0)
+returns c = parts (inner_end _ _ _ _ c.loop-test.false ∙ c.before.loop.invariant.0)
 
 pub init-inner-spec : {M : Type 1} → statement M
 init-inner-spec =

@@ -3,14 +3,14 @@ use mathlib.Core.Path.{◌≡◌, refl, ◌∙◌}
 use native.Mathlib.Omega.{arith}
 use borrow.Author.Rules.{rules}
 use lib.ListN.{length}
-use Rattle.packed.specs.Pool.{initLeaves}
-use Rattle.packed.proofs.Laws.{leaves-step, leaves-end}
+use Rattle.packed.specs.Pool.{init_leaves}
+use Rattle.packed.proofs.Laws.{leaves-step, leaves_end}
 use Rattle.packed.proofs.start.init_leaves.Statement.{statement}
 use Rattle.packed.proofs.start.init_leaves.Tie as tie
 
 abbrev invariant-loop : tie.invariant-loop
 invariant-loop pool₀ n first values c₀ i₀ j₀ pool c i j =
-    (initLeaves c pool i values j ≡ initLeaves n pool₀ first values 0) × (length pool ≡ length pool₀)
+    (init_leaves c pool i values j ≡ init_leaves n pool₀ first values 0) × (length pool ≡ length pool₀)
 
 abbrev decreases-loop : tie.decreases-loop
 decreases-loop pool₀ n first values c₀ i₀ j₀ pool c i j = c
@@ -26,7 +26,7 @@ loop-again c =
     )
 
 returns : tie.Need-returns invariant-loop decreases-loop
-returns c = leaves-end _ _ _ _ _ c.loop-test.false ∙ c.before.loop.invariant.0
+returns c = leaves_end _ _ _ _ _ c.loop-test.false ∙ c.before.loop.invariant.0
 
 pub init-leaves-spec : {M : Type 1} → statement M
 init-leaves-spec =

@@ -1,10 +1,10 @@
 use borrow.Author.Rules.{rules}
-use Rattle.packed.specs.Pool.{initPool}
+use Rattle.packed.specs.Pool.{init_pool}
 use Rattle.packed.proofs.start.init_pool.Statement.{statement}
 use Rattle.packed.proofs.start.init_pool.Tie as tie
 
 returns : tie.Need-returns
-unfolding initPool
+unfolding init_pool
 returns c =
     let p1 = c.before.before.before in
     let p2 = p1.before in
@@ -12,7 +12,7 @@ returns c =
     let p4 = p3.before.before.before in
     let p5 = p4.before.before.before.before in
     let p6 = p5.before in (
-      rw (p1.init-free.ensures, p2.sub.ensures, p4.init-leaves.ensures, p3.add.ensures, p5.init-inner.ensures.0, p5.init-inner.ensures.1, p6.height-of.ensures),
+      rw (p1.init_free_lem.ensures, p2.sub.ensures, p4.init-leaves.ensures, p3.add.ensures, p5.init-inner.ensures.0, p5.init-inner.ensures.1, p6.height-of.ensures),
       rw (c.node-if.ensures, p3.add.ensures, p5.init-inner.ensures.1, p6.height-of.ensures),
     )
 

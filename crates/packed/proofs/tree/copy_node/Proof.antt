@@ -1,9 +1,9 @@
 use mathlib.Core.Path.{◌∙◌, sym, subst}
 use native.Mathlib.Omega.{arith}
 use borrow.Author.Rules.{rules}
-use Rattle.sizes.specs.Bits.{bit-lt}
+use Rattle.sizes.specs.Bits.{bit_lt}
 use Rattle.pool.specs.Links.{Link}
-use Rattle.packed.proofs.Words.{sibling-half, copied-node}
+use Rattle.packed.proofs.Words.{sibling-half, copied_node}
 use Rattle.packed.proofs.tree.copy_node.Statement.{statement}
 use Rattle.packed.proofs.tree.copy_node.Tie as tie
 
@@ -24,7 +24,7 @@ returns c =
     let stored = other.before.before.before.before in
     let linked = stored.before in
     let read = linked.before.before in
-    copied-node _ _ _ _ _ _ _ other.other_half.result (bit-lt _ _) read.content-in.ensures linked.relinked.ensures other.other_half.ensures.1 stored.store-node.ensures retained.retain-half.ensures
+    copied_node _ _ _ _ _ _ _ other.other_half.result (bit_lt _ _) read.content-in.ensures linked.relinked.ensures other.other_half.ensures.1 stored.store-node.ensures retained.retain-half.ensures
 
 pub copy-node-spec : {M : Type 1} → statement M
 copy-node-spec =

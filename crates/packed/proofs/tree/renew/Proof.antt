@@ -1,5 +1,5 @@
 use borrow.Author.Rules.{rules}
-use Rattle.packed.proofs.Writing.{renew-by}
+use Rattle.packed.proofs.Writing.{renew_by}
 use Rattle.packed.proofs.tree.renew.Statement.{statement}
 use Rattle.packed.proofs.tree.renew.Tie as tie
 
@@ -7,7 +7,7 @@ returns : tie.Need-returns
 returns c =
     let copied = c.before.before.before.before in
     let made = copied.copy-path.ensures in
-    let new = renew-by _ _ _ _ _ _ made.0 made.1 c.sub.ensures in
+    let new = renew_by _ _ _ _ _ _ made.0 made.1 c.sub.ensures in
     (new.0, new.1, made.2, made.3)
 
 pub renew-spec : {M : Type 1} → statement M

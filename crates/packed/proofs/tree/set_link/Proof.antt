@@ -1,10 +1,10 @@
 use borrow.Author.Rules.{rules}
-use Rattle.packed.specs.Pool.{setLink, setContent, content, left, right}
+use Rattle.packed.specs.Pool.{set_link, set_content, content, left, right}
 use Rattle.packed.proofs.tree.set_link.Statement.{statement}
 use Rattle.packed.proofs.tree.set_link.Tie as tie
 
 returns : tie.Need-returns
-unfolding setLink setContent left right content
+unfolding set_link set_content left right content
 returns c = rw c.relinked.ensures
 
 pub set-link-spec : {M : Type 1} → statement M

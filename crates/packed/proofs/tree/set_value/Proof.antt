@@ -1,11 +1,11 @@
 use mathlib.Core.Path.{refl}
 use borrow.Author.Rules.{rules}
-use Rattle.packed.specs.Pool.{setValue, setContent}
+use Rattle.packed.specs.Pool.{set_value, set_content}
 use Rattle.packed.proofs.tree.set_value.Statement.{statement}
 use Rattle.packed.proofs.tree.set_value.Tie as tie
 
 returns : tie.Need-returns
-unfolding setValue setContent
+unfolding set_value set_content
 returns c = refl
 
 pub set-value-spec : {M : Type 1} → statement M

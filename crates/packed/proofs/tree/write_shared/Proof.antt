@@ -1,7 +1,7 @@
 -- The two ways out: the root is shared, or a node below it. The laws are in `proofs.Writing`.
 use native.Mathlib.Omega.{arith}
 use borrow.Author.Rules.{rules}
-use Rattle.packed.proofs.Writing.{level_in, node_in, copies-in, free_in, above_in, write_root, write-below}
+use Rattle.packed.proofs.Writing.{level_in, node_in, copies_in, free_in_lem, above_in, write_root, write-below}
 use Rattle.packed.proofs.tree.write_shared.Statement.{statement}
 use Rattle.packed.proofs.tree.write_shared.Tie as tie
 
@@ -15,7 +15,7 @@ renew-requires c κs =
       s.requires.1,
       omega (arith, s.requires.2, level_in _ _ s.args.free s.args.count _ _ s.args.v s.requires.3 s.requires.5 s.requires.6),
       node_in _ _ s.args.free s.args.count _ _ s.args.v s.requires.3 s.requires.5 s.requires.6,
-      copies-in _ _ s.args.free s.args.count _ _ s.args.v s.requires.3 s.requires.5 s.requires.6,
+      copies_in _ _ s.args.free s.args.count _ _ s.args.v s.requires.3 s.requires.5 s.requires.6,
     )
 
 returns : tie.Need-returns
@@ -35,7 +35,7 @@ set-link-requires c κs =
       s.pre.1,
       above_in _ _ s.args.free s.args.count _ _ s.args.v s.pre.3 s.pre.5 s.pre.6 test.if1.false,
       omega (arith, s.pre.2, test.if1.false),
-      free_in _ _ s.args.free s.args.count _ _ s.args.v s.pre.3 s.pre.5 s.pre.6,
+      free_in_lem _ _ s.args.free s.args.count _ _ s.args.v s.pre.3 s.pre.5 s.pre.6,
     )
 
 returns-2 : tie.Need-returns-2

@@ -11,8 +11,8 @@ use borrow.Fn.PlainCycle.{Measures, is, falls, and}
 use lib.ListN.{length}
 use Rattle.pool.specs.Pool.{left, right}
 use Rattle.pool_check.specs.Algorithm.{visit, below}
-use Rattle.pool_check.specs.Theory.Ways.{visit-keeps}
-use Rattle.pool_check.proofs.Laws.{parts, met-yes, met-below, met-answer, walk_refused, walked, walk-fails, left-walked, walk_ends, walk-right, Down, down-leaves, down-room}
+use Rattle.pool_check.specs.Theory.Ways.{visit_keeps}
+use Rattle.pool_check.proofs.Laws.{parts, met_yes, met_below, met_answer, walk_refused, walked, walk_fails, left_walked, walk_ends, walk-right, Down, down_leaves, down_room}
 use Rattle.pool_check.proofs.trees.walk.Reads as walk
 use Rattle.pool_check.proofs.trees.walk.Kinds as walk-kinds
 use Rattle.pool_check.proofs.trees.+walk.Lts-walk as lts
@@ -65,14 +65,14 @@ returns t c =
     let m = c.before.before.before in
     let p = part_of t m in
     let inv = (loop-of t p).loop.inv in
-    parts (walk_refused _ _ _ _ _ _ inv.some p.left-part.ensures refl m.meet.ensures c.if1.true ∙ inv.same)
+    parts (walk_refused _ _ _ _ _ _ inv.some p.left_part.ensures refl m.meet.ensures c.if1.true ∙ inv.same)
 
 -- where the leaves below the left child and what is below it at a level above meet
 descended : (t : ℕ) (c : lts.Joined3 (calls t) (walk_at t) walk.Post invariant-loop decreases-loop) →
     let p = part_of t (met_of t c.before.before) in
     let l = loop-of t p in
     let a = (start_of t l).args in
-    let b = below a.nodes a.pool.now (l.loop.level - 1) p.left-part.result (left a.pool.now l.loop.i) (met_of t c.before.before).meet.last.1.0 in
+    let b = below a.nodes a.pool.now (l.loop.level - 1) p.left_part.result (left a.pool.now l.loop.i) (met_of t c.before.before).meet.last.1.0 in
     (c.if3.work ≡ b.0) × (c.if3.fine ≡ b.1)
 unfolding left
 descended t c =
@@ -88,26 +88,26 @@ returns-2 t c =
     let m = met_of t d.before.before in
     let p = part_of t m in
     let inv = (loop-of t p).loop.inv in
-    parts (walk-fails _ _ _ _ _ _ inv.some p.left-part.ensures refl m.meet.ensures d.before.if2.true (descended t d) c.if4.true ∙ inv.same)
+    parts (walk_fails _ _ _ _ _ _ inv.some p.left_part.ensures refl m.meet.ensures d.before.if2.true (descended t d) c.if4.true ∙ inv.same)
 
 -- where the two ways to a left child that is done meet
 joined : (t : ℕ) (c : lts.Joined2 (calls t) (walk_at t) walk.Post invariant-loop decreases-loop) →
     let p = part_of t (met_of t c.before) in
     let l = loop-of t p in
     let a = (start_of t l).args in
-    visit a.nodes a.pool.now (l.loop.level - 1) p.left-part.result (left a.pool.now l.loop.i) l.loop.work ≡ (c.if2.work, true)
+    visit a.nodes a.pool.now (l.loop.level - 1) p.left_part.result (left a.pool.now l.loop.i) l.loop.work ≡ (c.if2.work, true)
 unfolding left
 joined t c =
     let m = met_of t c.before in
     let p = part_of t m in
     let inv = (loop-of t p).loop.inv in
     ⊎_elim
-    (λ q. rw q.3 (left-walked _ _ _ _ _ _ inv.some p.left-part.ensures refl m.meet.ensures q.0.taken (descended t (record { before = record { before = c.before; if2 = q.0 }; if3 = q.1 })) q.2.left))
-    (λ q. rw q.1 (met-yes _ _ _ _ _ _ _ _ m.meet.ensures c.before.if1.false q.0.left))
+    (λ q. rw q.3 (left_walked _ _ _ _ _ _ inv.some p.left_part.ensures refl m.meet.ensures q.0.taken (descended t (record { before = record { before = c.before; if2 = q.0 }; if3 = q.1 })) q.2.left))
+    (λ q. rw q.1 (met_yes _ _ _ _ _ _ _ _ m.meet.ensures c.before.if1.false q.0.left))
     c.if2.branch
 
 joined_length : (t : ℕ) (c : lts.Joined2 (calls t) (walk_at t) walk.Post invariant-loop decreases-loop) → length c.if2.work ≡ length (start_of t (loop-of t (part_of t (met_of t c.before)))).args.work.now
-joined_length t c = ap (λ q. length q.0) (sym (joined t c)) ∙ (visit-keeps _ _ _ _ _ _).size ∙ (loop-of t (part_of t (met_of t c.before))).loop.inv.size
+joined_length t c = ap (λ q. length q.0) (sym (joined t c)) ∙ (visit_keeps _ _ _ _ _ _).size ∙ (loop-of t (part_of t (met_of t c.before))).loop.inv.size
 
 returns-3 : (t : ℕ) → lts.Need-returns-3 (calls t) (walk_at t) walk.Post invariant-loop decreases-loop
 unfolding left right
@@ -115,27 +115,27 @@ returns-3 t c =
     let j = c.before.before in
     let p = part_of t (met_of t j.before) in
     let inv = (loop-of t p).loop.inv in
-    parts (walk_ends _ _ _ _ _ _ inv.some p.left-part.ensures refl (joined t j) refl c.if5.true ∙ inv.same)
+    parts (walk_ends _ _ _ _ _ _ inv.some p.left_part.ensures refl (joined t j) refl c.if5.true ∙ inv.same)
 
 -- where the right child is met
-on-right : (t : ℕ) (c : lts.After-meet2 (calls t) (walk_at t) walk.Post invariant-loop decreases-loop) →
+on_right : (t : ℕ) (c : lts.After-meet2 (calls t) (walk_at t) walk.Post invariant-loop decreases-loop) →
     let p = part_of t (met_of t (join-of t c).before) in
     let l = loop-of t p in
     let a = (start_of t l).args in
-    visit a.nodes a.pool.now (l.loop.level - 1) (l.loop.k - p.left-part.result) (right a.pool.now l.loop.i) (join-of t c).if2.work
+    visit a.nodes a.pool.now (l.loop.level - 1) (l.loop.k - p.left_part.result) (right a.pool.now l.loop.i) (join-of t c).if2.work
     ≡ below a.nodes a.pool.now a.level a.k a.i a.work.now
 unfolding left right
-on-right t c =
+on_right t c =
     let j = join-of t c in
     let p = part_of t (met_of t j.before) in
     let inv = (loop-of t p).loop.inv in
-    walk-right _ _ _ _ _ _ inv.some p.left-part.ensures refl (joined t j) refl c.before.before.if5.false ∙ inv.same
+    walk-right _ _ _ _ _ _ inv.some p.left_part.ensures refl (joined t j) refl c.before.before.if5.false ∙ inv.same
 
 returns-4 : (t : ℕ) → lts.Need-returns-4 (calls t) (walk_at t) walk.Post invariant-loop decreases-loop
 unfolding right
 returns-4 t c =
     let m = c.before.before.before in
-    parts (sym (met-answer _ _ _ _ _ _ _ _ m.meet2.ensures c.if6.true) ∙ on-right t m)
+    parts (sym (met_answer _ _ _ _ _ _ _ _ m.meet2.ensures c.if6.true) ∙ on_right t m)
 
 loop-again : (t : ℕ) → lts.Need-loop-preserved (calls t) (walk_at t) walk.Post invariant-loop decreases-loop
 unfolding right
@@ -145,7 +145,7 @@ loop-again t c =
     let l = loop-of t (part_of t (met_of t j.before)) in
     let f = m.meet2.ensures.first c.if6.false in
     record {
-      same = sym (met-below _ _ _ _ _ _ _ _ m.meet2.ensures c.if6.false) ∙ on-right t m;
+      same = sym (met_below _ _ _ _ _ _ _ _ m.meet2.ensures c.if6.false) ∙ on_right t m;
       size = m.meet2.auto.1.0 ∙ joined_length t j;
       node = f.0;
       some = f.1;
@@ -157,7 +157,7 @@ returns-5 : (t : ℕ) → lts.Need-returns-5 (calls t) (walk_at t) walk.Post inv
 returns-5 t c =
     let v = c.before.before in
     let l = v.before.before.before in
-    parts (down-leaves l.loop.invariant v.before.before.loop-test.false v.leaves2.ensures)
+    parts (down_leaves l.loop.invariant v.before.before.loop-test.false v.leaves2.ensures)
 
 -- ---- what is asked on the way
 
@@ -177,7 +177,7 @@ leaves-requires t c κs =
     let p = part_of t m in
     let l = loop-of t p in
     let inv = l.loop.inv in (
-      down-room inv (start_of t l).pre.1.0 _ (m.meet.kept.1.0 ∙ inv.size) _ _ inv.some (omega (arith, p.left-part.ensures)),
+      down_room inv (start_of t l).pre.1.0 _ (m.meet.kept.1.0 ∙ inv.size) _ _ inv.some (omega (arith, p.left_part.ensures)),
       (m.meet.ensures.first c.before.before.if2.true).0,
     )
 
@@ -191,7 +191,7 @@ walk-requires t c κs =
     let f = m.meet.ensures.first c.before.before.if2.true in (
       omega (arith, pre.0, inv),
       (
-        down-room inv pre.1.0 _ (m.meet.kept.1.0 ∙ inv.size) _ _ (omega arith) (omega (arith, p.left-part.ensures)),
+        down_room inv pre.1.0 _ (m.meet.kept.1.0 ∙ inv.size) _ _ (omega arith) (omega (arith, p.left_part.ensures)),
         f.0,
         f.1,
       ),
@@ -204,7 +204,7 @@ same-length-2 t c =
     let m = met_of t d.before.before in
     let p = part_of t m in
     let inv = (loop-of t p).loop.inv in
-    ap (λ q. length q.0) (sym (walked _ _ _ _ _ _ inv.some p.left-part.ensures refl m.meet.ensures d.before.if2.true (descended t d))) ∙ (visit-keeps _ _ _ _ _ _).size ∙ inv.size
+    ap (λ q. length q.0) (sym (walked _ _ _ _ _ _ inv.some p.left_part.ensures refl m.meet.ensures d.before.if2.true (descended t d))) ∙ (visit_keeps _ _ _ _ _ _).size ∙ inv.size
 
 same-length-4 : (t : ℕ) → lts.Need-same-length-4 (calls t) (walk_at t) walk.Post invariant-loop decreases-loop
 same-length-4 t c =
@@ -215,7 +215,7 @@ meet-requires-2 : (t : ℕ) → lts.Need-meet-requires-2 (calls t) (walk_at t) w
 meet-requires-2 t c κs =
     let j = c.before.before.before in
     let l = loop-of t (part_of t (met_of t j.before)) in
-    down-room l.loop.inv (start_of t l).pre.1.0 _ (joined_length t j) _ _ (omega arith) (omega arith)
+    down_room l.loop.inv (start_of t l).pre.1.0 _ (joined_length t j) _ _ (omega arith) (omega arith)
 
 same-length-5 : (t : ℕ) → lts.Need-same-length-5 (calls t) (walk_at t) walk.Post invariant-loop decreases-loop
 same-length-5 t c =

@@ -45,8 +45,8 @@ use denote.Triple.Statement.{Triple}
 use denote.Triple.Table.{entered, cited}
 use denote.Triple.Walked.{says, needs, Stays, stay_slice, stay_none, stay_none_slice, walk_of, Walks, ends_at, walked, Goes-slice, Goes-none, Goes-none_slice, walk_Meets}
 use borrow.Author.Rules.{scaled_Fits}
-use Rattle.frames.proofs.Lent.{at-list, Mine, Yours, ty_at, exit-unless, exit-if, leave-if, fork, skipped, regroup, matched, matched-last, const, is_true, is_false, not-not, differ, widen, less-fits, after, turn-of, take_out, put_in, put_back, look-out, look-back, free_all}
-use Rattle.pool_check.specs.Algorithm.{Roomy, DeadFrom, visitPlaces}
+use Rattle.frames.proofs.Lent.{at_list, Mine, Yours, ty_at, exit_unless, exit_if, leave_if, fork, skipped, regroup, matched, matched_last, const, is_true, is_false, not_not, differ, widen, less_fits, after, turn_of_lem, take_out, put_in, put_back, look_out, look_back, free_all}
+use Rattle.pool_check.specs.Algorithm.{Roomy, DeadFrom, visit_places}
 use Rattle.sizes.specs.Sizes.{height}
 use Rattle.pool_check.proofs.Called.height_of as S-height-of
 use Rattle.sizes.proofs.height_of.Symbol as D-height-of
@@ -56,12 +56,12 @@ use Rattle.pool_check.proofs.Called.frame_at as S-frame-at
 use Rattle.frames.proofs.frame_at.Symbol as D-frame-at
 use Rattle.frames.proofs.frame_at.Symbol.{name as #frame-at}
 use Rattle.frames.proofs.frame_at.Met as T-frame-at
-use Rattle.frames.specs.Frames.{frameAt}
+use Rattle.frames.specs.Frames.{frame_at}
 use Rattle.pool_check.proofs.Called.visit_place as S-visit-place
 use Rattle.pool_check.proofs.trees.visit_place.Symbol as D-visit-place
 use Rattle.pool_check.proofs.trees.visit_place.Symbol.{name as #visit-place}
 use Rattle.pool_check.proofs.trees.visit_place.Met as T-visit-place
-use Rattle.pool_check.specs.Algorithm.{recordVisited}
+use Rattle.pool_check.specs.Algorithm.{record_visited}
 use Rattle.pool_check.specs.contracts.trees.visit_places.Key.{name as #own}
 use Rattle.pool_check.specs.contracts.trees.visit_places as f'
 use Rattle.pool_check.proofs.trees.visit_places.Statement as stated
@@ -85,7 +85,7 @@ ty' i = ty_at (code.function).locals i
 
 -- the loop's body, and what runs after the loop
 abbrev turned' : Code
-turned' = turn-of (after 3 (code.function).body)
+turned' = turn_of_lem (after 3 (code.function).body)
 
 abbrev rest' : Code
 rest' = after 4 (code.function).body
@@ -113,7 +113,7 @@ module _ {M : Type 1} {𝓤 : Ura M} (𝓛 : Logic 𝓤) (mem : Memory → SProp
   n-work = length work
 
   abbrev args' : Bor (List Frame) × (Bor (List ℕ) × (Bor (List ℕ) × (ℕ × (ℕ × (ℕ × Unit {0})))))
-  args' = (at-list b-frames o-frames γ-frames frames, (at-list b-pool o-pool γ-pool pool, (at-list b-work o-work γ-work work, (n, (nodes, (end, tt))))))
+  args' = (at_list b-frames o-frames γ-frames frames, (at_list b-pool o-pool γ-pool pool, (at_list b-work o-work γ-work work, (n, (nodes, (end, tt))))))
 
   abbrev vals' : Vals f'.signature (κ-frames, (κ-pool, (κ-work, tt)))
   vals' = (slice_val (b-frames, o-frames) (length frames) ∷ [], (slice_val (b-pool, o-pool) (length pool) ∷ [], (slice_val (b-work, o-work) (length work) ∷ [], (vint w32 n ∷ [], (vint w32 nodes ∷ [], (vint w32 end ∷ [], tt))))))
@@ -124,10 +124,10 @@ module _ {M : Type 1} {𝓤 : Ura M} (𝓛 : Logic 𝓤) (mem : Memory → SProp
   abbrev Post : Val → SProp 𝓤
   Post = (walk_of 𝓛 f'.ended stayed (f'.clauses 𝓛 mem run)).post bound'
 
-  exits' : (res' : Bool) (zs-work : List ℕ) → (zs-work ≡ (visitPlaces n (height n) nodes frames pool (length frames) work).0) × (res' ≡ (visitPlaces n (height n) nodes frames pool (length frames) work).1) → length zs-work ≡ length work → ent 𝓤 (⋆ 𝓛 (‵ (Yours R-Frame κ-frames q-frames γ-frames b-frames o-frames n-frames frames) ∷ ‵ (Yours u32 κ-pool q-pool γ-pool b-pool o-pool n-pool pool) ∷ ‵ (Mine u32 κ-work q-work γ-work b-work o-work n-work zs-work) ∷ [])) (Post (vbool res'))
-  exits' res' zs-work e' same-work =
+  exits' : (res' : Bool) (zs-work : List ℕ) → (zs-work ≡ (visit_places n (height n) nodes frames pool (length frames) work).0) × (res' ≡ (visit_places n (height n) nodes frames pool (length frames) work).1) → length zs-work ≡ length work → ent 𝓤 (⋆ 𝓛 (‵ (Yours R-Frame κ-frames q-frames γ-frames b-frames o-frames n-frames frames) ∷ ‵ (Yours u32 κ-pool q-pool γ-pool b-pool o-pool n-pool pool) ∷ ‵ (Mine u32 κ-work q-work γ-work b-work o-work n-work zs-work) ∷ [])) (Post (vbool res'))
+  exits' res' zs-work e' same_work =
       qed 𝓛 (‵ (Yours R-Frame κ-frames q-frames γ-frames b-frames o-frames n-frames frames) ∷ ‵ (Yours u32 κ-pool q-pool γ-pool b-pool o-pool n-pool pool) ∷ ‵ (Mine u32 κ-work q-work γ-work b-work o-work n-work zs-work) ∷ []) ∵
-      suffices ! _ (ends_at 𝓛 f'.ended stayed (f'.clauses 𝓛 mem run) bound' (vbool res') res' (tt, (tt, (zs-work, (tt, (tt, (tt, tt)))))) (tt, (tt, (same-work, (tt, (tt, (tt, tt))))))) $ says ! e' $
+      suffices ! _ (ends_at 𝓛 f'.ended stayed (f'.clauses 𝓛 mem run) bound' (vbool res') res' (tt, (tt, (zs-work, (tt, (tt, (tt, tt)))))) (tt, (tt, (same_work, (tt, (tt, (tt, tt))))))) $ says ! e' $
       fsplit ! $ move ! (2 ∷ []) $ fsplit ! $ move ! (4 ∷ []) $ fsplit ! $ nothing ! $ move ! (6 ∷ 4 ∷ 2 ∷ 0 ∷ []) $ group ! 4 $ frame ! $
       nothing ! $ owned ! u32 (Is u32) (uint_Makes 𝓛 w32) end _ (refl, end_fits) $ fjoin ! $ owned ! u32 (Is u32) (uint_Makes 𝓛 w32) nodes _ (refl, nodes-fits) $ fjoin ! $ owned ! u32 (Is u32) (uint_Makes 𝓛 w32) n _ (refl, n-fits) $ fjoin ! $ move ! (1 ∷ 0 ∷ []) $ fjoin ! $ move ! (1 ∷ 0 ∷ []) $ fjoin ! $ move ! (1 ∷ 0 ∷ []) $ fjoin ! $ frame ! $
       owned ! bool (Is bool) (bool_Makes 𝓛) res' _ refl $ done !
@@ -161,7 +161,7 @@ module _ {M : Type 1} {𝓤 : Ura M} (𝓛 : Logic 𝓤) (mem : Memory → SProp
         unfolding after_turn
         turn' =
             assigns ! (bin ! (load ! (from ! (stop !)) (look ! 11 refl)) (load ! (from ! (stop !)) (look ! 17 refl)) tt) (from ! (stop !)) (init ! 7 refl (tt, tt)) $
-            exit-unless ! (load ! (from ! (stop !)) (look ! 7 refl))
+            exit_unless ! (load ! (from ! (stop !)) (look ! 7 refl))
             (λ test-4.
             exec ! 𝓣.C 𝓣.Λ En' rest' (at_ret En' Post) $
             assigns ! (of_opd ! (load ! (from ! (stop !)) (look ! 13 refl))) (from ! (stop !)) (init ! 29 refl (tt, tt)) $

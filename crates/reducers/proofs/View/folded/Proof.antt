@@ -7,27 +7,27 @@ use Rattle.reducers.specs.declared.Sum.{Sum}
 use Rattle.reducers.specs.declared.Min.{Min}
 use Rattle.reducers.specs.declared.Affine.{Affine}
 use Rattle.reducers.specs.declared.View.{View}
-use Rattle.reducers.specs.Reducers.{joinSum, joinMin, joinAffine, foldedSum, foldedMin, foldedAffine, with_sum, withMin, withAffine, foldView}
+use Rattle.reducers.specs.Reducers.{join_sum, join_min, join_affine, folded_sum, folded_min, folded_affine, with_sum, with_min, with_affine, fold_view}
 use Rattle.reducers.proofs.View.folded.Statement.{statement}
 use Rattle.reducers.proofs.View.folded.Tie as tie
 
-fold-none : (w : View) (r v : ℕ) → r ≢ 0 → r ≢ 1 → r ≢ 2 → w ≡ foldView w r v
-unfolding foldView
+fold-none : (w : View) (r v : ℕ) → r ≢ 0 → r ≢ 1 → r ≢ 2 → w ≡ fold_view w r v
+unfolding fold_view
 fold-none w zero v a b c = absurd (a refl)
 fold-none w (suc zero) v a b c = absurd (b refl)
 fold-none w (suc (suc zero)) v a b c = absurd (c refl)
 fold-none w (suc (suc (suc r))) v a b c = refl
 
-fold-sum : (w : View) (r v : ℕ) (a : Sum) → r ≡ 0 → a ≡ joinSum w.sum (foldedSum v) → with_sum w a ≡ foldView w r v
-unfolding foldView
+fold-sum : (w : View) (r v : ℕ) (a : Sum) → r ≡ 0 → a ≡ join_sum w.sum (folded_sum v) → with_sum w a ≡ fold_view w r v
+unfolding fold_view
 fold-sum w r v a er ea = rw (er, ea)
 
-fold-min : (w : View) (r v : ℕ) (a : Min) → r ≡ 1 → a ≡ joinMin w.min (foldedMin v) → withMin w a ≡ foldView w r v
-unfolding foldView
+fold-min : (w : View) (r v : ℕ) (a : Min) → r ≡ 1 → a ≡ join_min w.min (folded_min v) → with_min w a ≡ fold_view w r v
+unfolding fold_view
 fold-min w r v a er ea = rw (er, ea)
 
-fold-affine : (w : View) (r v : ℕ) (m a : Affine) → r ≡ 2 → m ≡ foldedAffine v → a ≡ joinAffine w.affine m → withAffine w a ≡ foldView w r v
-unfolding foldView
+fold-affine : (w : View) (r v : ℕ) (m a : Affine) → r ≡ 2 → m ≡ folded_affine v → a ≡ join_affine w.affine m → with_affine w a ≡ fold_view w r v
+unfolding fold_view
 fold-affine w r v m a er em ea = rw (er, ea, em)
 
 returns : tie.Need-returns

@@ -44,9 +44,9 @@ use denote.Triple.Statement.{Triple}
 use denote.Triple.Table.{entered, cited}
 use denote.Triple.Walked.{says, needs, Stays, stay_slice, stay_none, stay_none_slice, walk_of, Walks, ends_at, walked, Goes-slice, Goes-none, Goes-none_slice, walk_Meets}
 use borrow.Author.Rules.{scaled_Fits}
-use Rattle.frames.proofs.Lent.{at-list, Mine, Yours, ty_at, exit-unless, exit-if, leave-if, fork, skipped, regroup, matched, matched-last, const, is_true, is_false, not-not, differ, widen, less-fits, after, turn-of, take_out, put_in, put_back, look-out, look-back, free_all}
+use Rattle.frames.proofs.Lent.{at_list, Mine, Yours, ty_at, exit_unless, exit_if, leave_if, fork, skipped, regroup, matched, matched_last, const, is_true, is_false, not_not, differ, widen, less_fits, after, turn_of_lem, take_out, put_in, put_back, look_out, look_back, free_all}
 use Rattle.semantics.specs.Promises.{parts, IsStartWith}
-use Rattle.semantics.specs.Remembering.{startRemembering}
+use Rattle.semantics.specs.Remembering.{start_remembering}
 use Rattle.soundness.specs.Layout.{two_words}
 use Rattle.splitter.proofs.Called.start as S-start
 use Rattle.engine.proofs.start.Symbol as D-start
@@ -93,7 +93,7 @@ module _ {M : Type 1} {𝓤 : Ura M} (𝓛 : Logic 𝓤) (mem : Memory → SProp
   n-pool = length pool
 
   abbrev args' : Bor (List ℕ) × (Bor (List ℕ) × (Bor (List Frame) × (Bor (List ℕ) × (ℕ × (Bor (List ℕ) × (Bor (List ℕ) × Unit {0}))))))
-  args' = (at-list b-numbers o-numbers γ-numbers numbers, (at-list b-deques o-deques γ-deques deques, (at-list b-frames o-frames γ-frames frames, (at-list b-memory o-memory γ-memory memory, (workers, (at-list b-values o-values γ-values values, (at-list b-pool o-pool γ-pool pool, tt)))))))
+  args' = (at_list b-numbers o-numbers γ-numbers numbers, (at_list b-deques o-deques γ-deques deques, (at_list b-frames o-frames γ-frames frames, (at_list b-memory o-memory γ-memory memory, (workers, (at_list b-values o-values γ-values values, (at_list b-pool o-pool γ-pool pool, tt)))))))
 
   abbrev vals' : Vals f'.signature (κ-numbers, (κ-deques, (κ-frames, (κ-memory, (κ-values, (κ-pool, tt))))))
   vals' = (slice_val (b-numbers, o-numbers) (length numbers) ∷ [], (slice_val (b-deques, o-deques) (length deques) ∷ [], (slice_val (b-frames, o-frames) (length frames) ∷ [], (slice_val (b-memory, o-memory) (length memory) ∷ [], (vint w32 workers ∷ [], (slice_val (b-values, o-values) (length values) ∷ [], (slice_val (b-pool, o-pool) (length pool) ∷ [], tt)))))))
@@ -104,7 +104,7 @@ module _ {M : Type 1} {𝓤 : Ura M} (𝓛 : Logic 𝓤) (mem : Memory → SProp
   abbrev Post : Val → SProp 𝓤
   Post = (walk_of 𝓛 f'.ended stayed (f'.clauses 𝓛 mem run)).post bound'
 
-  exits' : (res' : ℕ) (zs-numbers : List ℕ) (zs-deques : List ℕ) (zs-frames : List Frame) (zs-memory : List ℕ) (zs-pool : List ℕ) → res' < 2 ^ 32 → IsStartWith (startRemembering two_words (parts numbers deques frames) memory workers values pool) zs-numbers zs-deques zs-frames zs-memory zs-pool res' → length zs-numbers ≡ length numbers → length zs-deques ≡ length deques → length zs-frames ≡ length frames → length zs-memory ≡ length memory → length zs-pool ≡ length pool → ent 𝓤 (⋆ 𝓛 (‵ (Mine u32 κ-numbers q-numbers γ-numbers b-numbers o-numbers n-numbers zs-numbers) ∷ ‵ (Mine u32 κ-deques q-deques γ-deques b-deques o-deques n-deques zs-deques) ∷ ‵ (Mine R-Frame κ-frames q-frames γ-frames b-frames o-frames n-frames zs-frames) ∷ ‵ (Mine u32 κ-memory q-memory γ-memory b-memory o-memory n-memory zs-memory) ∷ ‵ (Yours u32 κ-values q-values γ-values b-values o-values n-values values) ∷ ‵ (Mine u32 κ-pool q-pool γ-pool b-pool o-pool n-pool zs-pool) ∷ [])) (Post (vint w32 res'))
+  exits' : (res' : ℕ) (zs-numbers : List ℕ) (zs-deques : List ℕ) (zs-frames : List Frame) (zs-memory : List ℕ) (zs-pool : List ℕ) → res' < 2 ^ 32 → IsStartWith (start_remembering two_words (parts numbers deques frames) memory workers values pool) zs-numbers zs-deques zs-frames zs-memory zs-pool res' → length zs-numbers ≡ length numbers → length zs-deques ≡ length deques → length zs-frames ≡ length frames → length zs-memory ≡ length memory → length zs-pool ≡ length pool → ent 𝓤 (⋆ 𝓛 (‵ (Mine u32 κ-numbers q-numbers γ-numbers b-numbers o-numbers n-numbers zs-numbers) ∷ ‵ (Mine u32 κ-deques q-deques γ-deques b-deques o-deques n-deques zs-deques) ∷ ‵ (Mine R-Frame κ-frames q-frames γ-frames b-frames o-frames n-frames zs-frames) ∷ ‵ (Mine u32 κ-memory q-memory γ-memory b-memory o-memory n-memory zs-memory) ∷ ‵ (Yours u32 κ-values q-values γ-values b-values o-values n-values values) ∷ ‵ (Mine u32 κ-pool q-pool γ-pool b-pool o-pool n-pool zs-pool) ∷ [])) (Post (vint w32 res'))
   exits' res' zs-numbers zs-deques zs-frames zs-memory zs-pool good' e' same_numbers same-deques same-frames same_memory same-pool =
       qed 𝓛 (‵ (Mine u32 κ-numbers q-numbers γ-numbers b-numbers o-numbers n-numbers zs-numbers) ∷ ‵ (Mine u32 κ-deques q-deques γ-deques b-deques o-deques n-deques zs-deques) ∷ ‵ (Mine R-Frame κ-frames q-frames γ-frames b-frames o-frames n-frames zs-frames) ∷ ‵ (Mine u32 κ-memory q-memory γ-memory b-memory o-memory n-memory zs-memory) ∷ ‵ (Yours u32 κ-values q-values γ-values b-values o-values n-values values) ∷ ‵ (Mine u32 κ-pool q-pool γ-pool b-pool o-pool n-pool zs-pool) ∷ []) ∵
       suffices ! _ (ends_at 𝓛 f'.ended stayed (f'.clauses 𝓛 mem run) bound' (vint w32 res') res' (zs-numbers, (zs-deques, (zs-frames, (zs-memory, (tt, (tt, (zs-pool, tt))))))) (same_numbers, (same-deques, (same-frames, (same_memory, (tt, (tt, (same-pool, tt)))))))) $ says ! e' $

@@ -44,15 +44,15 @@ use denote.Triple.Statement.{Triple}
 use denote.Triple.Table.{entered, cited}
 use denote.Triple.Walked.{says, needs, Stays, stay_slice, stay_none, stay_none_slice, walk_of, Walks, ends_at, walked, Goes-slice, Goes-none, Goes-none_slice, walk_Meets}
 use borrow.Author.Rules.{scaled_Fits}
-use Rattle.frames.proofs.Lent.{at-list, Mine, Yours, ty_at, exit-unless, exit-if, leave-if, fork, skipped, regroup, matched, matched-last, const, is_true, is_false, not-not, differ, widen, less-fits, after, turn-of, take_out, put_in, put_back, look-out, look-back, free_all}
+use Rattle.frames.proofs.Lent.{at_list, Mine, Yours, ty_at, exit_unless, exit_if, leave_if, fork, skipped, regroup, matched, matched_last, const, is_true, is_false, not_not, differ, widen, less_fits, after, turn_of_lem, take_out, put_in, put_back, look_out, look_back, free_all}
 use lib.ListN.{replicate}
 use types.Part.{rep}
 use denote.Plain.{uint_Lawful}
 use denote.Array.{Array, array_val, array_vals, Array-Tells, Array-Makes}
-use Rattle.frames.proofs.Local.{listVal, array-is, array-fits, open-local, shut-local}
-use Rattle.model.specs.Record.{recordOf}
+use Rattle.frames.proofs.Local.{list_val, array_is, array_fits, open_local, shut_local}
+use Rattle.model.specs.Record.{record_of}
 use Rattle.semantics.specs.Promises.{parts, IsOutsideWith}
-use Rattle.semantics.specs.Remembering.{outsideRemembering}
+use Rattle.semantics.specs.Remembering.{outside_remembering}
 use Rattle.soundness.specs.Layout.{two_words}
 use Rattle.splitter.proofs.Called.record_of as S-record-of
 use Rattle.splitter.proofs.calls.record_of.Symbol as D-record-of
@@ -116,7 +116,7 @@ module _ {M : Type 1} {𝓤 : Ura M} (𝓛 : Logic 𝓤) (mem : Memory → SProp
   n-work = length work
 
   abbrev args' : MutBor (List ℕ) × (MutBor (List ℕ) × (MutBor (List Frame) × (MutBor (List ℕ) × (MutBor (List ℕ) × (MutBor (List ℕ) × (ℕ × (ℕ × (ℕ × (ℕ × Unit {0})))))))))
-  args' = (at-list b-numbers o-numbers γ-numbers numbers, (at-list b-deques o-deques γ-deques deques, (at-list b-frames o-frames γ-frames frames, (at-list b-memory o-memory γ-memory memory, (at-list b-pool o-pool γ-pool pool, (at-list b-work o-work γ-work work, (kind, (worker, (field, (value, tt))))))))))
+  args' = (at_list b-numbers o-numbers γ-numbers numbers, (at_list b-deques o-deques γ-deques deques, (at_list b-frames o-frames γ-frames frames, (at_list b-memory o-memory γ-memory memory, (at_list b-pool o-pool γ-pool pool, (at_list b-work o-work γ-work work, (kind, (worker, (field, (value, tt))))))))))
 
   abbrev vals' : Vals f'.signature (κ-numbers, (κ-deques, (κ-frames, (κ-memory, (κ-pool, (κ-work, tt))))))
   vals' = (slice_val (b-numbers, o-numbers) (length numbers) ∷ [], (slice_val (b-deques, o-deques) (length deques) ∷ [], (slice_val (b-frames, o-frames) (length frames) ∷ [], (slice_val (b-memory, o-memory) (length memory) ∷ [], (slice_val (b-pool, o-pool) (length pool) ∷ [], (slice_val (b-work, o-work) (length work) ∷ [], (vint w32 kind ∷ [], (vint w32 worker ∷ [], (vint w32 field ∷ [], (vint w32 value ∷ [], tt))))))))))
@@ -145,10 +145,10 @@ module _ {M : Type 1} {𝓤 : Ura M} (𝓛 : Logic 𝓤) (mem : Memory → SProp
   room-answers : Room u32 n-answers
   room-answers = (lit< tt, lit< tt)
 
-  exits' : (res' : ℕ) (zs-numbers : List ℕ) (zs-deques : List ℕ) (zs-frames : List Frame) (zs-memory : List ℕ) (zs-pool : List ℕ) (zs-work : List ℕ) → res' < 2 ^ 64 → IsOutsideWith (outsideRemembering two_words (parts numbers deques frames) memory pool work (recordOf kind worker field value)) zs-numbers zs-deques zs-frames zs-memory zs-pool zs-work res' → length zs-numbers ≡ length numbers → length zs-deques ≡ length deques → length zs-frames ≡ length frames → length zs-memory ≡ length memory → length zs-pool ≡ length pool → length zs-work ≡ length work → ent 𝓤 (⋆ 𝓛 (‵ (Mine u32 κ-numbers q-numbers γ-numbers b-numbers o-numbers n-numbers zs-numbers) ∷ ‵ (Mine u32 κ-deques q-deques γ-deques b-deques o-deques n-deques zs-deques) ∷ ‵ (Mine R-Frame κ-frames q-frames γ-frames b-frames o-frames n-frames zs-frames) ∷ ‵ (Mine u32 κ-memory q-memory γ-memory b-memory o-memory n-memory zs-memory) ∷ ‵ (Mine u32 κ-pool q-pool γ-pool b-pool o-pool n-pool zs-pool) ∷ ‵ (Mine u32 κ-work q-work γ-work b-work o-work n-work zs-work) ∷ [])) (Post (vint w64 res'))
-  exits' res' zs-numbers zs-deques zs-frames zs-memory zs-pool zs-work good' e' same_numbers same-deques same-frames same_memory same-pool same-work =
+  exits' : (res' : ℕ) (zs-numbers : List ℕ) (zs-deques : List ℕ) (zs-frames : List Frame) (zs-memory : List ℕ) (zs-pool : List ℕ) (zs-work : List ℕ) → res' < 2 ^ 64 → IsOutsideWith (outside_remembering two_words (parts numbers deques frames) memory pool work (record_of kind worker field value)) zs-numbers zs-deques zs-frames zs-memory zs-pool zs-work res' → length zs-numbers ≡ length numbers → length zs-deques ≡ length deques → length zs-frames ≡ length frames → length zs-memory ≡ length memory → length zs-pool ≡ length pool → length zs-work ≡ length work → ent 𝓤 (⋆ 𝓛 (‵ (Mine u32 κ-numbers q-numbers γ-numbers b-numbers o-numbers n-numbers zs-numbers) ∷ ‵ (Mine u32 κ-deques q-deques γ-deques b-deques o-deques n-deques zs-deques) ∷ ‵ (Mine R-Frame κ-frames q-frames γ-frames b-frames o-frames n-frames zs-frames) ∷ ‵ (Mine u32 κ-memory q-memory γ-memory b-memory o-memory n-memory zs-memory) ∷ ‵ (Mine u32 κ-pool q-pool γ-pool b-pool o-pool n-pool zs-pool) ∷ ‵ (Mine u32 κ-work q-work γ-work b-work o-work n-work zs-work) ∷ [])) (Post (vint w64 res'))
+  exits' res' zs-numbers zs-deques zs-frames zs-memory zs-pool zs-work good' e' same_numbers same-deques same-frames same_memory same-pool same_work =
       qed 𝓛 (‵ (Mine u32 κ-numbers q-numbers γ-numbers b-numbers o-numbers n-numbers zs-numbers) ∷ ‵ (Mine u32 κ-deques q-deques γ-deques b-deques o-deques n-deques zs-deques) ∷ ‵ (Mine R-Frame κ-frames q-frames γ-frames b-frames o-frames n-frames zs-frames) ∷ ‵ (Mine u32 κ-memory q-memory γ-memory b-memory o-memory n-memory zs-memory) ∷ ‵ (Mine u32 κ-pool q-pool γ-pool b-pool o-pool n-pool zs-pool) ∷ ‵ (Mine u32 κ-work q-work γ-work b-work o-work n-work zs-work) ∷ []) ∵
-      suffices ! _ (ends_at 𝓛 f'.ended stayed (f'.clauses 𝓛 mem run) bound' (vint w64 res') res' (zs-numbers, (zs-deques, (zs-frames, (zs-memory, (zs-pool, (zs-work, (tt, (tt, (tt, (tt, tt)))))))))) (same_numbers, (same-deques, (same-frames, (same_memory, (same-pool, (same-work, (tt, (tt, (tt, (tt, tt))))))))))) $ says ! e' $
+      suffices ! _ (ends_at 𝓛 f'.ended stayed (f'.clauses 𝓛 mem run) bound' (vint w64 res') res' (zs-numbers, (zs-deques, (zs-frames, (zs-memory, (zs-pool, (zs-work, (tt, (tt, (tt, (tt, tt)))))))))) (same_numbers, (same-deques, (same-frames, (same_memory, (same-pool, (same_work, (tt, (tt, (tt, (tt, tt))))))))))) $ says ! e' $
       fsplit ! $ move ! (2 ∷ []) $ fsplit ! $ move ! (4 ∷ []) $ fsplit ! $ move ! (6 ∷ []) $ fsplit ! $ move ! (8 ∷ []) $ fsplit ! $ move ! (10 ∷ []) $ fsplit ! $ nothing ! $ move ! (12 ∷ 10 ∷ 8 ∷ 6 ∷ 4 ∷ 2 ∷ 0 ∷ []) $ group ! 7 $ frame ! $
       nothing ! $ owned ! u32 (Is u32) (uint_Makes 𝓛 w32) value _ (refl, value-fits) $ fjoin ! $ owned ! u32 (Is u32) (uint_Makes 𝓛 w32) field _ (refl, field_fits) $ fjoin ! $ owned ! u32 (Is u32) (uint_Makes 𝓛 w32) worker _ (refl, worker-fits) $ fjoin ! $ owned ! u32 (Is u32) (uint_Makes 𝓛 w32) kind _ (refl, kind_fits) $ fjoin ! $ move ! (1 ∷ 0 ∷ []) $ fjoin ! $ move ! (1 ∷ 0 ∷ []) $ fjoin ! $ move ! (1 ∷ 0 ∷ []) $ fjoin ! $ move ! (1 ∷ 0 ∷ []) $ fjoin ! $ move ! (1 ∷ 0 ∷ []) $ fjoin ! $ move ! (1 ∷ 0 ∷ []) $ fjoin ! $ frame ! $
       owned ! u64 (Is u64) (uint_Makes 𝓛 w64) res' _ (refl, good') $ done !
@@ -167,9 +167,9 @@ module _ {M : Type 1} {𝓤 : Ura M} (𝓛 : Logic 𝓤) (mem : Memory → SProp
         -- _14 = splitter::calls::record_of(_7, _8, _9, _10)
         S-record-of.step mem run ! fm known-record-of kind worker field value kind_fits worker-fits field_fits value-fits
         (and_then ! (load ! (from ! (stop !)) (look ! 65 refl)) (and_then ! (load ! (from ! (stop !)) (look ! 63 refl)) (and_then ! (load ! (from ! (stop !)) (look ! 61 refl)) (and_then ! (load ! (from ! (stop !)) (look ! 59 refl)) (no_more !))))) (λ r-1 r-1-good r-1-is.
-        land ! (from ! (stop !)) (init ! 50 refl (array-fits 𝓛 u8 (uint_Lawful 𝓛 w8) 8 r-1 _ r-1-good)) $
-        assigns ! (of_opd ! (load ! (from ! (stop !)) (look ! 50 refl))) (from ! (stop !)) (init ! 56 refl (array-fits 𝓛 u8 (uint_Lawful 𝓛 w8) 8 r-1 _ r-1-good)) $
-        assigns ! (rep ! 2 (const ! _ tt)) (from ! (stop !)) (init ! 54 refl (array-fits 𝓛 u32 (uint_Lawful 𝓛 w32) 2 (replicate 2 0) _ (array-is u32 2 0 (vint w32 0) (refl, (lit< tt))))) $
+        land ! (from ! (stop !)) (init ! 50 refl (array_fits 𝓛 u8 (uint_Lawful 𝓛 w8) 8 r-1 _ r-1-good)) $
+        assigns ! (of_opd ! (load ! (from ! (stop !)) (look ! 50 refl))) (from ! (stop !)) (init ! 56 refl (array_fits 𝓛 u8 (uint_Lawful 𝓛 w8) 8 r-1 _ r-1-good)) $
+        assigns ! (rep ! 2 (const ! _ tt)) (from ! (stop !)) (init ! 54 refl (array_fits 𝓛 u32 (uint_Lawful 𝓛 w32) 2 (replicate 2 0) _ (array_is u32 2 0 (vint w32 0) (refl, (lit< tt))))) $
         assigns ! (addr ! (from ! (fld ! refl (hop ! (look_in ! 76 (sub ! 0 refl (whole !))) (stop !))))) (from ! (stop !)) (init ! 48 refl (tt, tt)) $
         assigns ! (agg ! (and_then ! (load ! (from ! (stop !)) (look ! 48 refl)) (and_then ! (load ! (from ! (fld ! refl (stop !))) (look_in ! 76 (sub ! 1 refl (whole !)))) (no_more !)))) (from ! (stop !)) (init ! 46 refl (tt, (tt, (record { fits = room-numbers.0 }, tt)))) $
         assigns ! (addr ! (from ! (fld ! refl (hop ! (look_in ! 74 (sub ! 0 refl (whole !))) (stop !))))) (from ! (stop !)) (init ! 44 refl (tt, tt)) $
@@ -183,12 +183,12 @@ module _ {M : Type 1} {𝓤 : Ura M} (𝓛 : Logic 𝓤) (mem : Memory → SProp
         assigns ! (addr ! (from ! (fld ! refl (hop ! (look_in ! 66 (sub ! 0 refl (whole !))) (stop !))))) (from ! (stop !)) (init ! 28 refl (tt, tt)) $
         assigns ! (agg ! (and_then ! (load ! (from ! (stop !)) (look ! 28 refl)) (and_then ! (load ! (from ! (fld ! refl (stop !))) (look_in ! 66 (sub ! 1 refl (whole !)))) (no_more !)))) (from ! (stop !)) (init ! 26 refl (tt, (tt, (record { fits = room-work.0 }, tt)))) $
         move ! (56 ∷ []) $
-        open-local ! tt u8 tt (uint_Makes 𝓛 w8) n-bytes b-bytes r-1 (listVal (uint_vals w8) r-1) r-1-good room-bytes (λ ν-bytes γ-bytes bytes bytes-is bytes-length.
+        open_local ! tt u8 tt (uint_Makes 𝓛 w8) n-bytes b-bytes r-1 (list_val (uint_vals w8) r-1) r-1-good room-bytes (λ ν-bytes γ-bytes bytes bytes-is bytes-length.
         move ! (0 ∷ 2 ∷ 3 ∷ 4 ∷ 5 ∷ 6 ∷ 7 ∷ 8 ∷ 9 ∷ 10 ∷ 11 ∷ 12 ∷ 13 ∷ 14 ∷ 15 ∷ 16 ∷ 17 ∷ 18 ∷ 19 ∷ 20 ∷ 21 ∷ 22 ∷ 23 ∷ 24 ∷ 25 ∷ 26 ∷ 27 ∷ 28 ∷ 29 ∷ 30 ∷ 31 ∷ 32 ∷ 33 ∷ 34 ∷ 35 ∷ 36 ∷ 37 ∷ 38 ∷ 39 ∷ 40 ∷ 41 ∷ 42 ∷ 43 ∷ 44 ∷ 45 ∷ 46 ∷ 47 ∷ 48 ∷ 49 ∷ 50 ∷ 51 ∷ 52 ∷ 53 ∷ 54 ∷ 55 ∷ 56 ∷ 57 ∷ 1 ∷ []) $
         assigns ! (addr ! (from ! (stop !))) (from ! (stop !)) (init ! 25 refl (tt, tt)) $
         assigns ! (agg ! (and_then ! (load ! (from ! (stop !)) (look ! 25 refl)) (and_then ! (const ! _ tt) (no_more !)))) (from ! (stop !)) (init ! 23 refl (tt, (tt, (record { fits = room-bytes.0 }, tt)))) $
         move ! (55 ∷ []) $
-        open-local ! tt u32 tt (uint_Makes 𝓛 w32) n-answers b-answers (replicate 2 0) ((array_val (replicate 2 (vint w32 0)))) (array-is u32 2 0 (vint w32 0) (refl, (lit< tt))) room-answers (λ ν-answers γ-answers answers answers-is answers-length.
+        open_local ! tt u32 tt (uint_Makes 𝓛 w32) n-answers b-answers (replicate 2 0) ((array_val (replicate 2 (vint w32 0)))) (array_is u32 2 0 (vint w32 0) (refl, (lit< tt))) room-answers (λ ν-answers γ-answers answers answers-is answers-length.
         move ! (0 ∷ 2 ∷ 3 ∷ 4 ∷ 5 ∷ 6 ∷ 7 ∷ 8 ∷ 9 ∷ 10 ∷ 11 ∷ 12 ∷ 13 ∷ 14 ∷ 15 ∷ 16 ∷ 17 ∷ 18 ∷ 19 ∷ 20 ∷ 21 ∷ 22 ∷ 23 ∷ 24 ∷ 25 ∷ 26 ∷ 27 ∷ 28 ∷ 29 ∷ 30 ∷ 31 ∷ 32 ∷ 33 ∷ 34 ∷ 35 ∷ 36 ∷ 37 ∷ 38 ∷ 39 ∷ 40 ∷ 41 ∷ 42 ∷ 43 ∷ 44 ∷ 45 ∷ 46 ∷ 47 ∷ 48 ∷ 49 ∷ 50 ∷ 51 ∷ 52 ∷ 53 ∷ 54 ∷ 55 ∷ 56 ∷ 1 ∷ []) $
         assigns ! (addr ! (from ! (stop !))) (from ! (stop !)) (init ! 22 refl (tt, tt)) $
         assigns ! (agg ! (and_then ! (load ! (from ! (stop !)) (look ! 22 refl)) (and_then ! (const ! _ tt) (no_more !)))) (from ! (stop !)) (init ! 20 refl (tt, (tt, (record { fits = room-answers.0 }, tt)))) $
@@ -215,10 +215,10 @@ module _ {M : Type 1} {𝓤 : Ura M} (𝓛 : Logic 𝓤) (mem : Memory → SProp
         (and_then ! (load ! (from ! (fld ! refl (stop !))) (look_in ! 55 (sub ! 0 refl (whole !)))) (and_then ! (load ! (from ! (stop !)) (look ! 15 refl)) (and_then ! (load ! (from ! (stop !)) (look ! 9 refl)) (no_more !)))) (λ r-5 r-5-fits r-5-is.
         land ! (from ! (stop !)) (init ! 80 refl (tt, record { fits = r-5-fits })) $
         move ! (7 ∷ 58 ∷ []) $
-        shut-local ! tt u8 n-bytes b-bytes bytes (λ v_bytes v-bytes-is.
+        shut_local ! tt u8 n-bytes b-bytes bytes (λ v_bytes v-bytes-is.
         move ! (1 ∷ 2 ∷ 3 ∷ 4 ∷ 5 ∷ 6 ∷ 7 ∷ 8 ∷ 9 ∷ 10 ∷ 11 ∷ 12 ∷ 13 ∷ 14 ∷ 15 ∷ 16 ∷ 17 ∷ 18 ∷ 19 ∷ 20 ∷ 21 ∷ 22 ∷ 23 ∷ 24 ∷ 25 ∷ 26 ∷ 27 ∷ 28 ∷ 29 ∷ 30 ∷ 31 ∷ 32 ∷ 33 ∷ 34 ∷ 35 ∷ 36 ∷ 37 ∷ 38 ∷ 39 ∷ 40 ∷ 41 ∷ 42 ∷ 43 ∷ 44 ∷ 45 ∷ 46 ∷ 47 ∷ 48 ∷ 49 ∷ 50 ∷ 51 ∷ 52 ∷ 53 ∷ 54 ∷ 55 ∷ 56 ∷ 57 ∷ 0 ∷ []) $
         move ! (0 ∷ 55 ∷ []) $
-        shut-local ! tt u32 n-answers b-answers answers-2 (λ v-answers v-answers-is.
+        shut_local ! tt u32 n-answers b-answers answers-2 (λ v-answers v-answers-is.
         move ! (1 ∷ 2 ∷ 3 ∷ 4 ∷ 5 ∷ 6 ∷ 7 ∷ 8 ∷ 9 ∷ 10 ∷ 11 ∷ 12 ∷ 13 ∷ 14 ∷ 15 ∷ 16 ∷ 17 ∷ 18 ∷ 19 ∷ 20 ∷ 21 ∷ 22 ∷ 23 ∷ 24 ∷ 25 ∷ 26 ∷ 27 ∷ 28 ∷ 29 ∷ 30 ∷ 31 ∷ 32 ∷ 33 ∷ 34 ∷ 35 ∷ 36 ∷ 37 ∷ 38 ∷ 39 ∷ 40 ∷ 41 ∷ 42 ∷ 43 ∷ 44 ∷ 45 ∷ 46 ∷ 47 ∷ 48 ∷ 49 ∷ 50 ∷ 51 ∷ 52 ∷ 53 ∷ 54 ∷ 0 ∷ []) $
         returns_within ! Post refl (look ! 78 refl) $ forget ! 6 refl $ forget ! 8 refl $ forget ! 10 refl $ forget ! 12 refl $ forget ! 14 refl $ forget ! 16 refl $ forget ! 18 refl $ forget ! 20 refl $ forget ! 22 refl $ forget ! 24 refl $ forget ! 26 refl $ forget ! 28 refl $ forget ! 30 refl $ forget ! 32 refl $ forget ! 34 refl $ forget ! 36 refl $ forget ! 38 refl $ forget ! 40 refl $ forget ! 42 refl $ forget ! 44 refl $ forget ! 46 refl $ forget ! 48 refl $ forget ! 50 refl $ forget ! 52 refl $ forget ! 54 refl $ forget ! 56 refl $ forget ! 58 refl $ forget ! 60 refl $ forget ! 62 refl $ forget ! 64 refl $ forget ! 66 refl $ forget ! 68 refl $ forget ! 70 refl $ forget ! 72 refl $ forget ! 74 refl $ forget ! 76 refl $ forget ! 78 refl $
         free_all ! 6 refl $

@@ -2,7 +2,7 @@
 use Prim.Native.Nat.{◌*◌}
 use native.Mathlib.Omega.{arith}
 use borrow.Author.Rules.{rules}
-use Rattle.timing.proofs.Laws.{begun-is}
+use Rattle.timing.proofs.Laws.{begun_is}
 use Rattle.timing.proofs.clocks.begin_child.Statement.{statement}
 use Rattle.timing.proofs.clocks.begin_child.Tie as tie
 
@@ -18,7 +18,7 @@ ticked-of z = z.before.before.before.before
 add-t : tie.Need-overflow-add-t
 add-t c =
     let s = start_of c in
-    omega (arith, c.clock-at.ensures, s.pre (2 * s.args.p))
+    omega (arith, c.clock_at.ensures, s.pre (2 * s.args.p))
 
 returns : tie.Need-returns
 returns c =
@@ -27,7 +27,7 @@ returns c =
     let x = ticked-of y in
     let o = own_of x in
     let a = (start_of o).args in
-    begun-is a.clocks.now a.p a.g _ _ _ _ o.clock-at.ensures x.put-clock.ensures y.put-clock2.ensures z.put-clock3.ensures
+    begun_is a.clocks.now a.p a.g _ _ _ _ o.clock_at.ensures x.put-clock.ensures y.put-clock2.ensures z.put-clock3.ensures
 
 pub begin-child-spec : {M : Type 1} → statement M
 begin-child-spec =

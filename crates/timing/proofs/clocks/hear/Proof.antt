@@ -11,7 +11,7 @@ returns : tie.Need-returns
 returns c =
     let u = c.before.before in
     let z = u.before in
-    rw (u.put-clock.ensures, z.later.ensures, (word_of z).clock-at.ensures, add-one)
+    rw (u.put-clock.ensures, z.later.ensures, (word_of z).clock_at.ensures, add-one)
 
 pub hear-spec : {M : Type 1} → statement M
 hear-spec =

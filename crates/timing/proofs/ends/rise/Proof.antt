@@ -45,8 +45,8 @@ use denote.Triple.Statement.{Triple}
 use denote.Triple.Table.{entered, cited}
 use denote.Triple.Walked.{says, needs, Stays, stay_slice, stay_none, stay_none_slice, walk_of, Walks, ends_at, walked, Goes-slice, Goes-none, Goes-none_slice, walk_Meets}
 use borrow.Author.Rules.{scaled_Fits}
-use Rattle.frames.proofs.Lent.{at-list, Mine, Yours, ty_at, exit-unless, exit-if, leave-if, fork, skipped, regroup, matched, matched-last, const, is_true, is_false, not-not, differ, widen, less-fits, after, turn-of, take_out, put_in, put_back, look-out, look-back, free_all}
-use Rattle.frames.specs.Frames.{frameAt}
+use Rattle.frames.proofs.Lent.{at_list, Mine, Yours, ty_at, exit_unless, exit_if, leave_if, fork, skipped, regroup, matched, matched_last, const, is_true, is_false, not_not, differ, widen, less_fits, after, turn_of_lem, take_out, put_in, put_back, look_out, look_back, free_all}
+use Rattle.frames.specs.Frames.{frame_at}
 use Rattle.semantics.specs.Timing.{rise}
 use Rattle.timing.proofs.Called.frame_or_zero as S-frame-or-zero
 use Rattle.frames.proofs.frame_or_zero.Symbol as D-frame-or-zero
@@ -60,7 +60,7 @@ use Rattle.timing.proofs.Called.waits_for_one as S-waits-for-one
 use Rattle.timing.proofs.clocks.waits_for_one.Symbol as D-waits-for-one
 use Rattle.timing.proofs.clocks.waits_for_one.Symbol.{name as #waits-for-one}
 use Rattle.timing.proofs.clocks.waits_for_one.Met as T-waits-for-one
-use Rattle.semantics.specs.Timing.{waitsForOne}
+use Rattle.semantics.specs.Timing.{waits_for_one}
 use Rattle.timing.proofs.Called.latest_at as S-latest-at
 use Rattle.timing.proofs.clocks.latest_at.Symbol as D-latest-at
 use Rattle.timing.proofs.clocks.latest_at.Symbol.{name as #latest-at}
@@ -112,13 +112,13 @@ ty' i = ty_at (code.function).locals i
 
 -- the loop's body, and what runs after the loop
 abbrev turned' : Code
-turned' = turn-of (after 4 (code.function).body)
+turned' = turn_of_lem (after 4 (code.function).body)
 
 abbrev rest' : Code
 rest' = after 5 (code.function).body
 
 -- where a turn of the loop begins
-record State' (clocks : List ℕ) (frames : List Frame) (first' : ℕ) (t : ℕ) (clocks-fits : length clocks < 2 ^ 64) (frames-fits : length frames < 2 ^ 64) (first'-fits : first' < 2 ^ 32) (t-fits : t < 2 ^ 64) (r-1 : Frame) (r-1-is : r-1 ≡ frameAt frames first') : Type 0 where
+record State' (clocks : List ℕ) (frames : List Frame) (first' : ℕ) (t : ℕ) (clocks-fits : length clocks < 2 ^ 64) (frames-fits : length frames < 2 ^ 64) (first'-fits : first' < 2 ^ 32) (t-fits : t < 2 ^ 64) (r-1 : Frame) (r-1-is : r-1 ≡ frame_at frames first') : Type 0 where
   v-p : ℕ
   g-p : v-p < 2 ^ 32
   v-clock : ℕ
@@ -138,7 +138,7 @@ module _ {M : Type 1} {𝓤 : Ura M} (𝓛 : Logic 𝓤) (mem : Memory → SProp
   n-frames = length frames
 
   abbrev args' : Bor (List ℕ) × (Bor (List Frame) × (ℕ × (ℕ × Unit {0})))
-  args' = (at-list b-clocks o-clocks γ-clocks clocks, (at-list b-frames o-frames γ-frames frames, (first', (t, tt))))
+  args' = (at_list b-clocks o-clocks γ-clocks clocks, (at_list b-frames o-frames γ-frames frames, (first', (t, tt))))
 
   abbrev vals' : Vals f'.signature (κ-clocks, (κ-frames, tt))
   vals' = (slice_val (b-clocks, o-clocks) (length clocks) ∷ [], (slice_val (b-frames, o-frames) (length frames) ∷ [], (vint w32 first' ∷ [], (vint w64 t ∷ [], tt))))
@@ -149,7 +149,7 @@ module _ {M : Type 1} {𝓤 : Ura M} (𝓛 : Logic 𝓤) (mem : Memory → SProp
   abbrev Post : Val → SProp 𝓤
   Post = (walk_of 𝓛 f'.ended stayed (f'.clauses 𝓛 mem run)).post bound'
 
-  exits' : (res' : Rise) → Is R-Rise res' (val-Rise res' ∷ []) → res' ≡ rise (frameAt frames first').depth frames clocks first' t → ent 𝓤 (⋆ 𝓛 (‵ (Yours u64 κ-clocks q-clocks γ-clocks b-clocks o-clocks n-clocks clocks) ∷ ‵ (Yours R-Frame κ-frames q-frames γ-frames b-frames o-frames n-frames frames) ∷ [])) (Post (val-Rise res'))
+  exits' : (res' : Rise) → Is R-Rise res' (val-Rise res' ∷ []) → res' ≡ rise (frame_at frames first').depth frames clocks first' t → ent 𝓤 (⋆ 𝓛 (‵ (Yours u64 κ-clocks q-clocks γ-clocks b-clocks o-clocks n-clocks clocks) ∷ ‵ (Yours R-Frame κ-frames q-frames γ-frames b-frames o-frames n-frames frames) ∷ [])) (Post (val-Rise res'))
   exits' res' good' e' =
       qed 𝓛 (‵ (Yours u64 κ-clocks q-clocks γ-clocks b-clocks o-clocks n-clocks clocks) ∷ ‵ (Yours R-Frame κ-frames q-frames γ-frames b-frames o-frames n-frames frames) ∷ []) ∵
       suffices ! _ (ends_at 𝓛 f'.ended stayed (f'.clauses 𝓛 mem run) bound' (val-Rise res') res' (tt, (tt, (tt, (tt, tt)))) (tt, (tt, (tt, (tt, tt))))) $ says ! e' $
@@ -161,7 +161,7 @@ module _ {M : Type 1} {𝓤 : Ura M} (𝓛 : Logic 𝓤) (mem : Memory → SProp
     abbrev fm : FmC 𝓤 H 𝓛.laws 𝓣.C
     fm = fm_of 𝓤 H 𝓛.laws 𝓣
 
-    module _ (r-1 : Frame) (r-1-is : r-1 ≡ frameAt frames first') (r-1-good : Is R-Frame r-1 (val-Frame r-1 ∷ [])) (l₀ l₁ l₂ l₃ l₄ l₅ l₆ l₇ l₈ l₉ l₁₀ l₁₁ l₁₂ l₁₃ l₁₄ : ℕ) where
+    module _ (r-1 : Frame) (r-1-is : r-1 ≡ frame_at frames first') (r-1-good : Is R-Frame r-1 (val-Frame r-1 ∷ [])) (l₀ l₁ l₂ l₃ l₄ l₅ l₆ l₇ l₈ l₉ l₁₀ l₁₁ l₁₂ l₁₃ l₁₄ : ℕ) where
       abbrev S' : Type 0
       S' = State' clocks frames first' t room-clocks.0 room-frames.0 first'-fits t-fits r-1 r-1-is
 
@@ -186,7 +186,7 @@ module _ {M : Type 1} {𝓤 : Ura M} (𝓛 : Logic 𝓤) (mem : Memory → SProp
         unfolding after_turn
         turn' =
             assigns ! (bin ! (const ! _ tt) (load ! (from ! (stop !)) (look ! 16 refl)) tt) (from ! (stop !)) (init ! 8 refl (tt, tt)) $
-            exit-unless ! (load ! (from ! (stop !)) (look ! 8 refl))
+            exit_unless ! (load ! (from ! (stop !)) (look ! 8 refl))
             (λ test-5.
             exec ! 𝓣.C 𝓣.Λ En' rest' (at_ret En' Post) $
             -- _0 = timing::ends::stops_at(4294967295, false, _6)
@@ -212,7 +212,7 @@ module _ {M : Type 1} {𝓤 : Ura M} (𝓛 : Logic 𝓤) (mem : Memory → SProp
             (and_then ! (load ! (from ! (stop !)) (look ! 13 refl)) (no_more !)) (λ r-10 r-10-is.
             land ! (from ! (stop !)) (store ! 8 refl (tt, tt)) $
             assigns ! (un ! (load ! (from ! (stop !)) (look ! 8 refl)) tt) (from ! (stop !)) (init ! 4 refl (tt, tt)) $
-            leave-if ! (load ! (from ! (stop !)) (look ! 4 refl))
+            leave_if ! (load ! (from ! (stop !)) (look ! 4 refl))
             (λ test-11.
             -- _0 = timing::ends::stops_at(_8, false, _6)
             S-stops-at.step mem run ! fm known-stops-at r-8.parent false clock (LL.owed M-Frame.the_type L-Frame.the_laws r-8 _ r-8-good).1.0.1 clock-fits
@@ -224,7 +224,7 @@ module _ {M : Type 1} {𝓤 : Ura M} (𝓛 : Logic 𝓤) (mem : Memory → SProp
             by ! (exits' r-12 r-12-good (F.out-13 clocks frames first' t room-clocks.0 room-frames.0 first'-fits t-fits r-1 r-1-is p clock more p-fits clock-fits more-fits inv' (ltb→lt 0 more test-5) r-8 r-8-is f f-is r-10 r-10-is (is_false r-10 test-11) r-12 r-12-is))))
             (λ test-11.
             assigns ! (bin ! (load ! (from ! (fld ! refl (stop !))) (look_in ! 12 (sub ! 6 refl (whole !)))) (const ! _ tt) tt) (from ! (stop !)) (store ! 8 refl (tt, tt)) $
-            leave-if ! (load ! (from ! (stop !)) (look ! 8 refl))
+            leave_if ! (load ! (from ! (stop !)) (look ! 8 refl))
             (λ test-14.
             -- _0 = timing::ends::stops_at(_8, true, _6)
             S-stops-at.step mem run ! fm known-stops-at r-8.parent true clock (LL.owed M-Frame.the_type L-Frame.the_laws r-8 _ r-8-good).1.0.1 clock-fits
@@ -233,7 +233,7 @@ module _ {M : Type 1} {𝓤 : Ura M} (𝓛 : Logic 𝓤) (mem : Memory → SProp
             returns_within ! Post refl (look ! 30 refl) $ forget ! 4 refl $ forget ! 6 refl $ forget ! 8 refl $ forget ! 10 refl $ forget ! 12 refl $ forget ! 14 refl $ forget ! 16 refl $ forget ! 18 refl $ forget ! 20 refl $ forget ! 22 refl $ forget ! 24 refl $ forget ! 26 refl $ forget ! 28 refl $ forget ! 30 refl $
             free_all ! 2 refl $
             move ! (1 ∷ 0 ∷ []) $
-            by ! (exits' r-15 r-15-good (F.out-16 clocks frames first' t room-clocks.0 room-frames.0 first'-fits t-fits r-1 r-1-is p clock more p-fits clock-fits more-fits inv' (ltb→lt 0 more test-5) r-8 r-8-is f f-is r-10 r-10-is (is_true r-10 (not-not r-10 test-11)) (differ f.returning 1 test-14) r-15 r-15-is))))
+            by ! (exits' r-15 r-15-good (F.out-16 clocks frames first' t room-clocks.0 room-frames.0 first'-fits t-fits r-1 r-1-is p clock more p-fits clock-fits more-fits inv' (ltb→lt 0 more test-5) r-8 r-8-is f f-is r-10 r-10-is (is_true r-10 (not_not r-10 test-11)) (differ f.returning 1 test-14) r-15 r-15-is))))
             (λ test-14.
             -- _14 = timing::clocks::latest_at(_1, _8)
             move ! (1 ∷ []) $
@@ -245,9 +245,9 @@ module _ {M : Type 1} {𝓤 : Ura M} (𝓛 : Logic 𝓤) (mem : Memory → SProp
             (and_then ! (load ! (from ! (stop !)) (look ! 3 refl)) (and_then ! (load ! (from ! (stop !)) (look ! 19 refl)) (no_more !))) (λ clock' clock'-fits clock'-is.
             land ! (from ! (stop !)) (store ! 18 refl (tt, record { fits = clock'-fits })) $
             assigns ! (of_opd ! (load ! (from ! (stop !)) (look ! 14 refl))) (from ! (stop !)) (store ! 20 refl (tt, record { fits = (LL.owed M-Frame.the_type L-Frame.the_laws r-8 _ r-8-good).1.0.1 })) $
-            assigns_last ! (bin ! (load ! (from ! (stop !)) (look ! 16 refl)) (const ! _ tt) (F.small-19 clocks frames first' t room-clocks.0 room-frames.0 first'-fits t-fits r-1 r-1-is p clock more p-fits clock-fits more-fits inv' (ltb→lt 0 more test-5) r-8 r-8-is f f-is r-10 r-10-is (is_true r-10 (not-not r-10 test-11)) (eqb→eq f.returning 1 (not-not (eqb f.returning 1) test-14)) r-17 r-17-fits r-17-is clock' clock'-fits clock'-is)) (from ! (stop !)) (store ! 16 refl (tt, record { fits = (less-fits more 1 (2 ^ 32) more-fits) })) $
+            assigns_last ! (bin ! (load ! (from ! (stop !)) (look ! 16 refl)) (const ! _ tt) (F.small-19 clocks frames first' t room-clocks.0 room-frames.0 first'-fits t-fits r-1 r-1-is p clock more p-fits clock-fits more-fits inv' (ltb→lt 0 more test-5) r-8 r-8-is f f-is r-10 r-10-is (is_true r-10 (not_not r-10 test-11)) (eqb→eq f.returning 1 (not_not (eqb f.returning 1) test-14)) r-17 r-17-fits r-17-is clock' clock'-fits clock'-is)) (from ! (stop !)) (store ! 16 refl (tt, record { fits = (less_fits more 1 (2 ^ 32) more-fits) })) $
             forget ! 2 refl $ forget ! 4 refl $ forget ! 6 refl $ forget ! 8 refl $ forget ! 12 refl $ forget ! 14 refl $
-            again ! Less' Inv' here' (record { v-p = r-8.parent; g-p = (LL.owed M-Frame.the_type L-Frame.the_laws r-8 _ r-8-good).1.0.1; v-clock = clock'; g-clock = clock'-fits; v-more = (more - 1); g-more = (less-fits more 1 (2 ^ 32) more-fits); holds = (F.goes_on clocks frames first' t room-clocks.0 room-frames.0 first'-fits t-fits r-1 r-1-is p clock more p-fits clock-fits more-fits inv' (ltb→lt 0 more test-5) r-8 r-8-is f f-is r-10 r-10-is (is_true r-10 (not-not r-10 test-11)) (eqb→eq f.returning 1 (not-not (eqb f.returning 1) test-14)) r-17 r-17-fits r-17-is clock' clock'-fits clock'-is) }) (F.falls clocks frames first' t room-clocks.0 room-frames.0 first'-fits t-fits r-1 r-1-is p clock more p-fits clock-fits more-fits inv' (ltb→lt 0 more test-5) r-8 r-8-is f f-is r-10 r-10-is (is_true r-10 (not-not r-10 test-11)) (eqb→eq f.returning 1 (not-not (eqb f.returning 1) test-14)) r-17 r-17-fits r-17-is clock' clock'-fits clock'-is)))))))))
+            again ! Less' Inv' here' (record { v-p = r-8.parent; g-p = (LL.owed M-Frame.the_type L-Frame.the_laws r-8 _ r-8-good).1.0.1; v-clock = clock'; g-clock = clock'-fits; v-more = (more - 1); g-more = (less_fits more 1 (2 ^ 32) more-fits); holds = (F.goes_on clocks frames first' t room-clocks.0 room-frames.0 first'-fits t-fits r-1 r-1-is p clock more p-fits clock-fits more-fits inv' (ltb→lt 0 more test-5) r-8 r-8-is f f-is r-10 r-10-is (is_true r-10 (not_not r-10 test-11)) (eqb→eq f.returning 1 (not_not (eqb f.returning 1) test-14)) r-17 r-17-fits r-17-is clock' clock'-fits clock'-is) }) (F.falls clocks frames first' t room-clocks.0 room-frames.0 first'-fits t-fits r-1 r-1-is p clock more p-fits clock-fits more-fits inv' (ltb→lt 0 more test-5) r-8 r-8-is f f-is r-10 r-10-is (is_true r-10 (not_not r-10 test-11)) (eqb→eq f.returning 1 (not_not (eqb f.returning 1) test-14)) r-17 r-17-fits r-17-is clock' clock'-fits clock'-is)))))))))
 
       loop' : Seq (Go {0}) 𝓛 (Inv' (record { v-p = first'; g-p = first'-fits; v-clock = t; g-clock = t-fits; v-more = r-1.depth; g-more = (LL.owed M-Frame.the_type L-Frame.the_laws r-1 _ r-1-good).1.1.0.1; holds = (F.begins clocks frames first' t room-clocks.0 room-frames.0 first'-fits t-fits r-1 r-1-is) })) (runs 𝓣.C 𝓣.Λ En' (loopᴹ turned') (any_q (after_block 𝓤 H (after_seq 𝓤 H (Wp 𝓤 H 𝓣.C 𝓣.Λ En' rest' (at_return 𝓤 H En' Post)) (at_return 𝓤 H En' Post)))))
       unfolding after_turn

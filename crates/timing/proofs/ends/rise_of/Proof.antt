@@ -44,10 +44,10 @@ use denote.Triple.Statement.{Triple}
 use denote.Triple.Table.{entered, cited}
 use denote.Triple.Walked.{says, needs, Stays, stay_slice, stay_none, stay_none_slice, walk_of, Walks, ends_at, walked, Goes-slice, Goes-none, Goes-none_slice, walk_Meets}
 use borrow.Author.Rules.{scaled_Fits}
-use Rattle.frames.proofs.Lent.{at-list, Mine, Yours, ty_at, exit-unless, exit-if, leave-if, fork, skipped, regroup, matched, matched-last, const, is_true, is_false, not-not, differ, widen, less-fits, after, turn-of, take_out, put_in, put_back, look-out, look-back, free_all}
-use Rattle.frames.specs.Frames.{frameAt}
+use Rattle.frames.proofs.Lent.{at_list, Mine, Yours, ty_at, exit_unless, exit_if, leave_if, fork, skipped, regroup, matched, matched_last, const, is_true, is_false, not_not, differ, widen, less_fits, after, turn_of_lem, take_out, put_in, put_back, look_out, look_back, free_all}
+use Rattle.frames.specs.Frames.{frame_at}
 use Rattle.semantics.specs.Timing.{latest, rise}
-use Rattle.timing.specs.Turns.{kindAt}
+use Rattle.timing.specs.Turns.{kind_at}
 use Rattle.timing.proofs.Called.kind_at as S-kind-at
 use Rattle.timing.proofs.turns.kind_at.Symbol as D-kind-at
 use Rattle.timing.proofs.turns.kind_at.Symbol.{name as #kind-at}
@@ -105,7 +105,7 @@ module _ {M : Type 1} {𝓤 : Ura M} (𝓛 : Logic 𝓤) (mem : Memory → SProp
   n-tape = length tape
 
   abbrev args' : Bor (List ℕ) × (Bor (List Frame) × (Bor (List ℕ) × (ℕ × (ℕ × Unit {0}))))
-  args' = (at-list b-clocks o-clocks γ-clocks clocks, (at-list b-frames o-frames γ-frames frames, (at-list b-tape o-tape γ-tape tape, (i, (p, tt)))))
+  args' = (at_list b-clocks o-clocks γ-clocks clocks, (at_list b-frames o-frames γ-frames frames, (at_list b-tape o-tape γ-tape tape, (i, (p, tt)))))
 
   abbrev vals' : Vals f'.signature (κ-clocks, (κ-frames, (κ-tape, tt)))
   vals' = (slice_val (b-clocks, o-clocks) (length clocks) ∷ [], (slice_val (b-frames, o-frames) (length frames) ∷ [], (slice_val (b-tape, o-tape) (length tape) ∷ [], (vint w64 i ∷ [], (vint w32 p ∷ [], tt)))))
@@ -116,7 +116,7 @@ module _ {M : Type 1} {𝓤 : Ura M} (𝓛 : Logic 𝓤) (mem : Memory → SProp
   abbrev Post : Val → SProp 𝓤
   Post = (walk_of 𝓛 f'.ended stayed (f'.clauses 𝓛 mem run)).post bound'
 
-  exits' : (res' : Rise) → Is R-Rise res' (val-Rise res' ∷ []) → (kindAt tape i ≡ 2 → res' ≡ rise (frameAt frames p).depth frames clocks p (latest clocks p)) → ent 𝓤 (⋆ 𝓛 (‵ (Yours u64 κ-clocks q-clocks γ-clocks b-clocks o-clocks n-clocks clocks) ∷ ‵ (Yours R-Frame κ-frames q-frames γ-frames b-frames o-frames n-frames frames) ∷ ‵ (Yours u8 κ-tape q-tape γ-tape b-tape o-tape n-tape tape) ∷ [])) (Post (val-Rise res'))
+  exits' : (res' : Rise) → Is R-Rise res' (val-Rise res' ∷ []) → (kind_at tape i ≡ 2 → res' ≡ rise (frame_at frames p).depth frames clocks p (latest clocks p)) → ent 𝓤 (⋆ 𝓛 (‵ (Yours u64 κ-clocks q-clocks γ-clocks b-clocks o-clocks n-clocks clocks) ∷ ‵ (Yours R-Frame κ-frames q-frames γ-frames b-frames o-frames n-frames frames) ∷ ‵ (Yours u8 κ-tape q-tape γ-tape b-tape o-tape n-tape tape) ∷ [])) (Post (val-Rise res'))
   exits' res' good' e' =
       qed 𝓛 (‵ (Yours u64 κ-clocks q-clocks γ-clocks b-clocks o-clocks n-clocks clocks) ∷ ‵ (Yours R-Frame κ-frames q-frames γ-frames b-frames o-frames n-frames frames) ∷ ‵ (Yours u8 κ-tape q-tape γ-tape b-tape o-tape n-tape tape) ∷ []) ∵
       suffices ! _ (ends_at 𝓛 f'.ended stayed (f'.clauses 𝓛 mem run) bound' (val-Rise res') res' (tt, (tt, (tt, (tt, (tt, tt))))) (tt, (tt, (tt, (tt, (tt, tt)))))) $ says ! e' $
@@ -141,7 +141,7 @@ module _ {M : Type 1} {𝓤 : Ura M} (𝓛 : Logic 𝓤) (mem : Memory → SProp
         (and_then ! (load ! (from ! (stop !)) (look ! 14 refl)) (and_then ! (load ! (from ! (stop !)) (look ! 12 refl)) (no_more !))) (λ r-1 r-1-fits r-1-is.
         land ! (from ! (stop !)) (init ! 7 refl (tt, record { fits = r-1-fits })) $
         assigns ! (bin ! (load ! (from ! (stop !)) (look ! 7 refl)) (const ! _ tt) tt) (from ! (stop !)) (init ! 5 refl (tt, tt)) $
-        leave-if ! (load ! (from ! (stop !)) (look ! 5 refl))
+        leave_if ! (load ! (from ! (stop !)) (look ! 5 refl))
         (λ test-2.
         -- _0 = timing::ends::stops_at(0, false, 0)
         S-stops-at.step mem run ! fm known-stops-at 0 false 0 (lit< tt) (lit< tt)
@@ -164,7 +164,7 @@ module _ {M : Type 1} {𝓤 : Ura M} (𝓛 : Logic 𝓤) (mem : Memory → SProp
         land ! (from ! (stop !)) (init ! 19 refl ((LL.lawful M-Rise.the_type L-Rise.the_laws 𝓛).typed r-6 _ r-6-good).0) $
         returns_within ! Post refl (look ! 19 refl) $ forget ! 3 refl $ forget ! 5 refl $ forget ! 7 refl $ forget ! 9 refl $ forget ! 11 refl $ forget ! 13 refl $ forget ! 15 refl $ forget ! 17 refl $ forget ! 19 refl $
         free_all ! 3 refl $
-        by ! (exits' r-6 r-6-good (F.out-7 clocks frames tape i p room-clocks.0 room-frames.0 room-tape.0 i-fits p-fits ok' r-1 r-1-fits r-1-is (eqb→eq r-1 2 (not-not (eqb r-1 2) test-2)) r-5 r-5-fits r-5-is r-6 r-6-is)))))))))))))))
+        by ! (exits' r-6 r-6-good (F.out-7 clocks frames tape i p room-clocks.0 room-frames.0 room-tape.0 i-fits p-fits ok' r-1 r-1-fits r-1-is (eqb→eq r-1 2 (not_not (eqb r-1 2) test-2)) r-5 r-5-fits r-5-is r-6 r-6-is)))))))))))))))
 
 module _ {M : Type 1} {𝓤 : Ura M} (𝓛 : Logic 𝓤) (mem : Memory → SProp 𝓤) (run : Routine → Fun 𝓤) (𝓣 : Tables 𝓤 𝓛.H) where
   open 𝓛 use {H}

@@ -2,8 +2,8 @@
 use Prim.Native.Nat.{◌+◌, ◌*◌}
 use native.Mathlib.Omega.{arith}
 use borrow.Author.Rules.{rules}
-use Rattle.timing.specs.Turns.{workerAt}
-use Rattle.timing.proofs.Laws.{bottom-idle, bottom-busy}
+use Rattle.timing.specs.Turns.{worker_at}
+use Rattle.timing.proofs.Laws.{bottom-idle, bottom_busy}
 use Rattle.timing.proofs.turns.bottom_of.Statement.{statement}
 use Rattle.timing.proofs.turns.bottom_of.Tie as tie
 
@@ -28,7 +28,7 @@ returns : tie.Need-returns
 returns c =
     let n = c.before.before in
     let s = start_of (byte_of n) in
-    bottom-idle s.args.deques.now (workerAt s.args.tape.now s.args.i) _ _ n.word.ensures c.before.if1.true c.word2.ensures
+    bottom-idle s.args.deques.now (worker_at s.args.tape.now s.args.i) _ _ n.word.ensures c.before.if1.true c.word2.ensures
 
 add-word-2 : tie.Need-overflow-add-word-2
 add-word-2 c =
@@ -40,7 +40,7 @@ returns-2 : tie.Need-returns-2
 returns-2 c =
     let n = c.before.before in
     let s = start_of (byte_of n) in
-    bottom-busy s.args.deques.now (workerAt s.args.tape.now s.args.i) _ _ n.word.ensures c.before.if1.false c.word3.ensures
+    bottom_busy s.args.deques.now (worker_at s.args.tape.now s.args.i) _ _ n.word.ensures c.before.if1.false c.word3.ensures
 
 pub bottom-of-spec : {M : Type 1} → statement M
 bottom-of-spec =

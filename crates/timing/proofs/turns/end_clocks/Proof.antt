@@ -1,6 +1,6 @@
 -- Main's end, a sync that passes, and neither (`ended-main`, `ended-passes`, `ended-waits` of `proofs.Laws`).
 use borrow.Author.Rules.{rules}
-use Rattle.timing.proofs.Laws.{room-heard, ended-main, ended-passes, ended-waits}
+use Rattle.timing.proofs.Laws.{room_heard, ended-main, ended_passes, ended_waits}
 use Rattle.timing.proofs.turns.end_clocks.Statement.{statement}
 use Rattle.timing.proofs.turns.end_clocks.Tie as tie
 
@@ -19,7 +19,7 @@ pass-sync-requires : tie.Need-pass-sync-requires
 pass-sync-requires c κs =
     let h = c.before.before.before.before in
     let s = start_of (other-of h) in
-    room-heard s.args.clocks.now _ s.args.r.place s.args.r.clock s.pre.0 s.pre.1 h.hear.ensures
+    room_heard s.args.clocks.now _ s.args.r.place s.args.r.clock s.pre.0 s.pre.1 h.hear.ensures
 
 returns-2 : tie.Need-returns-2
 returns-2 c =
@@ -28,14 +28,14 @@ returns-2 c =
     let h = test.before.before.before in
     let o = other-of h in
     let s = start_of o in
-    ended-passes s.args.clocks.now s.args.t.work s.args.t.span s.args.r _ o.if1.left h.hear.ensures _ test.if2.true z.pass-sync.ensures
+    ended_passes s.args.clocks.now s.args.t.work s.args.t.span s.args.r _ o.if1.left h.hear.ensures _ test.if2.true z.pass-sync.ensures
 
 returns-3 : tie.Need-returns-3
 returns-3 c =
     let h = c.before.before.before in
     let o = other-of h in
     let s = start_of o in
-    ended-waits s.args.clocks.now s.args.t.work s.args.t.span s.args.r _ o.if1.left h.hear.ensures c.if2.false
+    ended_waits s.args.clocks.now s.args.t.work s.args.t.span s.args.r _ o.if1.left h.hear.ensures c.if2.false
 
 pub end-clocks-spec : {M : Type 1} → statement M
 end-clocks-spec =

@@ -1,6 +1,6 @@
 -- A law of `proofs.Laws` for each answer.
 use borrow.Author.Rules.{rules}
-use Rattle.timing.proofs.Laws.{timed-data, timed-spawn, timed-pass, timed-sync, timed-wait, timed-ends, timed-none}
+use Rattle.timing.proofs.Laws.{timed_data, timed_spawn, timed_pass, timed_sync, timed_wait, timed_ends, timed_none}
 use Rattle.timing.proofs.turns.time_first.Statement.{statement}
 use Rattle.timing.proofs.turns.time_first.Tie as tie
 
@@ -23,7 +23,7 @@ returns c =
     let test = z.before.before in
     let cost = test.before in
     let a = (start_of cost).args in
-    timed-data a.first a.second a.p a.g a.r a.clocks.now a.t.work a.t.span _ _ cost.costing.ensures.0 cost.costing.ensures.1 _ test.if1.true z.tick.ensures
+    timed_data a.first a.second a.p a.g a.r a.clocks.now a.t.work a.t.span _ _ cost.costing.ensures.0 cost.costing.ensures.1 _ test.if1.true z.tick.ensures
 
 returns-2 : tie.Need-returns-2
 returns-2 c =
@@ -31,13 +31,13 @@ returns-2 c =
     let test = z.before.before in
     let cost = test.before.before in
     let a = (start_of cost).args in
-    timed-spawn a.first a.second a.p a.g a.r a.clocks.now a.t.work a.t.span _ _ cost.costing.ensures.0 cost.costing.ensures.1 _ test.if2.true z.begin-child.ensures
+    timed_spawn a.first a.second a.p a.g a.r a.clocks.now a.t.work a.t.span _ _ cost.costing.ensures.0 cost.costing.ensures.1 _ test.if2.true z.begin-child.ensures
 
 returns-3 : tie.Need-returns-3
 returns-3 c =
     let test = c.before in
     let a = (start_of (cost-of test.before)).args in
-    timed-wait a.first a.second a.p a.g a.r a.clocks.now a.t.work a.t.span test.if3.true c.if4.true
+    timed_wait a.first a.second a.p a.g a.r a.clocks.now a.t.work a.t.span test.if3.true c.if4.true
 
 end-clocks-requires : tie.Need-end-clocks-requires
 end-clocks-requires c κs =
@@ -51,7 +51,7 @@ returns-4 c =
     let ends = z.before.before in
     let test = ends.before in
     let a = (start_of (cost-of test.before)).args in
-    timed-ends a.first a.second a.p a.g a.r a.clocks.now a.t.work a.t.span _ test.if3.true ends.if4.false z.end-clocks.ensures
+    timed_ends a.first a.second a.p a.g a.r a.clocks.now a.t.work a.t.span _ test.if3.true ends.if4.false z.end-clocks.ensures
 
 returns-5 : tie.Need-returns-5
 returns-5 c =
@@ -60,21 +60,21 @@ returns-5 c =
     let test = pass.before in
     let cost = cost-of test.before.before in
     let a = (start_of cost).args in
-    timed-pass a.first a.second a.p a.g a.r a.clocks.now a.t.work a.t.span _ _ cost.costing.ensures.0 cost.costing.ensures.1 _ test.if5.true pass.if6.true z.pass-sync.ensures
+    timed_pass a.first a.second a.p a.g a.r a.clocks.now a.t.work a.t.span _ _ cost.costing.ensures.0 cost.costing.ensures.1 _ test.if5.true pass.if6.true z.pass-sync.ensures
 
 returns-6 : tie.Need-returns-6
 returns-6 c =
     let test = c.before in
     let cost = cost-of test.before.before in
     let a = (start_of cost).args in
-    timed-sync a.first a.second a.p a.g a.r a.clocks.now a.t.work a.t.span _ _ cost.costing.ensures.0 cost.costing.ensures.1 test.if5.true c.if6.false
+    timed_sync a.first a.second a.p a.g a.r a.clocks.now a.t.work a.t.span _ _ cost.costing.ensures.0 cost.costing.ensures.1 test.if5.true c.if6.false
 
 returns-7 : tie.Need-returns-7
 returns-7 c =
     let other = c.before in
     let spawn = other.before in
     let a = (start_of (cost-of spawn)).args in
-    timed-none a.first a.second a.p a.g a.r a.clocks.now a.t.work a.t.span spawn.before.if1.false spawn.if2.false other.if3.false c.if5.false
+    timed_none a.first a.second a.p a.g a.r a.clocks.now a.t.work a.t.span spawn.before.if1.false spawn.if2.false other.if3.false c.if5.false
 
 pub time-first-spec : {M : Type 1} → statement M
 time-first-spec =

@@ -2,9 +2,9 @@
 -- A module's binders are what is known at that point; a `?` is a goal (`rt dev engine --allow-holes` prints each).
 use Rattle.std.proofs.Common.{◌≡◌, ℕ, ◌+◌, ◌-◌, ◌*◌, ◌^◌, ◌<◌, ◌≤◌, Bool, true, false, List, length, get_or, set, sym, refl, ap, ◌∙◌, subst, arith}
 use Rattle.semantics.specs.Promises.{parts, Fits}
-use Rattle.engine.specs.Promises.{IsCheck, tablesChecked}
-use Rattle.soundness.specs.Numbers.{numbersIn, numberCount}
-use Rattle.frames.specs.Widths.{dequeWords}
+use Rattle.engine.specs.Promises.{IsCheck, tables_checked}
+use Rattle.soundness.specs.Numbers.{numbers_in, number_count}
+use Rattle.frames.specs.Widths.{deque_words}
 use Rattle.frames.specs.declared.Frame.{Frame}
 use Rattle.soundness.specs.declared.Checked.{Checked}
 use Rattle.soundness.specs.declared.Numbers.{Numbers}
@@ -15,12 +15,12 @@ use Rattle.soundness.specs.Layout.{two_words}
 module _
     (numbers : List ℕ) (deques : List ℕ) (frames : List Frame) (pool : List ℕ) (work : List ℕ) (numbers-fits : length numbers < 2 ^ 64) (deques-fits : length deques < 2 ^ 64) (frames-fits : length frames < 2 ^ 64) (pool-fits : length pool < 2 ^ 64) (work-fits : length work < 2 ^ 64) (ok : Fits (parts numbers deques frames)) where
   -- engine::numbers::numbers_in asks
-  pub needs-1 : length numbers ≡ numberCount
+  pub needs-1 : length numbers ≡ number_count
   needs-1 = ok.numbers
 
   module _
       -- engine::numbers::numbers_in(numbers)
-      (n : Numbers) (n-is : n ≡ numbersIn numbers) where
+      (n : Numbers) (n-is : n ≡ numbers_in numbers) where
     module _
         (test-2 : (length work) < n.nodes) where
       -- a way out: what the function ensures
@@ -30,15 +30,15 @@ module _
     module _
         (test-2 : n.nodes ≤ (length work)) where
       -- engine::checking::check_tables asks
-      pub needs-4 : length deques ≡ dequeWords
+      pub needs-4 : length deques ≡ deque_words
       needs-4 = ok.deques
 
       module _
           -- engine::checking::check_tables(n, deques, frames, pool)
-          (tables' : FramesChecked) (tables'-is : tables' ≡ tablesChecked n deques frames pool) where
+          (tables' : FramesChecked) (tables'-is : tables' ≡ tables_checked n deques frames pool) where
         -- engine::checking::check_rest asks
-        pub needs-5 : Fits (parts numbers deques frames) × ((numbersIn numbers).nodes ≤ length work) × (tables' ≡ tablesChecked (numbersIn numbers) deques frames pool)
-        needs-5 = (ok, subst (λ (k' : Numbers). k'.nodes ≤ length work) n-is test-2, tables'-is ∙ ap (λ (k' : Numbers). tablesChecked k' deques frames pool) n-is)
+        pub needs-5 : Fits (parts numbers deques frames) × ((numbers_in numbers).nodes ≤ length work) × (tables' ≡ tables_checked (numbers_in numbers) deques frames pool)
+        needs-5 = (ok, subst (λ (k' : Numbers). k'.nodes ≤ length work) n-is test-2, tables'-is ∙ ap (λ (k' : Numbers). tables_checked k' deques frames pool) n-is)
 
         module _
             -- engine::checking::check_rest(numbers, deques, frames, pool, work, tables')

@@ -1,27 +1,27 @@
 -- The facts of the walk of `engine::entries::load`, for its author to prove. tools/walk wrote the statements, and never writes over this file.
 -- A module's binders are what is known at that point; a `?` is a goal (`rt dev engine --allow-holes` prints each).
 use Rattle.std.proofs.Common.{◌≡◌, ℕ, ◌+◌, ◌-◌, ◌*◌, ◌^◌, ◌<◌, ◌≤◌, Bool, true, false, ◌&&◌, eqb, List, length, get_or, set, replicate, sym, refl, ap, ◌∙◌, subst, arith}
-use Rattle.semantics.specs.Images.{loadWith}
+use Rattle.semantics.specs.Images.{load_with}
 use Rattle.semantics.specs.Promises.{parts, IsLoad, Fits, IsLoadWith}
-use Rattle.frames.specs.Widths.{dequeWords}
-use Rattle.soundness.specs.Numbers.{numberCount}
+use Rattle.frames.specs.Widths.{deque_words}
+use Rattle.soundness.specs.Numbers.{number_count}
 use Rattle.frames.specs.declared.Frame.{Frame}
-use Rattle.engine.proofs.Fitting.{fit, load-unfit, load-fit}
+use Rattle.engine.proofs.Fitting.{fit, load_unfit, load_fit}
 use Rattle.soundness.specs.Layout.{two_words}
-use Rattle.semantics.specs.Remembering.{loadRemembering}
-use Rattle.memory.specs.Memory.{memoryWords}
+use Rattle.semantics.specs.Remembering.{load_remembering}
+use Rattle.memory.specs.Memory.{memory_words}
 
 module _
     (numbers : List ℕ) (deques : List ℕ) (frames : List Frame) (memory : List ℕ) (pool : List ℕ) (work : List ℕ) (image : List ℕ) (numbers-fits : length numbers < 2 ^ 64) (deques-fits : length deques < 2 ^ 64) (frames-fits : length frames < 2 ^ 64) (memory-fits : length memory < 2 ^ 64) (pool-fits : length pool < 2 ^ 64) (work-fits : length work < 2 ^ 64) (image-fits : length image < 2 ^ 64)
     -- engine::entries::fit(numbers, deques, memory)
-    (r-1 : Bool) (r-1-is : r-1 ≡ (eqb (length numbers) numberCount && eqb (length deques) dequeWords) && eqb (length memory) memoryWords) where
+    (r-1 : Bool) (r-1-is : r-1 ≡ (eqb (length numbers) number_count && eqb (length deques) deque_words) && eqb (length memory) memory_words) where
   module _
       (test-2 : r-1 ≡ false)
       -- engine::entries::unfit()
       (r-3 : ℕ) (r-3-fits : r-3 < 2 ^ 32) (r-3-is : r-3 ≡ 99) where
     -- a way out: what the function ensures
-    pub out-4 : IsLoadWith (loadRemembering two_words (parts numbers deques frames) memory pool work image) numbers deques frames memory pool work r-3
-    out-4 = load-unfit numbers deques frames memory r-1 r-1-is test-2 pool work image r-3 r-3-is
+    pub out-4 : IsLoadWith (load_remembering two_words (parts numbers deques frames) memory pool work image) numbers deques frames memory pool work r-3
+    out-4 = load_unfit numbers deques frames memory r-1 r-1-is test-2 pool work image r-3 r-3-is
 
   module _
       (test-2 : r-1 ≡ true)
@@ -33,7 +33,7 @@ module _
 
     module _
         -- engine::images::load_on(numbers, deques, frames, pool, work, image)
-        (r-6 : ℕ) (numbers-6 : List ℕ) (deques-6 : List ℕ) (frames-6 : List Frame) (pool-6 : List ℕ) (work-6 : List ℕ) (r-6-fits : r-6 < 2 ^ 32) (r-6-is : IsLoad (loadWith two_words frames pool work image) numbers-6 deques-6 frames-6 pool-6 work-6 r-6) (same-numbers-6 : length numbers-6 ≡ length numbers) (same-deques-6 : length deques-6 ≡ length deques) (same-frames-6 : length frames-6 ≡ length frames) (same-pool-6 : length pool-6 ≡ length pool) (same-work-6 : length work-6 ≡ length work) where
+        (r-6 : ℕ) (numbers-6 : List ℕ) (deques-6 : List ℕ) (frames-6 : List Frame) (pool-6 : List ℕ) (work-6 : List ℕ) (r-6-fits : r-6 < 2 ^ 32) (r-6-is : IsLoad (load_with two_words frames pool work image) numbers-6 deques-6 frames-6 pool-6 work-6 r-6) (same-numbers-6 : length numbers-6 ≡ length numbers) (same-deques-6 : length deques-6 ≡ length deques) (same-frames-6 : length frames-6 ≡ length frames) (same-pool-6 : length pool-6 ≡ length pool) (same-work-6 : length work-6 ≡ length work) where
       -- a way out: what the function ensures
-      pub out-7 : IsLoadWith (loadRemembering two_words (parts numbers deques frames) memory pool work image) numbers-6 deques-6 frames-6 memory-5 pool-6 work-6 r-6
-      out-7 = load-fit numbers deques frames memory r-1 r-1-is test-2 memory-5 done-5 pool work image numbers-6 deques-6 frames-6 pool-6 work-6 r-6 r-6-is
+      pub out-7 : IsLoadWith (load_remembering two_words (parts numbers deques frames) memory pool work image) numbers-6 deques-6 frames-6 memory-5 pool-6 work-6 r-6
+      out-7 = load_fit numbers deques frames memory r-1 r-1-is test-2 memory-5 done-5 pool work image numbers-6 deques-6 frames-6 pool-6 work-6 r-6 r-6-is

@@ -3,10 +3,10 @@
 use Rattle.std.proofs.Common.{◌≡◌, ℕ, ◌+◌, ◌-◌, ◌*◌, ◌^◌, ◌<◌, ◌≤◌, Bool, true, false, List, [], length, get_or, set, sym, refl, ap, ◌∙◌, subst, arith}
 use Rattle.model.specs.declared.Step.TheVariants.{Fold}
 use Rattle.semantics.specs.Ranges.{Ready}
-use Rattle.engine.specs.Promises.{core, LeavesOthers, Answers, kindOn, ActsAt}
-use Rattle.reducers.specs.Reducers.{foldView}
+use Rattle.engine.specs.Promises.{core, LeavesOthers, Answers, kind_on, ActsAt}
+use Rattle.reducers.specs.Reducers.{fold_view}
 use Rattle.frames.specs.declared.Frame.{Frame}
-use Rattle.frames.specs.Frames.{frameAt, setFrame, withView}
+use Rattle.frames.specs.Frames.{frame_at, set_frame, with_view}
 use Rattle.semantics.specs.declared.Head.{Head}
 use Rattle.engine.specs.declared.Out.{Out}
 use Rattle.engine.proofs.Steps.{fold-none, fold_done}
@@ -18,7 +18,7 @@ module _
       -- engine::kinds::no_reducer(h)
       (r-2 : Out) (r-2-is : Answers h r-2 20 0) where
     -- a way out: what the function ensures
-    pub out-3 : LeavesOthers h r-2 deques frames pool deques frames pool (λ c. kindOn c (Fold w reducer v))
+    pub out-3 : LeavesOthers h r-2 deques frames pool deques frames pool (λ c. kind_on c (Fold w reducer v))
     out-3 = λ ts. fold-none h ts deques frames pool w r-2 reducer v test-1 r-2-is
 
   module _
@@ -29,9 +29,9 @@ module _
 
     module _
         -- frames::steps::fold_at(frames, p, reducer, v)
-        (frames-4 : List Frame) (done-4 : frames-4 ≡ setFrame frames p (withView (frameAt frames p) (foldView (frameAt frames p).view reducer v))) (same-frames-4 : length frames-4 ≡ length frames)
+        (frames-4 : List Frame) (done-4 : frames-4 ≡ set_frame frames p (with_view (frame_at frames p) (fold_view (frame_at frames p).view reducer v))) (same-frames-4 : length frames-4 ≡ length frames)
         -- engine::kinds::unchanged(h, 107, 0)
         (r-5 : Out) (r-5-is : Answers h r-5 107 0) where
       -- a way out: what the function ensures
-      pub out-6 : LeavesOthers h r-5 deques frames pool deques frames-4 pool (λ c. kindOn c (Fold w reducer v))
+      pub out-6 : LeavesOthers h r-5 deques frames pool deques frames-4 pool (λ c. kind_on c (Fold w reducer v))
       out-6 = λ ts. fold_done h ts deques frames pool w p reducer v ok.1.acting test-1 r-5 frames-4 done-4 r-5-is

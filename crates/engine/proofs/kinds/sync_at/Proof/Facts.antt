@@ -1,18 +1,18 @@
 -- The facts of the walk of `engine::kinds::sync_at`, for its author to prove. tools/walk wrote the statements, and never writes over this file.
 -- A module's binders are what is known at that point; a `?` is a goal (`rt dev engine --allow-holes` prints each).
 use Rattle.std.proofs.Common.{◌≡◌, ℕ, ◌+◌, ◌-◌, ◌*◌, ◌^◌, ◌<◌, ◌≤◌, Bool, true, false, List, [], length, get_or, set, sym, refl, ap, ◌∙◌, subst, arith}
-use Rattle.frames.specs.Steps.{syncedNumber}
+use Rattle.frames.specs.Steps.{synced_number}
 use Rattle.model.specs.declared.Step.TheVariants.{Sync}
 use Rattle.semantics.specs.Ranges.{Ready}
-use Rattle.engine.specs.Promises.{core, LeavesOthers, Answers, kindOn, ActsAt}
-use Rattle.frames.specs.Frames.{frameAt}
+use Rattle.engine.specs.Promises.{core, LeavesOthers, Answers, kind_on, ActsAt}
+use Rattle.frames.specs.Frames.{frame_at}
 use Rattle.frames.specs.declared.Frame.{Frame}
 use Rattle.frames.specs.Promises.{IsSync}
 use Rattle.frames.specs.Ranges.{Acts}
 use Rattle.semantics.specs.declared.Head.{Head}
 use Rattle.engine.specs.declared.Out.{Out}
 use Rattle.frames.specs.declared.Synced.{Synced}
-use Rattle.engine.proofs.Steps.{sync-done}
+use Rattle.engine.proofs.Steps.{sync_done}
 use Rattle.engine.proofs.Passing.{acts}
 
 module _
@@ -23,7 +23,7 @@ module _
 
   module _
       -- frames::table::frame_at(frames, p)
-      (f : Frame) (f-is : f ≡ frameAt frames p) where
+      (f : Frame) (f-is : f ≡ frame_at frames p) where
     -- frames::steps::sync_frame asks
     pub needs-2 : Acts deques frames w n p f
     needs-2 = acts (core h [] deques frames pool) w n p ok.0 ok.1 f f-is
@@ -32,7 +32,7 @@ module _
         -- frames::steps::sync_frame(deques, frames, w, n, p, f)
         (outcome : Synced) (deques-2 : List ℕ) (frames-2 : List Frame) (outcome-is : IsSync deques frames w deques-2 frames-2 outcome) (same-deques-2 : length deques-2 ≡ length deques) (same-frames-2 : length frames-2 ≡ length frames)
         -- engine::kinds::waited(h, outcome)
-        (r-3 : Out) (r-3-is : Answers h r-3 104 (syncedNumber outcome)) where
+        (r-3 : Out) (r-3-is : Answers h r-3 104 (synced_number outcome)) where
       -- a way out: what the function ensures
-      pub out-4 : LeavesOthers h r-3 deques frames pool deques-2 frames-2 pool (λ c. kindOn c (Sync w))
-      out-4 = λ ts. sync-done h ts deques frames pool w r-3 deques-2 frames-2 outcome outcome-is r-3-is
+      pub out-4 : LeavesOthers h r-3 deques frames pool deques-2 frames-2 pool (λ c. kind_on c (Sync w))
+      out-4 = λ ts. sync_done h ts deques frames pool w r-3 deques-2 frames-2 outcome outcome-is r-3-is

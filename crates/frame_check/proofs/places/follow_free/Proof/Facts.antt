@@ -6,19 +6,19 @@ use mathlib.Core.List.{List}
 use mathlib.Core.Bool.{Bool, true, false}
 use lib.ListN.{length, get_or, set}
 use native.Mathlib.Omega.{arith}
-use Rattle.frames.specs.Widths.{maxPlaces}
-use Rattle.frame_check.specs.Algorithm.{freeNext, chainFrom}
+use Rattle.frames.specs.Widths.{max_places}
+use Rattle.frame_check.specs.Algorithm.{free_next, chain_from}
 use lib.Dec.{eqb}
 use Rattle.words.specs.Basics.{none}
-use Rattle.frames.specs.Frames.{frameAt}
+use Rattle.frames.specs.Frames.{frame_at}
 use Rattle.frames.specs.declared.Frame.{Frame}
-use Rattle.frame_check.proofs.Laws.{next_fits, next-less, free-begins, free-turn, free-ends}
+use Rattle.frame_check.proofs.Laws.{next_fits, next_less, free_begins, free_turn, free_ends}
 
 module _
-    (frames : List Frame) (places : ℕ) (count : ℕ) (first' : ℕ) (frames-fits : length frames < 2 ^ 64) (places-fits : places < 2 ^ 32) (count_fits : count < 2 ^ 32) (first'-fits : first' < 2 ^ 32) (ok : (places ≡ length frames) × (places ≤ maxPlaces)) where
+    (frames : List Frame) (places : ℕ) (count : ℕ) (first' : ℕ) (frames-fits : length frames < 2 ^ 64) (places-fits : places < 2 ^ 32) (count_fits : count < 2 ^ 32) (first'-fits : first' < 2 ^ 32) (ok : (places ≡ length frames) × (places ≤ max_places)) where
   -- the loop's invariant, of what holds where a turn begins
   abbrev pub Inv : (p : ℕ) (k : ℕ) → Type 0
-  Inv p k = chainFrom frames (count - k) p ≡ chainFrom frames count first'
+  Inv p k = chain_from frames (count - k) p ≡ chain_from frames count first'
 
   -- what gets smaller with each turn
   abbrev pub left : (p : ℕ) (k : ℕ) → ℕ
@@ -26,7 +26,7 @@ module _
 
   -- it holds before the first turn
   pub begins : Inv first' 0
-  begins = free-begins frames (subst (λ (m : ℕ). m ≤ maxPlaces) ok.0 ok.1) count first'
+  begins = free_begins frames (subst (λ (m : ℕ). m ≤ max_places) ok.0 ok.1) count first'
 
   module _
       -- a turn begins
@@ -36,23 +36,23 @@ module _
         -- frame_check::links::at_end(p)
         (r-4 : Bool) (r-4-is : r-4 ≡ eqb p none) where
       -- a way out: what the function ensures
-      pub out-5 : r-4 ≡ chainFrom frames count first'
-      out-5 = free-ends frames (subst (λ (m : ℕ). m ≤ maxPlaces) ok.0 ok.1) count first' k p inv test-3 r-4-is
+      pub out-5 : r-4 ≡ chain_from frames count first'
+      out-5 = free_ends frames (subst (λ (m : ℕ). m ≤ max_places) ok.0 ok.1) count first' k p inv test-3 r-4-is
 
     module _
         (test-3 : k < count)
         -- frames::table::frame_or_zero(frames, p)
-        (f : Frame) (f-is : f ≡ frameAt frames p)
+        (f : Frame) (f-is : f ≡ frame_at frames p)
         -- frame_check::places::free_next(places, f, p)
-        (p' : ℕ) (p'-fits : p' < 2 ^ 32) (p'-is : p' ≡ freeNext places f p) where
+        (p' : ℕ) (p'-fits : p' < 2 ^ 32) (p'-is : p' ≡ free_next places f p) where
       -- nothing wraps
       pub small-8 : k + 1 < 2 ^ 32
       small-8 = next_fits count_fits test-3
 
       -- a turn keeps the invariant
       pub goes_on : Inv p' (k + 1)
-      goes_on = free-turn frames (subst (λ (m : ℕ). m ≤ maxPlaces) ok.0 ok.1) count first' k p inv test-3 ok.0 f-is p'-is
+      goes_on = free_turn frames (subst (λ (m : ℕ). m ≤ max_places) ok.0 ok.1) count first' k p inv test-3 ok.0 f-is p'-is
 
       -- and leaves less to do
       pub falls : left p' (k + 1) < left p k
-      falls = next-less test-3
+      falls = next_less test-3

@@ -6,18 +6,18 @@ use mathlib.Core.List.{List}
 use mathlib.Core.Bool.{Bool, true, false}
 use lib.ListN.{length, get_or, set}
 use native.Mathlib.Omega.{arith}
-use Rattle.frames.specs.Widths.{maxPlaces}
-use Rattle.frame_check.specs.Algorithm.{counted, childTallied, tallyChildren, censusTo}
-use Rattle.frame_check.specs.Algorithm.{noCensus}
-use Rattle.frames.specs.Frames.{frameAt}
+use Rattle.frames.specs.Widths.{max_places}
+use Rattle.frame_check.specs.Algorithm.{counted, child_tallied, tally_children, census_to}
+use Rattle.frame_check.specs.Algorithm.{no_census}
+use Rattle.frames.specs.Frames.{frame_at}
 use Rattle.frames.specs.declared.Frame.{Frame}
 use Rattle.frame_check.specs.declared.Census.{Census}
-use Rattle.frame_check.proofs.Laws.{next_fits, next-less, Passed, passed-begins, passed-turn, passed-ends}
+use Rattle.frame_check.proofs.Laws.{next_fits, next_less, Passed, passed_begins, passed_turn, passed_ends}
 
 module _
-    (tallies : List ℕ) (frames : List Frame) (places : ℕ) (tallies-fits : length tallies < 2 ^ 64) (frames-fits : length frames < 2 ^ 64) (places-fits : places < 2 ^ 32) (ok : (length tallies ≡ maxPlaces) × (places ≡ length frames) × (places ≤ maxPlaces))
+    (tallies : List ℕ) (frames : List Frame) (places : ℕ) (tallies-fits : length tallies < 2 ^ 64) (frames-fits : length frames < 2 ^ 64) (places-fits : places < 2 ^ 32) (ok : (length tallies ≡ max_places) × (places ≡ length frames) × (places ≤ max_places))
     -- frame_check::no_census()
-    (census : Census) (census-is : census ≡ noCensus) where
+    (census : Census) (census-is : census ≡ no_census) where
   -- the loop's invariant, of what holds where a turn begins
   abbrev pub Inv : (census' : Census) (p : ℕ) (tallies-l : List ℕ) → Type 0
   Inv census' p tallies-l = Passed frames tallies p tallies-l census'
@@ -28,7 +28,7 @@ module _
 
   -- it holds before the first turn
   pub begins : Inv census 0 tallies
-  begins = passed-begins frames tallies census-is
+  begins = passed_begins frames tallies census-is
 
   module _
       -- a turn begins
@@ -36,8 +36,8 @@ module _
     module _
         (test-4 : places ≤ p) where
       -- a way out: what the function ensures
-      pub out-5 : (tallies-l ≡ tallyChildren frames tallies) × (census' ≡ censusTo frames (length frames))
-      out-5 = passed-ends frames tallies inv (subst (λ (m : ℕ). m ≤ p) ok.1 test-4)
+      pub out-5 : (tallies-l ≡ tally_children frames tallies) × (census' ≡ census_to frames (length frames))
+      out-5 = passed_ends frames tallies inv (subst (λ (m : ℕ). m ≤ p) ok.1 test-4)
 
     module _
         (test-4 : p < places) where
@@ -47,17 +47,17 @@ module _
 
       module _
           -- frames::table::frame_at(frames, p)
-          (f : Frame) (f-is : f ≡ frameAt frames p)
+          (f : Frame) (f-is : f ≡ frame_at frames p)
           -- frame_check::tallies::tally_child(tallies, census', p, f)
-          (r-7 : Census) (tallies-7 : List ℕ) (r-7-is : (tallies-7 ≡ childTallied tallies-l p f) × (r-7 ≡ counted census' p f)) (same-tallies-7 : length tallies-7 ≡ length tallies-l) where
+          (r-7 : Census) (tallies-7 : List ℕ) (r-7-is : (tallies-7 ≡ child_tallied tallies-l p f) × (r-7 ≡ counted census' p f)) (same-tallies-7 : length tallies-7 ≡ length tallies-l) where
         -- nothing wraps
         pub small-8 : p + 1 < 2 ^ 32
         small-8 = next_fits places-fits test-4
 
         -- a turn keeps the invariant
         pub goes_on : Inv r-7 (p + 1) tallies-7
-        goes_on = passed-turn frames tallies (subst (λ (m : ℕ). m ≤ maxPlaces) ok.1 ok.2) ok.0 p f f-is (needs-6) inv r-7-is
+        goes_on = passed_turn frames tallies (subst (λ (m : ℕ). m ≤ max_places) ok.1 ok.2) ok.0 p f f-is (needs-6) inv r-7-is
 
         -- and leaves less to do
         pub falls : left r-7 (p + 1) tallies-7 < left census' p tallies-l
-        falls = next-less test-4
+        falls = next_less test-4

@@ -7,16 +7,16 @@ use mathlib.Core.Bool.{Bool, true, false, cond}
 use lib.ListN.{length, get_or, set, replicate}
 use native.Mathlib.Omega.{arith}
 use Rattle.words.specs.Basics.{none, plus, minus}
-use Rattle.frames.specs.Widths.{maxPlaces}
+use Rattle.frames.specs.Widths.{max_places}
 use Rattle.frames.specs.Siblings.{eldest}
 use lib.Dec.{ltb, eqb}
-use Rattle.frames.specs.Frames.{frameAt}
+use Rattle.frames.specs.Frames.{frame_at}
 use Rattle.frames.specs.declared.Frame.{Frame}
-use Rattle.frames.proofs.Ways.{Summed, summed-begin, summed_turn, summed-end}
+use Rattle.frames.proofs.Ways.{Summed, summed_begin, summed_turn, summed_end}
 use borrow.Author.Tests.{ltb-true, ltb-false}
 
 module _
-    (frames : List Frame) (eldests : List ℕ) (frames-fits : length frames < 2 ^ 64) (eldests-fits : length eldests < 2 ^ 64) (ok : (length frames ≤ maxPlaces) × (eldests ≡ replicate maxPlaces none)) where
+    (frames : List Frame) (eldests : List ℕ) (frames-fits : length frames < 2 ^ 64) (eldests-fits : length eldests < 2 ^ 64) (ok : (length frames ≤ max_places) × (eldests ≡ replicate max_places none)) where
   -- the loop's invariant, of what holds where a turn begins
   abbrev pub Inv : (c : ℕ) (eldests-l : List ℕ) → Type 0
   Inv c eldests-l = (c ≤ length frames) × Summed frames c eldests-l
@@ -27,7 +27,7 @@ module _
 
   -- it holds before the first turn
   pub begins : Inv 0 eldests
-  begins = (omega arith, summed-begin frames eldests ok.1)
+  begins = (omega arith, summed_begin frames eldests ok.1)
 
   module _
       -- a turn begins
@@ -37,8 +37,8 @@ module _
     module _
         (test-3 : r-2 ≡ false) where
       -- a way out: what the function ensures
-      pub out-4 : ((q : ℕ) → q < maxPlaces → get_or eldests-l q 0 ≡ eldest frames q)
-      out-4 = summed-end frames eldests-l c inv.0 (ltb-false c (length frames) (sym r-2-is ∙ test-3)) inv.1
+      pub out-4 : ((q : ℕ) → q < max_places → get_or eldests-l q 0 ≡ eldest frames q)
+      out-4 = summed_end frames eldests-l c inv.0 (ltb-false c (length frames) (sym r-2-is ∙ test-3)) inv.1
 
     module _
         (test-3 : r-2 ≡ true) where
@@ -48,7 +48,7 @@ module _
 
       module _
           -- frames::table::frame_at(frames, c)
-          (f : Frame) (f-is : f ≡ frameAt frames c)
+          (f : Frame) (f-is : f ≡ frame_at frames c)
           -- frames::siblings::add_to_eldest(eldests, c, f)
           (eldests-6 : List ℕ) (done-6 : eldests-6 ≡ cond (eqb f.live 1) (set eldests-l f.parent (minus (plus (get_or eldests-l f.parent 0) c) f.younger)) eldests-l) (same-eldests-6 : length eldests-6 ≡ length eldests-l) where
         -- nothing wraps

@@ -6,17 +6,17 @@ use mathlib.Core.List.{List}
 use mathlib.Core.Bool.{Bool, true, false}
 use lib.ListN.{length, get_or, set}
 use native.Mathlib.Omega.{arith}
-use Rattle.frames.specs.Widths.{maxPlaces}
-use Rattle.frames.specs.Siblings.{eldest, firstFrom}
-use Rattle.frames.specs.Frames.{frameAt}
+use Rattle.frames.specs.Widths.{max_places}
+use Rattle.frames.specs.Siblings.{eldest, first_from}
+use Rattle.frames.specs.Frames.{frame_at}
 use Rattle.frames.specs.declared.Frame.{Frame}
-use Rattle.frames.proofs.Ways.{first-turn, first_found, first-end, has-children}
+use Rattle.frames.proofs.Ways.{first_turn, first_found, first_end, has_children}
 
 module _
-    (frames : List Frame) (eldests : List ℕ) (q : ℕ) (frames-fits : length frames < 2 ^ 64) (eldests-fits : length eldests < 2 ^ 64) (q-fits : q < 2 ^ 32) (ok : (length frames ≤ maxPlaces) × (length eldests ≡ maxPlaces) × ((p : ℕ) → p < maxPlaces → get_or eldests p 0 ≡ eldest frames p)) where
+    (frames : List Frame) (eldests : List ℕ) (q : ℕ) (frames-fits : length frames < 2 ^ 64) (eldests-fits : length eldests < 2 ^ 64) (q-fits : q < 2 ^ 32) (ok : (length frames ≤ max_places) × (length eldests ≡ max_places) × ((p : ℕ) → p < max_places → get_or eldests p 0 ≡ eldest frames p)) where
   -- the loop's invariant, of what holds where a turn begins
   abbrev pub Inv : (more : ℕ) (p : ℕ) → Type 0
-  Inv more p = firstFrom more frames p ≡ firstFrom (length frames) frames q
+  Inv more p = first_from more frames p ≡ first_from (length frames) frames q
 
   -- what gets smaller with each turn
   abbrev pub left : (more : ℕ) (p : ℕ) → ℕ
@@ -32,24 +32,24 @@ module _
     module _
         (test-3 : more ≤ 0) where
       -- a way out: what the function ensures
-      pub out-4 : p ≡ firstFrom (length frames) frames q
-      out-4 = first-end frames p more test-3 ∙ inv
+      pub out-4 : p ≡ first_from (length frames) frames q
+      out-4 = first_end frames p more test-3 ∙ inv
 
     module _
         (test-3 : 0 < more)
         -- frames::table::frame_or_zero(frames, p)
-        (r-5 : Frame) (r-5-is : r-5 ≡ frameAt frames p) where
+        (r-5 : Frame) (r-5-is : r-5 ≡ frame_at frames p) where
       module _
           (test-6 : r-5.outstanding ≡ 0) where
         -- a way out: what the function ensures
-        pub out-7 : p ≡ firstFrom (length frames) frames q
+        pub out-7 : p ≡ first_from (length frames) frames q
         out-7 = first_found frames p more r-5 r-5-is test-3 test-6 ∙ inv
 
       module _
           (test-6 : r-5.outstanding ≡ 0 → ⊥) where
         -- the index lies in the slice
         pub inside-8 : p < length eldests
-        inside-8 = omega (arith, has-children frames p r-5 r-5-is test-6, ok.0, ok.1)
+        inside-8 = omega (arith, has_children frames p r-5 r-5-is test-6, ok.0, ok.1)
 
         module _
             -- the record at p
@@ -60,7 +60,7 @@ module _
 
           -- a turn keeps the invariant
           pub goes_on : Inv (more - 1) r-9
-          goes_on = ap (λ (c : ℕ). firstFrom (more - 1) frames c) (r-9-is ∙ ok.2 p (omega (arith, inside-8, ok.1))) ∙ first-turn frames p more r-5 r-5-is test-3 test-6 ∙ inv
+          goes_on = ap (λ (c : ℕ). first_from (more - 1) frames c) (r-9-is ∙ ok.2 p (omega (arith, inside-8, ok.1))) ∙ first_turn frames p more r-5 r-5-is test-3 test-6 ∙ inv
 
           -- and leaves less to do
           pub falls : left (more - 1) r-9 < left more p

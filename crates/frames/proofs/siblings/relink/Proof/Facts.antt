@@ -9,30 +9,30 @@ use native.Mathlib.Omega.{arith}
 use mathlib.Core.Bool.{cond}
 use lib.Dec.{eqb}
 use Rattle.words.specs.Basics.{none}
-use Rattle.frames.specs.Widths.{maxPlaces}
-use Rattle.frames.specs.Siblings.{relink, eldest, firstFrom, joinAt}
+use Rattle.frames.specs.Widths.{max_places}
+use Rattle.frames.specs.Siblings.{relink, eldest, first_from, join_at}
 use mathlib.Core.Bool.{◌&&◌}
 use lib.Dec.{ltb}
 use Rattle.words.specs.Basics.{plus, minus}
-use Rattle.reducers.specs.Reducers.{zeroView, joinView, foldView}
-use Rattle.frames.specs.Frames.{withSuspended, withRoot, withView, withYounger, withoutChild, afterSpawn, asReturning, childOf, freePlace, mainFrame}
-use Rattle.frames.specs.Steps.{waitsNoMore, endsToo}
-use Rattle.frames.specs.Frames.{frameAt, setFrame}
+use Rattle.reducers.specs.Reducers.{zero_view, join_view, fold_view}
+use Rattle.frames.specs.Frames.{with_suspended, with_root, with_view, with_younger, without_child, after_spawn, as_returning, child_of, free_record, main_frame}
+use Rattle.frames.specs.Steps.{waits_no_more, ends_too}
+use Rattle.frames.specs.Frames.{frame_at, set_frame}
 use Rattle.frames.specs.declared.Frame.{Frame}
-use Rattle.frames.proofs.Ways.{relink-found, relink-turn, relink-end}
+use Rattle.frames.proofs.Ways.{relink_found, relink_turn, relink_end}
 use borrow.Author.Tests.{ltb-true, ltb-false}
-use Rattle.frames.specs.Siblings.{relinkFrom}
+use Rattle.frames.specs.Siblings.{relink_from}
 use Rattle.frames.specs.Siblings.{relink}
-use Rattle.frames.specs.Frames.{withYounger}
-use Rattle.frames.proofs.Ways.{relink-found, relink-turn, relink-end}
+use Rattle.frames.specs.Frames.{with_younger}
+use Rattle.frames.proofs.Ways.{relink_found, relink_turn, relink_end}
 use borrow.Author.Tests.{ltb-true, ltb-false}
-use Rattle.frames.specs.Siblings.{relinkFrom}
+use Rattle.frames.specs.Siblings.{relink_from}
 
 module _
-    (frames : List Frame) (q : ℕ) (x : ℕ) (y : ℕ) (frames-fits : length frames < 2 ^ 64) (q-fits : q < 2 ^ 32) (x_Fits : x < 2 ^ 32) (y-fits : y < 2 ^ 32) (ok : length frames ≤ maxPlaces) where
+    (frames : List Frame) (q : ℕ) (x : ℕ) (y : ℕ) (frames-fits : length frames < 2 ^ 64) (q-fits : q < 2 ^ 32) (x_Fits : x < 2 ^ 32) (y-fits : y < 2 ^ 32) (ok : length frames ≤ max_places) where
   -- the loop's invariant, of what holds where a turn begins
   abbrev pub Inv : (c : ℕ) (frames-l : List Frame) → Type 0
-  Inv c frames-l = relinkFrom (length frames-l - c) frames-l q x y c ≡ relink frames q x y
+  Inv c frames-l = relink_from (length frames-l - c) frames-l q x y c ≡ relink frames q x y
 
   -- what gets smaller with each turn
   abbrev pub left : (c : ℕ) (frames-l : List Frame) → ℕ
@@ -40,7 +40,7 @@ module _
 
   -- it holds before the first turn
   pub begins : Inv 0 frames
-  begins = ap (λ (k : ℕ). relinkFrom k frames q x y 0) (omega arith)
+  begins = ap (λ (k : ℕ). relink_from k frames q x y 0) (omega arith)
 
   module _
       -- a turn begins
@@ -51,7 +51,7 @@ module _
         (test-3 : r-2 ≡ false) where
       -- a way out: what the function ensures
       pub out-4 : frames-l ≡ relink frames q x y
-      out-4 = relink-end frames-l q x y c (subst (λ (k' : ℕ). k' ≤ c) (sym same-frames-l) (ltb-false c (length frames) (sym r-2-is ∙ test-3))) ∙ inv
+      out-4 = relink_end frames-l q x y c (subst (λ (k' : ℕ). k' ≤ c) (sym same-frames-l) (ltb-false c (length frames) (sym r-2-is ∙ test-3))) ∙ inv
 
     module _
         (test-3 : r-2 ≡ true) where
@@ -61,23 +61,23 @@ module _
 
       module _
           -- frames::table::frame_at(frames, c)
-          (f : Frame) (f-is : f ≡ frameAt frames-l c)
+          (f : Frame) (f-is : f ≡ frame_at frames-l c)
           -- frames::records::child_names(f, q, x)
           (r-6 : Bool) (r-6-is : r-6 ≡ (eqb f.live 1 && eqb f.parent q) && eqb f.younger x) where
         module _
             (test-7 : r-6 ≡ true)
             -- frames::records::with_younger(f, y)
-            (r-8 : Frame) (r-8-is : r-8 ≡ withYounger f y) where
+            (r-8 : Frame) (r-8-is : r-8 ≡ with_younger f y) where
           -- frames::table::put_frame asks
           pub needs-9 : c < length frames-l
           needs-9 = subst (λ (k' : ℕ). c < k') (sym same-frames-l) (ltb-true c (length frames) (sym r-2-is ∙ test-3))
 
           module _
               -- frames::table::put_frame(frames, c, r-8)
-              (frames-9 : List Frame) (done-9 : frames-9 ≡ setFrame frames-l c r-8) (same-frames-9 : length frames-9 ≡ length frames-l) where
+              (frames-9 : List Frame) (done-9 : frames-9 ≡ set_frame frames-l c r-8) (same-frames-9 : length frames-9 ≡ length frames-l) where
             -- a way out: what the function ensures
             pub out-10 : frames-9 ≡ relink frames q x y
-            out-10 = relink-found frames-l q x y c f f-is (subst (λ (k' : ℕ). c < k') (sym same-frames-l) (ltb-true c (length frames) (sym r-2-is ∙ test-3))) r-8 frames-9 (sym r-6-is ∙ test-7) r-8-is done-9 ∙ inv
+            out-10 = relink_found frames-l q x y c f f-is (subst (λ (k' : ℕ). c < k') (sym same-frames-l) (ltb-true c (length frames) (sym r-2-is ∙ test-3))) r-8 frames-9 (sym r-6-is ∙ test-7) r-8-is done-9 ∙ inv
 
         module _
             (test-7 : r-6 ≡ false) where
@@ -87,7 +87,7 @@ module _
 
           -- a turn keeps the invariant
           pub goes_on : Inv (c + 1) frames-l
-          goes_on = relink-turn frames-l q x y c f f-is (subst (λ (k' : ℕ). c < k') (sym same-frames-l) (ltb-true c (length frames) (sym r-2-is ∙ test-3))) (sym r-6-is ∙ test-7) ∙ inv
+          goes_on = relink_turn frames-l q x y c f f-is (subst (λ (k' : ℕ). c < k') (sym same-frames-l) (ltb-true c (length frames) (sym r-2-is ∙ test-3))) (sym r-6-is ∙ test-7) ∙ inv
 
           -- and leaves less to do
           pub falls : left (c + 1) frames-l < left c frames-l

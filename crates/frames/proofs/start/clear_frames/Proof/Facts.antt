@@ -7,9 +7,9 @@ use mathlib.Core.Bool.{Bool, true, false}
 use lib.ListN.{length, get_or, set}
 use native.Mathlib.Omega.{arith}
 use lib.ListN.{replicate}
-use Rattle.frames.specs.Frames.{freePlace}
+use Rattle.frames.specs.Frames.{free_record}
 use Rattle.frames.specs.declared.Frame.{Frame}
-use Rattle.frames.proofs.Starting.{fill-turn, fill_end}
+use Rattle.frames.proofs.Starting.{fill_turn, fill_end}
 use mathlib.Core.List.{◌++◌}
 use lib.ListN.{drop}
 
@@ -20,7 +20,7 @@ module _
     (frames : List Frame) (frames-fits : length frames < 2 ^ 64) where
   -- the loop's invariant, of what holds where a turn begins
   abbrev pub Inv : (i : ℕ) (frames-l : List Frame) → Type 0
-  Inv i frames-l = (i ≤ length frames) × (frames-l ≡ replicate i (freePlace 0) ++ drop i frames)
+  Inv i frames-l = (i ≤ length frames) × (frames-l ≡ replicate i (free_record 0) ++ drop i frames)
 
   -- what gets smaller with each turn
   abbrev pub left : (i : ℕ) (frames-l : List Frame) → ℕ
@@ -36,13 +36,13 @@ module _
     module _
         (test-2 : (length frames) ≤ i) where
       -- a way out: what the function ensures
-      pub out-3 : frames-l ≡ replicate (length frames) (freePlace 0)
-      out-3 = inv.1 ∙ fill_end (freePlace 0) i frames inv.0 test-2
+      pub out-3 : frames-l ≡ replicate (length frames) (free_record 0)
+      out-3 = inv.1 ∙ fill_end (free_record 0) i frames inv.0 test-2
 
     module _
         (test-2 : i < (length frames))
         -- frames::records::free_place(0)
-        (r-4 : Frame) (r-4-is : r-4 ≡ freePlace 0) where
+        (r-4 : Frame) (r-4-is : r-4 ≡ free_record 0) where
       -- the index lies in the slice
       pub inside-5 : i < length frames-l
       inside-5 = subst (λ (k' : ℕ). i < k') (sym same-frames-l) test-2
@@ -58,7 +58,7 @@ module _
 
         -- a turn keeps the invariant
         pub goes_on : Inv (i + 1) frames-6
-        goes_on = (omega (arith, test-2), fill-turn (freePlace 0) i frames frames-l frames-6 r-4 test-2 r-4-is inv.1 frames-6-is)
+        goes_on = (omega (arith, test-2), fill_turn (free_record 0) i frames frames-l frames-6 r-4 test-2 r-4-is inv.1 frames-6-is)
 
         -- and leaves less to do
         pub falls : left (i + 1) frames-6 < left i frames-l

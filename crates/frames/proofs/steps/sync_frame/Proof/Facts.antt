@@ -8,25 +8,25 @@ use lib.ListN.{length, get_or, set}
 use native.Mathlib.Omega.{arith}
 use mathlib.Core.Logic.{◌≢◌}
 use Rattle.words.specs.Basics.{none}
-use Rattle.reducers.specs.Reducers.{foldView}
+use Rattle.reducers.specs.Reducers.{fold_view}
 use Rattle.frames.specs.declared.Frame.{Frame}
 use Rattle.frames.specs.declared.Returned.TheVariants.{Idle, Resumed}
 use Rattle.frames.specs.declared.Synced.TheVariants.{Passed, Suspended}
-use Rattle.frames.specs.Widths.{maxWorkers, maxPlaces, dequePlaces, dequeWords}
-use Rattle.frames.specs.Frames.{frameAt, setFrame, withView, initFrames}
+use Rattle.frames.specs.Widths.{max_workers, max_places, deque_places, deque_words}
+use Rattle.frames.specs.Frames.{frame_at, set_frame, with_view, init_frames}
 use Rattle.frames.specs.Deques.{size}
-use Rattle.frames.specs.Steps.{linkChild, spawn, removeFrame, endFrame, steal}
+use Rattle.frames.specs.Steps.{link_child, spawn, remove_frame, end_frame, steal}
 use Rattle.frames.specs.Promises.{table, Waits, GoesOn, IsSync}
 use Rattle.frames.specs.Ranges.{Acts, EndsIn}
 use mathlib.Core.Bool.{cond, ◌&&◌}
 use lib.Dec.{eqb, ltb}
 use Rattle.words.specs.Basics.{plus, minus}
-use Rattle.reducers.specs.Reducers.{zeroView, joinView}
-use Rattle.frames.specs.Frames.{withSuspended, withRoot, withYounger, withoutChild, afterSpawn, asReturning, childOf, freePlace, mainFrame}
-use Rattle.frames.specs.Steps.{waitsNoMore, endsToo}
+use Rattle.reducers.specs.Reducers.{zero_view, join_view}
+use Rattle.frames.specs.Frames.{with_suspended, with_root, with_younger, without_child, after_spawn, as_returning, child_of, free_record, main_frame}
+use Rattle.frames.specs.Steps.{waits_no_more, ends_too}
 use lib.ListN.{replicate}
-use Rattle.frames.specs.Widths.{dequeStride}
-use Rattle.frames.specs.Deques.{place, bottom, top, push, pop, shiftUp, dropTop, initDeques}
+use Rattle.frames.specs.Widths.{deque_stride}
+use Rattle.frames.specs.Deques.{place, bottom, top, push, pop, shift_up, drop_top, init_deques}
 use Rattle.frames.specs.declared.Synced.{Synced}
 use Rattle.reducers.specs.declared.View.{View}
 use Rattle.frames.proofs.Ways.{passes, waits}
@@ -44,17 +44,17 @@ module _
   module _
       (test-1 : f.outstanding ≡ 0 → ⊥)
       -- frames::records::with_suspended(f, 1)
-      (r-4 : Frame) (r-4-is : r-4 ≡ withSuspended f 1) where
+      (r-4 : Frame) (r-4-is : r-4 ≡ with_suspended f 1) where
     -- frames::table::put_frame asks
     pub needs-5 : p < length frames
     needs-5 = ok.within
 
     module _
         -- frames::table::put_frame(frames, p, r-4)
-        (frames-5 : List Frame) (done-5 : frames-5 ≡ setFrame frames p r-4) (same-frames-5 : length frames-5 ≡ length frames) where
+        (frames-5 : List Frame) (done-5 : frames-5 ≡ set_frame frames p r-4) (same-frames-5 : length frames-5 ≡ length frames) where
       -- frames::deques::pop_off asks
-      pub needs-6 : (length deques ≡ dequeWords) × (w < maxWorkers) × (n ≡ size deques w) × (0 < n) × (n ≤ dequePlaces)
-      needs-6 = (ok.long-deques, ok.worker, ok.has, ok.some, ok.most)
+      pub needs-6 : (length deques ≡ deque_words) × (w < max_workers) × (n ≡ size deques w) × (0 < n) × (n ≤ deque_places)
+      needs-6 = (ok.long_deques, ok.worker, ok.has, ok.some, ok.most)
 
       module _
           -- frames::deques::pop_off(deques, w, n)

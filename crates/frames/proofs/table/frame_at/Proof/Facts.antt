@@ -6,7 +6,7 @@ use mathlib.Core.List.{List}
 use mathlib.Core.Bool.{Bool, true, false}
 use lib.ListN.{length, get_or, set}
 use native.Mathlib.Omega.{arith}
-use Rattle.frames.specs.Frames.{frameAt}
+use Rattle.frames.specs.Frames.{frame_at}
 use Rattle.frames.specs.declared.Frame.{Frame}
 use Rattle.reducers.specs.declared.View.{View}
 use Rattle.reducers.specs.declared.Sum.{Sum}
@@ -118,6 +118,6 @@ module _
                             -- the record at p
                             (r-24 : Frame) (r-24-is : r-24 ≡ get_or frames p zero-Frame) where
                           -- a way out: what the function ensures
-                          pub out-25 : (make-Frame r-2.live r-4.parent r-6.depth r-8.outstanding r-10.suspended r-12.root r-14.returning (make-View (make-Sum r-16.view.sum.value) (make-Min r-18.view.min.value) (make-Affine r-20.view.affine.multiplier r-22.view.affine.addend)) r-24.younger) ≡ frameAt frames p
-                          unfolding frameAt
+                          pub out-25 : (make-Frame r-2.live r-4.parent r-6.depth r-8.outstanding r-10.suspended r-12.root r-14.returning (make-View (make-Sum r-16.view.sum.value) (make-Min r-18.view.min.value) (make-Affine r-20.view.affine.multiplier r-22.view.affine.addend)) r-24.younger) ≡ frame_at frames p
+                          unfolding frame_at
                           out-25 = rw (r-2-is, r-4-is, r-6-is, r-8-is, r-10-is, r-12-is, r-14-is, r-16-is, r-18-is, r-20-is, r-22-is, r-24-is)

@@ -6,13 +6,13 @@ use mathlib.Core.List.{List}
 use mathlib.Core.Bool.{Bool, true, false}
 use lib.ListN.{length, get_or, set}
 use native.Mathlib.Omega.{arith}
-use Rattle.frames.specs.Frames.{frameAt, setFrame}
+use Rattle.frames.specs.Frames.{frame_at, set_frame}
 use mathlib.Core.Bool.{cond, ◌&&◌}
 use lib.Dec.{eqb, ltb}
 use Rattle.words.specs.Basics.{none, plus, minus}
-use Rattle.reducers.specs.Reducers.{zeroView, joinView, foldView}
-use Rattle.frames.specs.Frames.{withSuspended, withRoot, withView, withYounger, withoutChild, afterSpawn, asReturning, childOf, freePlace, mainFrame}
-use Rattle.frames.specs.Steps.{waitsNoMore, endsToo}
+use Rattle.reducers.specs.Reducers.{zero_view, join_view, fold_view}
+use Rattle.frames.specs.Frames.{with_suspended, with_root, with_view, with_younger, without_child, after_spawn, as_returning, child_of, free_record, main_frame}
+use Rattle.frames.specs.Steps.{waits_no_more, ends_too}
 use Rattle.frames.specs.declared.Frame.{Frame}
 use borrow.Author.Tests.{ltb-true, ltb-false}
 use Rattle.frames.specs.Theory.Records.{frame_past}
@@ -29,15 +29,15 @@ module _
 
     module _
         -- frames::table::frame_at(frames, p)
-        (r-3 : Frame) (r-3-is : r-3 ≡ frameAt frames p) where
+        (r-3 : Frame) (r-3-is : r-3 ≡ frame_at frames p) where
       -- a way out: what the function ensures
-      pub out-4 : r-3 ≡ frameAt frames p
+      pub out-4 : r-3 ≡ frame_at frames p
       out-4 = r-3-is
 
   module _
       (test-2 : r-1 ≡ false)
       -- frames::records::free_place(0)
-      (r-5 : Frame) (r-5-is : r-5 ≡ freePlace 0) where
+      (r-5 : Frame) (r-5-is : r-5 ≡ free_record 0) where
     -- a way out: what the function ensures
-    pub out-6 : r-5 ≡ frameAt frames p
+    pub out-6 : r-5 ≡ frame_at frames p
     out-6 = r-5-is ∙ sym (frame_past frames p (ltb-false p (length frames) (sym r-1-is ∙ test-2)))

@@ -6,7 +6,7 @@ use mathlib.Core.List.{List}
 use mathlib.Core.Bool.{Bool, true, false}
 use lib.ListN.{length, get_or, set}
 use native.Mathlib.Omega.{arith}
-use Rattle.frames.specs.Frames.{frameAt, setFrame, withoutChild}
+use Rattle.frames.specs.Frames.{frame_at, set_frame, without_child}
 use Rattle.frames.specs.declared.Frame.{Frame}
 
 abbrev zero-Frame : Frame
@@ -33,6 +33,6 @@ module _
         -- _8.*.3 = _3
         (frames-5 : List Frame) (frames-5-is : frames-5 ≡ set frames p (record { live = r-5.live; parent = r-5.parent; depth = r-5.depth; outstanding = n; suspended = r-5.suspended; root = r-5.root; returning = r-5.returning; view = r-5.view; younger = r-5.younger })) (same-frames-5 : length frames-5 ≡ length frames) where
       -- a way out: what the function ensures
-      pub out-6 : frames-5 ≡ setFrame frames p (withoutChild (frameAt frames p))
-      unfolding frameAt setFrame
+      pub out-6 : frames-5 ≡ set_frame frames p (without_child (frame_at frames p))
+      unfolding frame_at set_frame
       out-6 = frames-5-is ∙ rw (n-is, r-2-is, r-5-is)

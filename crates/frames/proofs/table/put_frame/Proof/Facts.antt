@@ -7,7 +7,7 @@ use mathlib.Core.Bool.{Bool, true, false}
 use lib.ListN.{length, get_or, set}
 use native.Mathlib.Omega.{arith}
 use lib.Seq.{get_or-set_same, set-set}
-use Rattle.frames.specs.Frames.{setFrame}
+use Rattle.frames.specs.Frames.{set_frame}
 use Rattle.frames.specs.declared.Frame.{Frame}
 
 abbrev zero-Frame : Frame
@@ -167,8 +167,8 @@ module _
                             -- _17.*.8 = _3.8
                             (frames-24 : List Frame) (frames-24-is : frames-24 ≡ set frames-22 p (record { live = r-24.live; parent = r-24.parent; depth = r-24.depth; outstanding = r-24.outstanding; suspended = r-24.suspended; root = r-24.root; returning = r-24.returning; view = r-24.view; younger = f.younger })) (same-frames-24 : length frames-24 ≡ length frames-22) where
                           -- a way out: what the function ensures
-                          pub out-25 : frames-24 ≡ setFrame frames p f
-                          unfolding setFrame
+                          pub out-25 : frames-24 ≡ set_frame frames p f
+                          unfolding set_frame
                           out-25 =
                               let x-1 : Frame = with-live f.live r-2 in
                               let x-2 : Frame = with-parent f.parent x-1 in

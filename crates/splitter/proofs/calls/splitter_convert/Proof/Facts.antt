@@ -6,12 +6,12 @@ use mathlib.Core.List.{List}
 use lib.ListN.{length}
 use Rattle.semantics.specs.Promises.{parts, IsConvertWith}
 use Rattle.frames.specs.declared.Frame.{Frame}
-use Rattle.semantics.specs.Remembering.{convertRemembering}
+use Rattle.semantics.specs.Remembering.{convert_remembering}
 
 module _
     (numbers : List ℕ) (deques : List ℕ) (frames : List Frame) (memory : List ℕ) (pool : List ℕ) (work : List ℕ) (numbers-fits : length numbers < 2 ^ 64) (deques-fits : length deques < 2 ^ 64) (frames-fits : length frames < 2 ^ 64) (memory-fits : length memory < 2 ^ 64) (pool-fits : length pool < 2 ^ 64) (work-fits : length work < 2 ^ 64)
     -- conversion::convert(numbers, deques, frames, memory, pool, work)
-    (r-1 : ℕ) (memory-1 : List ℕ) (pool-1 : List ℕ) (work-1 : List ℕ) (r-1-fits : r-1 < 2 ^ 32) (r-1-is : IsConvertWith (convertRemembering (parts numbers deques frames) memory pool work) memory-1 pool-1 work-1 r-1) (same-memory-1 : length memory-1 ≡ length memory) (same-pool-1 : length pool-1 ≡ length pool) (same-work-1 : length work-1 ≡ length work) where
+    (r-1 : ℕ) (memory-1 : List ℕ) (pool-1 : List ℕ) (work-1 : List ℕ) (r-1-fits : r-1 < 2 ^ 32) (r-1-is : IsConvertWith (convert_remembering (parts numbers deques frames) memory pool work) memory-1 pool-1 work-1 r-1) (same-memory-1 : length memory-1 ≡ length memory) (same-pool-1 : length pool-1 ≡ length pool) (same-work-1 : length work-1 ≡ length work) where
   -- a way out: what the function ensures
-  pub out-2 : IsConvertWith (convertRemembering (parts numbers deques frames) memory pool work) memory-1 pool-1 work-1 r-1
+  pub out-2 : IsConvertWith (convert_remembering (parts numbers deques frames) memory pool work) memory-1 pool-1 work-1 r-1
   out-2 = r-1-is

@@ -7,12 +7,12 @@ use lib.ListN.{length}
 use Rattle.semantics.specs.Promises.{parts, IsSave}
 use Rattle.frames.specs.declared.Frame.{Frame}
 use Rattle.soundness.specs.Layout.{two_words}
-use Rattle.semantics.specs.Remembering.{saveRemembering}
+use Rattle.semantics.specs.Remembering.{save_remembering}
 
 module _
     (numbers : List ℕ) (deques : List ℕ) (frames : List Frame) (memory : List ℕ) (pool : List ℕ) (work : List ℕ) (target : List ℕ) (numbers-fits : length numbers < 2 ^ 64) (deques-fits : length deques < 2 ^ 64) (frames-fits : length frames < 2 ^ 64) (memory-fits : length memory < 2 ^ 64) (pool-fits : length pool < 2 ^ 64) (work-fits : length work < 2 ^ 64) (target_fits : length target < 2 ^ 64)
     -- engine::entries::save(numbers, deques, frames, memory, pool, work, target)
-    (r-1 : ℕ) (work-1 : List ℕ) (target-1 : List ℕ) (r-1-fits : r-1 < 2 ^ 32) (r-1-is : IsSave (saveRemembering two_words (parts numbers deques frames) memory pool work target) work-1 target-1 r-1) (same-work-1 : length work-1 ≡ length work) (same-target-1 : length target-1 ≡ length target) where
+    (r-1 : ℕ) (work-1 : List ℕ) (target-1 : List ℕ) (r-1-fits : r-1 < 2 ^ 32) (r-1-is : IsSave (save_remembering two_words (parts numbers deques frames) memory pool work target) work-1 target-1 r-1) (same-work-1 : length work-1 ≡ length work) (same-target-1 : length target-1 ≡ length target) where
   -- a way out: what the function ensures
-  pub out-2 : IsSave (saveRemembering two_words (parts numbers deques frames) memory pool work target) work-1 target-1 r-1
+  pub out-2 : IsSave (save_remembering two_words (parts numbers deques frames) memory pool work target) work-1 target-1 r-1
   out-2 = r-1-is

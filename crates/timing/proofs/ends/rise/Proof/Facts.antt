@@ -6,19 +6,19 @@ use mathlib.Core.List.{List}
 use mathlib.Core.Bool.{Bool, true, false}
 use lib.ListN.{length, get_or, set}
 use native.Mathlib.Omega.{arith}
-use Rattle.frames.specs.Frames.{frameAt}
-use Rattle.semantics.specs.Timing.{rise, waitsForOne, latest}
+use Rattle.frames.specs.Frames.{frame_at}
+use Rattle.semantics.specs.Timing.{rise, waits_for_one, latest}
 use Rattle.frames.specs.declared.Frame.{Frame}
 use Rattle.semantics.specs.declared.Rise.{Rise}
-use Rattle.timing.proofs.Laws.{rise-main, rise-goes-on, rise-passes, rise-ends}
+use Rattle.timing.proofs.Laws.{rise-main, rise_goes_on, rise_passes, rise_ends}
 
 module _
     (clocks : List ℕ) (frames : List Frame) (first' : ℕ) (t : ℕ) (clocks-fits : length clocks < 2 ^ 64) (frames-fits : length frames < 2 ^ 64) (first'-fits : first' < 2 ^ 32) (t-fits : t < 2 ^ 64)
     -- frames::table::frame_or_zero(frames, first')
-    (r-1 : Frame) (r-1-is : r-1 ≡ frameAt frames first') where
+    (r-1 : Frame) (r-1-is : r-1 ≡ frame_at frames first') where
   -- the loop's invariant, of what holds where a turn begins
   abbrev pub Inv : (p : ℕ) (clock : ℕ) (more : ℕ) → Type 0
-  Inv p clock more = rise more frames clocks p clock ≡ rise (frameAt frames first').depth frames clocks first' t
+  Inv p clock more = rise more frames clocks p clock ≡ rise (frame_at frames first').depth frames clocks first' t
 
   -- what gets smaller with each turn
   abbrev pub left : (p : ℕ) (clock : ℕ) (more : ℕ) → ℕ
@@ -36,24 +36,24 @@ module _
         -- timing::ends::stops_at(4294967295, false, clock)
         (r-6 : Rise) (r-6-is : r-6 ≡ record { place = 4294967295; passes = false; clock = clock }) where
       -- a way out: what the function ensures
-      pub out-7 : r-6 ≡ rise (frameAt frames first').depth frames clocks first' t
+      pub out-7 : r-6 ≡ rise (frame_at frames first').depth frames clocks first' t
       out-7 = rise-main frames clocks p clock more r-6 test-5 r-6-is ∙ inv
 
     module _
         (test-5 : 0 < more)
         -- frames::table::frame_or_zero(frames, p)
-        (r-8 : Frame) (r-8-is : r-8 ≡ frameAt frames p)
+        (r-8 : Frame) (r-8-is : r-8 ≡ frame_at frames p)
         -- frames::table::frame_or_zero(frames, r-8.parent)
-        (f : Frame) (f-is : f ≡ frameAt frames r-8.parent)
+        (f : Frame) (f-is : f ≡ frame_at frames r-8.parent)
         -- timing::clocks::waits_for_one(f)
-        (r-10 : Bool) (r-10-is : r-10 ≡ waitsForOne f) where
+        (r-10 : Bool) (r-10-is : r-10 ≡ waits_for_one f) where
       module _
           (test-11 : r-10 ≡ false)
           -- timing::ends::stops_at(r-8.parent, false, clock)
           (r-12 : Rise) (r-12-is : r-12 ≡ record { place = r-8.parent; passes = false; clock = clock }) where
         -- a way out: what the function ensures
-        pub out-13 : r-12 ≡ rise (frameAt frames first').depth frames clocks first' t
-        out-13 = rise-goes-on frames clocks p clock more r-8.parent f r-10 test-5 (ap (λ (g : Frame). g.parent) r-8-is) f-is r-10-is r-12 test-11 r-12-is ∙ inv
+        pub out-13 : r-12 ≡ rise (frame_at frames first').depth frames clocks first' t
+        out-13 = rise_goes_on frames clocks p clock more r-8.parent f r-10 test-5 (ap (λ (g : Frame). g.parent) r-8-is) f-is r-10-is r-12 test-11 r-12-is ∙ inv
 
       module _
           (test-11 : r-10 ≡ true) where
@@ -62,8 +62,8 @@ module _
             -- timing::ends::stops_at(r-8.parent, true, clock)
             (r-15 : Rise) (r-15-is : r-15 ≡ record { place = r-8.parent; passes = true; clock = clock }) where
           -- a way out: what the function ensures
-          pub out-16 : r-15 ≡ rise (frameAt frames first').depth frames clocks first' t
-          out-16 = rise-passes frames clocks p clock more r-8.parent f r-10 test-5 (ap (λ (g : Frame). g.parent) r-8-is) f-is r-10-is r-15 test-11 test-14 r-15-is ∙ inv
+          pub out-16 : r-15 ≡ rise (frame_at frames first').depth frames clocks first' t
+          out-16 = rise_passes frames clocks p clock more r-8.parent f r-10 test-5 (ap (λ (g : Frame). g.parent) r-8-is) f-is r-10-is r-15 test-11 test-14 r-15-is ∙ inv
 
         module _
             (test-14 : f.returning ≡ 1)
@@ -77,7 +77,7 @@ module _
 
           -- a turn keeps the invariant
           pub goes_on : Inv r-8.parent clock' (more - 1)
-          goes_on = rise-ends frames clocks p clock more r-8.parent f r-10 test-5 (ap (λ (g : Frame). g.parent) r-8-is) f-is r-10-is r-17 clock' test-11 test-14 r-17-is clock'-is ∙ inv
+          goes_on = rise_ends frames clocks p clock more r-8.parent f r-10 test-5 (ap (λ (g : Frame). g.parent) r-8-is) f-is r-10-is r-17 clock' test-11 test-14 r-17-is clock'-is ∙ inv
 
           -- and leaves less to do
           pub falls : left r-8.parent clock' (more - 1) < left p clock more
