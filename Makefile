@@ -2,7 +2,7 @@
 #             it with the copying program; links the hosts in C and Rust and tests through the C interface; the last line is
 #             'N passed, 0 failed'
 # make try    runs splitrun on document 01's example in seconds, without a proof: not the verdict
-# make run    proves and builds splitrun (docs/requests/R-10.md has the time), and runs it on document 01's example
+# make run    proves and builds splitrun (docs/requests/R-9.md has the time), and runs it on document 01's example
 # make lib    proves and builds target/staticlib/libsplitter.a, the library for C and Rust (host/README.md)
 # make bench  measures the library against plain Rust, a copying machine and im-rc; writes docs/BENCH.md and its pictures
 # make cross TARGET=..  writes target/cross/TARGET/libsplitter.a for another processor, from the LLVM module of the proved build; cross/targets

@@ -4,7 +4,17 @@ import argparse
 import sys
 
 from tapelib import explain, firmware, log, machine
-from tapelib.cli import bounded
+
+
+def bounded(least, most):
+    """A whole number from least to most, or a refusal."""
+
+    def read(word):
+        if not word.isascii() or not word.isdigit() or not least <= int(word) <= most:
+            raise argparse.ArgumentTypeError(f"'{word}' is not a whole number from {least} to {most}")
+        return int(word)
+
+    return read
 
 
 def parser():

@@ -26,7 +26,6 @@ NOTE_B = HEAD + (
     "0 spawn -> 101 1\n1 steal 0 -> 103 0\n1 write 2 1 -> 106 10\n0 read 2 -> 105 0\n1 sync -> 104 1\n"
     "1 read 2 -> 10 0\n0 return -> 102 2\n0 read 2 -> 105 0\n0 return -> 102 3\n"
 )
-DEEP = "start 1 20\nvalues 7\n" + "".join(f"0 spawn -> 101 {depth}\n" for depth in range(1, 101))  # 101 live frames
 needs_splitrun = unittest.skipUnless(os.path.exists(SPLITRUN), f"no splitrun at {SPLITRUN}")
 needs_archive = unittest.skipUnless(ARCHIVE.exists(), f"no {ARCHIVE}")
 
@@ -132,13 +131,6 @@ class Refused(unittest.TestCase):
             self.assertEqual(done.returncode, 2)
             self.assertIn(said, done.stderr.decode())
         self.refused(NOTE_B, "make lib first", "--library", SPLITTER_LIB_DIR="/nowhere")
-        self.refused(NOTE_B, "make lib first", "--places", "63", SPLITTER_LIB_DIR="/nowhere")
-
-    def test_places(self):
-        for word in ("0", "257", "x", "-1", "1.5", "", "99999999999"):
-            code, out, err = audited(NOTE_B, f"--places={word}")
-            self.assertEqual((code, out), (2, ""))
-            self.assertIn(f"audit: error: argument --places: '{word}' is not a whole number from 1 to 256\n", err)
 
     def test_make_log(self):
         done = run(HERE / "make_log.py", "right", "--seed", "3", "--folds")
@@ -196,26 +188,6 @@ class Searches(unittest.TestCase):
             self.assertFalse(any(event.refusal for event in own.events))
             self.assertLess(len(records), 40)
 
-    def test_places(self):
-        """The plain machine has the log's places, by both rules."""
-        given = log.from_text(DEEP)
-        for places in (1, 2, 64, 100, 101, 256):
-            given.places = places
-            found = by_machine(given)
-            self.assertEqual(found.differing, list(range(places - 1, 100)))
-            self.assertEqual(found.against_b, found.differing)
-
-    def test_many_frames_are_left_out(self):
-        """Three chains of 40 frames do not matter: two of them alone are more than splitrun's table takes."""
-        chains = "".join(f"{worker} spawn\n" * 40 + f"{worker + 1} steal {worker}\n" for worker in range(3))
-        steps = "3 spawn\n3 spawn\n4 steal 3\n5 steal 3\n5 write 2 1\n5 sync\n3 return\n3 read 2 -> 105 0\n"
-        given = log.from_text("start 6 100\nvalues 0 0 0 0\n" + chains + steps)
-        given.places = 256
-        found = by_machine(given)
-        at = found.differing[0]
-        self.assertTrue(found.as_note_b(at))
-        self.assertEqual(len(shorten.short_records(found.log, found.own, at)[1]), 8)
-
     def test_a_large_pool_is_cut_to_splitrun_s(self):
         found = by_machine(firmware.search(2, 300, True, nodes=16384))
         self.assertEqual(shorten.short_records(found.log, found.own, found.differing[0])[0], 1024)
@@ -229,7 +201,7 @@ class Reports(unittest.TestCase):
         for words in (
             "-: 2 workers, 4 splitters, 20 nodes; 9 steps, 9 answers; replayed by splitrun\nrecord 8 (line 10) differs: 0 read 2\n",
             "the log has       105 0\n    splitrun gives    105 1\n    note B gives      105 0\n",
-            "On worker 0: Main reads splitter 2: 1, 3 nodes visited.",
+            "On worker 0: Main reads splitter 2: 1.",
             "The right 1 was written by Main at record 3, on worker 1.\nNote B's 0 is an initial value.\n",
             "Main waited at its sync from record 5, on worker 1,\nand was resumed by worker 0 at record 7, after its last child frame 1 ended.\n",
             "as note B: a resumed frame took its last child's values.\n",
@@ -348,10 +320,8 @@ class Reports(unittest.TestCase):
 
     def test_another_program_than_splitrun(self):
         """Not splitrun's lines; splitrun's lines with a wrong answer."""
-        lines = "2 4 20\n101 1\n103 0\n106 10\n105 0\n104 1\n10 0\n102 2\n105 1\n102 3\nfree 20\nreduced 0 4294967295 1 0\nvisits 9\n"
+        lines = "2 4 20\n101 1\n103 0\n106 10\n105 0\n104 1\n10 0\n102 2\n105 1\n102 3\nfree 20\nreduced 0 4294967295 1 0\n"
         for printed, code, words in ((lines.replace("105 1", "x"), 2, "'x': not splitrun's"), ("", 2, "0 lines"),
-                                     (lines.replace("visits", "visit"), 2, "'visit 9': not splitrun's"),
-                                     (lines.replace("visits 9", "visits 8"), 1, "visits: splitrun says 8, the plain machine 9"),
                                      (lines.replace("reduced 0", "reduced 1"), 1, "totals: splitrun says (1, 4294967295, 1, 0), the plain machine (0,"),
                                      (lines.replace("105 1", "105 7"), 1, "record 8: splitrun says 105 7, the plain machine 105 1")):
             with tempfile.TemporaryDirectory() as folder:
@@ -388,67 +358,6 @@ class Library(unittest.TestCase):
             self.assertIn("16384 nodes; 30", out)
             self.assertIn("replayed by the library", out)
             self.assertIn(words, out)
-
-    def test_deep_searches(self):
-        """The 64th of 100 nested spawns finds splitrun's table full, and a longer one not; a table of one place has Main alone."""
-        code, out, _ = audited(DEEP)
-        self.assertEqual(code, 1)
-        self.assertIn("record 64 (line 66) differs: 0 spawn\n    the log has       101 64\n    splitrun gives    13 0\n", out)
-        self.assertIn("frame table has places. It has 64. (bottom frame: 1^63)", out)
-        self.assertIn("more or fewer places than 64, --places must say how many.\n", out)
-        for places in ("101", "256"):
-            code, out, err = audited(DEEP, "--places", places)
-            self.assertEqual((code, err), (0, ""))
-            self.assertIn(f"20 nodes, {places} frame places; 100 steps, 100 answers; replayed by the library\nclean", out)
-        code, out, _ = audited(DEEP, "--places", "100")
-        self.assertEqual(code, 1)
-        self.assertIn("record 100 (line 102) differs: 0 spawn\n    the log has       101 100\n    the library gives 13 0\n", out)
-        self.assertIn("It has 100. (bottom frame: 1^99)", out)
-
-    def test_one_place(self):
-        one = HEAD + "0 spawn -> 13 0\n0 write 2 1 -> 106 13\n0 read 2 -> 105 1\n0 return -> 102 3\n"
-        code, out, err = audited(one, "--places", "1")
-        self.assertEqual((code, err), (0, ""))
-        self.assertIn("20 nodes, 1 frame place; 4 steps", out)
-        code, out, _ = audited(one)  # a firmware with fewer places than are said
-        self.assertEqual(code, 1)
-        self.assertIn("the log has       13 0\n    splitrun gives    101 1\n", out)
-        self.assertIn("more or fewer places than 64, --places must say how many.\n", out)
-        self.assertIn("record 1 (line 3) differs: 0 spawn\n    the log has       101 1\n    the library gives 13 0\n", audited(DEEP, "--places", "1")[1])
-
-    def test_64_places_are_splitrun_s(self):
-        self.assertEqual(audited(NOTE_B, "--places", "64"), audited(NOTE_B))
-
-    def test_other_tables_have_the_same_report(self):
-        """A log that fits in any table: only the places and the program in the first line differ."""
-        through = audited(NOTE_B, "--library")
-        for places in ("2", "63", "65", "256"):
-            code, out, err = audited(NOTE_B, "--places", places)
-            self.assertEqual((code, out.replace(f", {places} frame places", ""), err), through)
-
-    def test_a_deep_difference(self):
-        """Note B's bug in a frame of this depth, with its child and all above it live. A short script has them all, and is for splitrun's table."""
-        for depth, short in ((62, True), (63, False), (70, False)):
-            steps = "0 spawn\n" * (depth + 1) + "1 steal 0\n1 return\n" * depth + "1 steal 0\n1 write 2 1\n1 sync\n0 return\n0 read 2 -> 105 0\n"
-            with tempfile.TemporaryDirectory() as folder:
-                tape, svg = Path(folder) / "x.tape", Path(folder) / "x.svg"
-                code, out, err = audited(HEAD + steps, "--places", "256", "--short", tape, "--draw", svg)
-                self.assertEqual((code, err, tape.exists()), (1, "", short), out)
-                self.assertIn("as note B: a resumed frame took its last child's values.\n", out)
-                self.assertIn("short script: 192 steps" if short else "no short script: with the 64 frame places that splitrun lends", out)
-                xml.dom.minidom.parse(str(svg))
-                if short:
-                    self.assertEqual(machine.run(script.encode(tape.read_text())).lines[-3], "105 1")
-
-    def test_arguments(self):
-        program, data = audit.built_replay(), (ROOT / "crates/splitrun/stdin").read_bytes()
-        for words in (["2"], ["64"], ["256"]):
-            self.assertEqual(audit.splitrun_lines(program, data, *words), audit.splitrun_lines(program, data))
-        self.assertEqual(audit.splitrun_lines(program, data, "1")[1], "13 0")
-        for words in (["0"], ["257"], ["x"], ["64x"], [""], ["-1"], ["64", "64"]):
-            done = subprocess.run([program, *words], input=data, capture_output=True)
-            self.assertEqual((done.returncode, done.stdout), (2, b""))
-            self.assertIn(b"not a number of places from 1 to 256", done.stderr)
 
     def test_cut_short(self):
         for data in (b"", b"\2\0\1\0\x14\0\0\0", (ROOT / "crates/splitrun/stdin").read_bytes()[:-1]):
@@ -490,18 +399,6 @@ class Page(unittest.TestCase):
         self.shown(audited(log.to_bytes(firmware.folding_search(3, 300, False)[0]))[1].splitlines()[-1])
         quiet = [seed for seed in range(1, 16) if not by_machine(firmware.search(seed, 300, True)).differing]
         self.assertEqual(len(quiet), 5)
-
-    @needs_archive
-    def test_frame_places(self):
-        line = next(line.strip() for line in PAGE.split("\n") if line.endswith("> deep.log"))
-        with tempfile.TemporaryDirectory() as folder:
-            subprocess.run(["bash", "-c", line], cwd=folder, check=True)
-            file = Path(folder) / "deep.log"
-            self.assertEqual(file.read_text(), DEEP)
-            for code, options in ((0, ["--places", "256"]), (1, [])):
-                done = run(HERE / "tape.py", "audit", file, "--splitrun", SPLITRUN, *options)
-                self.assertEqual(done.returncode, code)
-                self.shown(done.stdout.decode())
 
     def test_the_lines_in_c(self):
         """The page's functions write a log of note B's example."""

@@ -1,5 +1,5 @@
 #!/usr/bin/env python3
-"""Runs what docs/FORMATS.md shows: its tape writer, its image reader, its tables of lines, nodes, remembered leaves, sizes and clocks.
+"""Runs what docs/FORMATS.md shows: its tape writer, its image reader, its tables of lines, nodes, sizes and clocks.
 
 Needs target/bin/splitrun (or SPLITRUN), target/staticlib/libsplitter.a (or that in SPLITTER_LIB_DIR) and gcc; without them the tests that need them are skipped."""
 import os
@@ -74,31 +74,6 @@ int main(void) {
         uint64_t words[8] = {report.work, report.span, report.quotient, report.remainder, clocks[0], clocks[1], clocks[2], clocks[3]};
         printf("%u", result);
         for (unsigned i = 0; i < 8; i++) { printf(" %u", (unsigned)words[i]); }
-        printf("\\n");
-    }
-    return 0;
-}
-"""
-
-# The example's records as tapes of one record each: the visits, then the places and the words of the memory that are not 0.
-MEMORY = """
-#include <stdio.h>
-#include "splitter.h"
-static struct splitter_state state;
-static struct splitter_frame table[64];
-static uint32_t pool[40], work[20], answers[2];
-static const uint32_t values[5] = {10, 20, 30, 40, 50};
-static const struct splitter_lent lent = {&state, table, 64, pool, 40, work, 20};
-int main(void) {
-    uint8_t data[100];
-    if (fread(data, 1, sizeof data, stdin) != sizeof data || splitter_lent_start(&lent, 2, values, 5) != 0) { return 1; }
-    for (unsigned record = 0; record < 9; record++) {
-        struct splitter_tape_result taped = splitter_lent_tape(&lent, data + 28 + 8 * record, 8, answers, 2);
-        if (taped.result != SPLITTER_OK) { return 1; }
-        printf("%u", (unsigned)taped.visits);
-        for (unsigned i = 0; i < SPLITTER_MEMORY_WORDS; i++) {
-            if (state.memory[i] != 0) { printf(" %u:%u", i, state.memory[i]); }
-        }
         printf("\\n");
     }
     return 0;
@@ -262,26 +237,6 @@ class Reports(unittest.TestCase):
         report, clocks = re.search(r"So its report is ([0-9 ]+)\.", TEXT)[1], re.search(r"After the example they are ([0-9 ]+),", TEXT)[1]
         self.assertEqual((rows[8][1:5], rows[8][5:]), ([int(word) for word in report.split()], [int(word) for word in clocks.split()]))
         self.assertEqual(number(shown[8][1]), rows[8][1])
-
-
-@unittest.skipUnless(ARCHIVE.exists() and shutil.which("gcc"), "no library or no gcc")
-class Memory(unittest.TestCase):
-    def test_the_example(self):
-        with tempfile.TemporaryDirectory() as folder:
-            program = Path(folder) / "memory"
-            command = ["gcc", "-std=c99", f"-I{ROOT / 'host/include'}", "-o", program, "-x", "c", "-", "-x", "none", ARCHIVE]
-            subprocess.run(command, input=MEMORY.encode(), check=True)
-            said = subprocess.run([program], input=(ROOT / "crates/splitrun/stdin").read_bytes(), capture_output=True, check=True).stdout.decode()
-        shown = table("and how many nodes it visits:")
-        places = [4, 260, 2048, 2049]
-        wanted = []
-        for row in shown:
-            visits, *words = (number(cell) for cell in row[1:])
-            wanted.append(" ".join([str(visits), *(f"{place}:{word}" for place, word in zip(places, words) if word)]))
-        self.assertEqual(said.splitlines(), wanted)
-        self.assertEqual(sum(number(row[1]) for row in shown), 12)
-        head = next(line for line in TEXT[TEXT.index("and how many nodes it visits:") :].splitlines() if line.startswith("|"))
-        self.assertEqual([number(cell) for cell in head.strip("|").split("|")[2:]], places)
 
 
 if __name__ == "__main__":

@@ -78,7 +78,7 @@ PAIRS = {
     f"start 3 20{FORKED}1 spawn\n2 steal 1\n2 sync\n0 read 0\n1 read 0\n1 read 0\n0 return\n1 return\n1 return\n": (6, 5),
     f"start 3 20{FORKED}1 spawn\n2 steal 1\n2 sync\n0 read 0\n1 read 0\n1 read 0\n1 return\n0 return\n0 return\n": (6, 5),
 }
-EXAMPLE_PAIRS = {"document01": (5, 4), "note_b": (5, 4), "shared": (7, 5), "remembered": (11, 9), "waits": (8, 7), "search": (203, 40)}
+EXAMPLE_PAIRS = {"document01": (5, 4), "note_b": (5, 4), "shared": (7, 5), "waits": (8, 7), "search": (203, 40)}
 EXAMPLE_PAIRS.update({f"score_{name}": (23, 8) for name in ("one", "two", "four")})
 
 

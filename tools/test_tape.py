@@ -26,7 +26,7 @@ SPLITRUN = os.path.abspath(os.environ.get("SPLITRUN", ROOT / "target/bin/splitru
 STDIN = Path(os.environ.get("SPLITRUN_STDIN", ROOT / "crates/splitrun/stdin"))
 EXAMPLES = sorted((HERE / "examples").glob("*.tape"))
 NOTHING = "reduced 0 4294967295 1 0"  # the totals where nothing was folded
-DOCUMENT01 = f"2 5 20|101 1|103 0|106 5|105 50|104 1|10 0|102 2|105 99|102 3|free 20|{NOTHING}|visits 12".split("|")
+DOCUMENT01 = f"2 5 20|101 1|103 0|106 5|105 50|104 1|10 0|102 2|105 99|102 3|free 20|{NOTHING}".split("|")
 ARCHIVE = Path(os.environ.get("SPLITTER_LIB_DIR", ROOT / "target/staticlib")) / "libsplitter.a"
 IMAGES = int(os.environ.get("IMAGES", 1000))
 needs_archive = unittest.skipUnless(ARCHIVE.exists(), f"no {ARCHIVE}")
@@ -175,34 +175,9 @@ class Errors(unittest.TestCase):
         self.assertIn(b"line 3: 'fly' is no step", done.stderr)
 
 
-def ruled(data, answers):
-    """R-10's sum from the records and their answers: pairs of a worker and a splitter are remembered."""
-    known, visits, n = set(), 0, len(script.split_input(data)[2])
-    for record, line in zip(script.split_records(script.split_input(data)[3]), answers):
-        kind, worker, splitter, _ = struct.unpack("<BBHI", record)
-        if line.split()[0] != str(100 + kind) or kind == 7:
-            continue
-        if kind < 5:
-            known = {pair for pair in known if pair[0] != worker}
-        else:
-            visits += 1 if kind == 5 and (worker, splitter) in known else 1 + (n - 1).bit_length()
-            known.add((worker, splitter))
-    return visits
-
-
-def lines_of(text):
-    """Splitrun's lines after the first, without the last one, which must be what R-10's rule gives."""
-    data = script.encode(text)
-    lines = machine.run(data).lines[1:]
-    if lines[-1].startswith("refused"):
-        return lines
-    assert lines[-1] == f"visits {ruled(data, lines)}", (text, lines[-1])
-    return lines[:-1]
-
-
 class PlainMachine(unittest.TestCase):
     def lines(self, text):
-        return lines_of(text)
+        return machine.run(script.encode(text)).lines[1:]
 
     def test_document01(self):
         self.assertEqual(machine.run(example("document01")).lines, DOCUMENT01)
@@ -389,7 +364,7 @@ class Trees:
 class Writes(unittest.TestCase):
     def test_what_writes_take(self):
         for text, lines in WRITES.items():
-            self.assertEqual(lines_of(text), lines.split("|"), text)
+            self.assertEqual(machine.run(script.encode(text)).lines[1:], lines.split("|"), text)
 
     def test_the_count_is_that_of_the_trees(self):
         """Both ways in which R-2 says 16: the rest of the path, and the plain machine's count of triples."""
@@ -413,64 +388,11 @@ class Writes(unittest.TestCase):
         self.assertTrue(refused and new >= {0, 1, 2, 3, 4, 8})
 
 
-# Document 02's R-10: the nodes visited, counted by hand. A path has 4 nodes.
-VISITS = {
-    "start 1 20\nvalues 1 2 3 4 5\n": 0,
-    "start 1 20\nvalues 1 2 3 4 5\n0 read 4\n0 read 4\n0 write 4 9\n0 read 4\n0 write 4 9\n": 4 + 1 + 4 + 1 + 4,
-    "start 1 20\nvalues 1 2 3 4 5\n0 read 0\n0 read 1\n0 read 0\n0 fold sum 1\n0 read 1\n": 4 + 4 + 1 + 1,
-    "start 1 1\nvalues 1\n0 read 0\n0 read 0\n0 write 0 2\n": 1 + 1 + 1,
-    # emptied by a spawn, by a return, by a sync
-    "start 1 20\nvalues 1 2 3 4 5\n0 read 4\n0 spawn\n0 read 4\n0 return\n0 read 4\n0 sync\n0 read 4\n": 4 * 4,
-    # the thief remembers nothing, the victim goes on remembering, each its own
-    f"start 2 20{FORKED}0 read 4\n1 read 4\n0 read 4\n1 read 4\n1 write 4 9\n0 read 4\n1 read 4\n": 4 + 4 + 1 + 1 + 4 + 1 + 1,
-    "start 2 20\nvalues 1 2 3 4 5\n0 spawn\n0 read 4\n1 steal 0\n0 read 4\n1 read 4\n": 4 + 1 + 4,
-    # after a sync and after a return that wait, also on the worker that goes on
-    f"start 2 20{FORKED}1 read 4\n1 sync\n0 read 4\n0 return\n0 read 4\n": 4 + 4 + 4,
-    f"start 2 20{FORKED}1 read 4\n1 return\n0 spawn\n1 steal 0\n1 read 4\n": 4 + 4,
-    # refused records visit, remember and empty nothing
-    f"start 2 14{FORKED}0 write 4 9\n0 read 4\n0 write 4 9\n0 steal 1\n0 read 5\nraw 01 00 01 00 00 00 00 00\n0 read 4\n": 4 + 1,
-}
-
-
-class Visits(unittest.TestCase):
-    def test_visits(self):
-        for text, visits in VISITS.items():
-            self.assertEqual(machine.run(script.encode(text)).lines[-1], f"visits {visits}", text)
-
-    def test_remembered_leaves_are_those_of_the_trees(self):
-        """Each worker remembers nodes: what it remembers is the leaf that the walk comes to, and as many nodes are visited."""
-        known = 0
-        for seed in range(100):
-            run = machine.run(script.encode(random_script(seed)))
-            trees, remembered = Trees(len(run.values), run.nodes), [{} for _ in range(run.workers)]
-            for event in run.events:
-                if event.refusal:
-                    self.assertEqual(event.visits, 0)
-                    continue
-                mine = remembered[event.worker]
-                if event.kind == "write":
-                    trees.write(event.frame, event.low)
-                elif event.kind == "spawn":
-                    trees.spawn(event.frame, event.other)
-                if event.kind in ("read", "write"):
-                    path = trees.path(event.frame, event.low)[0]
-                    leaf = mine.get(event.low) if event.kind == "read" else None
-                    self.assertTrue(leaf in (None, path[-1]))
-                    self.assertEqual(event.visits, len(path) if leaf is None else 1)
-                    mine[event.low] = path[-1]
-                    known += leaf is not None
-                elif event.kind != "fold":
-                    mine.clear()
-                for name in event.ended:
-                    trees.release(trees.roots.pop(name))
-        self.assertGreater(known, 100)
-
-
 class Returns(unittest.TestCase):
     def test_returns_that_wait(self):
         for text, lines in RETURNS.items():
             wanted = lines.split("|")
-            self.assertEqual(lines_of(text), wanted + [NOTHING] * ("102 3" in wanted), text)
+            self.assertEqual(machine.run(script.encode(text)).lines[1:], wanted + [NOTHING] * ("102 3" in wanted), text)
 
     def test_random_scripts_have_every_outcome(self):
         """And in each: who lives, who waits, and that a chain ends child first."""
@@ -560,7 +482,7 @@ def folding_script(seed):
 class Folds(unittest.TestCase):
     def test_folds(self):
         for text, lines in FOLDS.items():
-            self.assertEqual(lines_of(text), lines.split("|"), text)
+            self.assertEqual(machine.run(script.encode(text)).lines[1:], lines.split("|"), text)
 
     def test_the_operations(self):
         """Each has its identity on either side, and grouping never matters."""
@@ -586,7 +508,7 @@ class Folds(unittest.TestCase):
         lists = set()
         for name in ("score_one", "score_two", "score_four"):
             run = machine.run(example(name))
-            self.assertEqual(run.lines[-2:], ["reduced 190 16 1410065408 2516364964", "visits 12"])
+            self.assertEqual(run.lines[-1], "reduced 190 16 1410065408 2516364964")
             steps = {}
             for event in run.events:
                 self.assertEqual(event.refusal, 0)
@@ -603,27 +525,16 @@ class Words(unittest.TestCase):
             (0, "11 in Main's tree, 9 free"),
             (1, "Main spawns frame 1, depth 1"),
             (2, "worker 1 takes Main, depth 0, from worker 0"),
-            (3, "Main writes 99 to splitter 4, with 4 new nodes, 4 nodes visited. Free nodes: 5"),
-            (4, "frame 1 reads splitter 4: 50, 4 nodes visited"),
+            (3, "Main writes 99 to splitter 4, with 4 new nodes. Free nodes: 5"),
+            (4, "frame 1 reads splitter 4: 50"),
             (5, "Main has a live child and is suspended"),
             (6, "refused 10: The step is not a steal and the worker is idle."),
             (7, "frame 1 ends, the last child; Main resumes on worker 0"),
-            (8, "Main reads splitter 4: 99, 4 nodes visited"),
+            (8, "Main reads splitter 4: 99"),
             (9, "the run is over. Free nodes: 20"),
             (11, "the totals: sum 0, minimum 4294967295, affine map x to 1 x + 0"),
-            (12, "the nodes that reads and writes visited"),
         ):
             self.assertIn(part, words[place])
-
-    def test_visits(self):
-        words = explain.run_words(machine.run(script.encode("start 1 20\nvalues 1 2 3 4 5\n0 read 4\n0 read 4\n0 write 4 9\n0 read 4\n")))
-        for place, part in (
-            (1, "Main reads splitter 4: 5, 4 nodes visited. Free nodes: 9"),
-            (2, "Main reads splitter 4: 5, remembered: 1 node visited. Free nodes: 9"),
-            (3, "Main writes 9 to splitter 4, in place, 4 nodes visited. Free nodes: 9"),
-            (4, "Main reads splitter 4: 9, remembered: 1 node visited. Free nodes: 9"),
-        ):
-            self.assertEqual(part, words[place])
 
     def test_folds(self):
         words = explain.run_words(machine.run(example("score_two")))
@@ -647,13 +558,13 @@ class Words(unittest.TestCase):
         words = explain.run_words(machine.run(example("shared")))
         sentence = "refused 16: The step is a write and fewer nodes are free than the shared rest of its path has."
         for place, part in (
-            (1, "Main writes 51 to splitter 4, in place, 4 nodes visited. Free nodes: 8"),
-            (4, "Main writes 52 to splitter 4, with 4 new nodes, 4 nodes visited. Free nodes: 4"),
-            (5, "Main writes 53 to splitter 4, in place, 4 nodes visited. Free nodes: 4"),
-            (6, "frame 1 writes 54 to splitter 4, in place, 4 nodes visited. Free nodes: 4"),
-            (7, "frame 1 writes 11 to splitter 0, with 3 new nodes, 4 nodes visited. Free nodes: 1"),
+            (1, "Main writes 51 to splitter 4, in place. Free nodes: 8"),
+            (4, "Main writes 52 to splitter 4, with 4 new nodes. Free nodes: 4"),
+            (5, "Main writes 53 to splitter 4, in place. Free nodes: 4"),
+            (6, "frame 1 writes 54 to splitter 4, in place. Free nodes: 4"),
+            (7, "frame 1 writes 11 to splitter 0, with 3 new nodes. Free nodes: 1"),
             (8, f"{sentence} The rest has 2 nodes, 1 is free. (bottom frame: Main) Nothing changes. Free nodes: 1"),
-            (10, "Main writes 31 to splitter 2, in place, 4 nodes visited. Free nodes: 8"),
+            (10, "Main writes 31 to splitter 2, in place. Free nodes: 8"),
         ):
             self.assertEqual(part, words[place])
         words = explain.run_words(machine.run(script.encode(f"start 2 15{FORKED}1 write 0 7\n0 write 1 7\n")))
@@ -673,7 +584,7 @@ class Words(unittest.TestCase):
             self.assertEqual(part, words[place])
         self.assertNotIn(14, explain.REFUSED)
         waiting = machine.run(script.encode(f"start 2 20{FORKED}1 return\n"))
-        self.assertEqual(explain.run_words(waiting)[-2], "the free nodes at the end; Main has not returned")
+        self.assertEqual(explain.run_words(waiting)[-1], "the free nodes at the end; Main has not returned")
 
     def test_a_difference_is_loud(self):
         data = example("document01")
@@ -707,7 +618,7 @@ class Words(unittest.TestCase):
         words = explain.run_words(machine.run(script.encode("start 1 1\nvalues 1\n" + "0 spawn\n" * 63)))
         self.assertEqual(words[63], "frame 1^62 spawns frame 1^63, depth 63, a copy of frame 1^62's values. Free nodes: 0")
         words = explain.run_words(machine.run(script.encode(f"{LONE}{CHAIN}0 return\n")))
-        self.assertIn("frame 1^63 ends, and with it 63 frames from frame 1^62 up to Main, which waited; the run is over", words[-4])
+        self.assertIn("frame 1^63 ends, and with it 63 frames from frame 1^62 up to Main, which waited; the run is over", words[-3])
 
 
 STEP = "start 1 9\nvalues 5 6\n"
@@ -739,10 +650,7 @@ class Expects(unittest.TestCase):
             self.assertEqual(len(script.parse(ended + last).expects), 3)
         wrong = [(6, "reduced 6 4294967295 1 0", "reduced 5 4294967295 1 0")]
         self.assertEqual(self.misses(ended + "expect free 9\nexpect reduced 6 4294967295 1 0\n"), wrong)
-        self.assertEqual(self.misses(live + "expect reduced 5 4294967295 1 0\n"), [(4, "reduced 5 4294967295 1 0", "visits 0")])
-        reads = STEP + "0 read 0\n0 read 0\n"
-        self.assertEqual(self.misses(reads + "expect visits 3\nexpect free 6\n"), [])
-        self.assertEqual(self.misses(reads + "expect visits 4\n"), [(5, "visits 4", "visits 3")])
+        self.assertEqual(self.misses(live + "expect reduced 5 4294967295 1 0\n"), [(4, "reduced 5 4294967295 1 0", "free 6")])
         parsed = script.parse(ended + "expect reduced 6 4294967295 1 0\n")
         run = machine.run(parsed.data)
         misses = explain.missed(parsed.expects, run.lines)
@@ -769,7 +677,6 @@ class Expects(unittest.TestCase):
             ("expect free 9\nexpect reduced 0 1 1 0\nexpect free 9\n", 5, "expected in line 3 already"),
             ("0 read 1 expect reduced 0 1 1\n", 3, "reduced SUM MIN MULTIPLIER ADDEND"),
             ("0 read 1 expect free\n", 3, "free N"),
-            ("0 read 1 expect visits\n", 3, "visits N"),
         ):
             with self.assertRaises(script.ScriptError) as caught:
                 script.parse(STEP + text)
@@ -928,7 +835,7 @@ class Documents(unittest.TestCase):
             self.assertIn(f"    {line}\n" if line else "\n", page)
 
     def test_the_worked_examples_are_what_the_tool_prints(self):
-        for name in ("note_b", "shared", "remembered", "waits"):
+        for name in ("note_b", "shared", "waits"):
             data, text = example(name), (HERE / f"examples/{name}.tape").read_text()
             own = machine.run(data)
             self.on_the_page(text, explain.explained(data, own, own.lines)[0])
@@ -939,7 +846,7 @@ class Documents(unittest.TestCase):
     def test_the_page_s_script_gives_what_it_expects(self):
         page = (ROOT / "docs/TAPES.md").read_text().split("## The script\n")[1].split("\nNumbers are decimal.")[0]
         parsed = script.parse(page)
-        self.assertEqual(len(parsed.expects), 5)
+        self.assertEqual(len(parsed.expects), 4)
         self.assertEqual(explain.missed(parsed.expects, machine.run(parsed.data).lines), [])
 
     def test_the_expected_answers_are_what_the_tool_prints(self):
@@ -949,7 +856,7 @@ class Documents(unittest.TestCase):
         misses = explain.missed(wrong.expects, DOCUMENT01)
         rows = explain.explained(wrong.data, machine.run(wrong.data), DOCUMENT01, misses)[0].splitlines()
         self.on_the_page(*[row + "\n" for row in rows if "EXPECTED" in row], f"!!! {misses[0].words()}\n")
-        self.assertEqual((len(wrong.expects), len(misses)), (12, 1))
+        self.assertEqual((len(wrong.expects), len(misses)), (11, 1))
 
     def test_note_b_is_what_the_tool_prints(self):
         data = example("note_b")
@@ -1032,7 +939,7 @@ class Pictures(unittest.TestCase):
     def test_a_part_of_a_run(self):
         text = (HERE / "examples/waits.tape").read_text()
         words = self.words(text, 9, 12)
-        self.assertIn("3 workers, 5 splitters, 20 nodes; free 20 at the end; visits 8; records 9 to 12 of 21", words)
+        self.assertIn("3 workers, 5 splitters, 20 nodes; free 20 at the end; records 9 to 12 of 21", words)
         self.assertEqual([w for w in words if w.isdigit() and int(w) > 2], ["9", "10", "11", "12", "4"])  # at last the critical path's clock
         for part in ("1.1", "1.2", "Main waits", "1 returns", "return, 2 end"):
             self.assertIn(part, words)
@@ -1516,7 +1423,7 @@ class WithTheLibrary(unittest.TestCase):
 @needs_splitrun
 class WithSplitrun(unittest.TestCase):
     def test_examples_and_random_scripts_agree(self):
-        texts = [path.read_text() for path in EXAMPLES] + [*WRITES, *VISITS, *RETURNS, *FOLDS] + [random_script(seed) for seed in range(40)]
+        texts = [path.read_text() for path in EXAMPLES] + [*WRITES, *RETURNS, *FOLDS] + [random_script(seed) for seed in range(40)]
         texts += [folding_script(seed) for seed in range(40)]
         for text in texts + ["start 1 10\nvalues 1 2 3 4 5\n", "raw 00\n", "start 1 9\nvalues 1\nraw 00\n"]:
             data = script.encode(text)

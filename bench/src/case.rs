@@ -1,7 +1,7 @@
 //! What is measured: a start, a prelude that is not measured, and a tape that is.
 
 use crate::generate::Generator;
-use crate::tape::{SPAWN, SYNC};
+use crate::tape::SPAWN;
 
 pub const RECORDS: usize = 8192;
 pub const WORKERS: usize = 4;
@@ -26,10 +26,6 @@ pub const MAX_LIVE: usize = 24;
 #[derive(Clone, Copy, PartialEq, Eq, Debug)]
 pub enum Workload {
     Reads,
-    /// Reads of splitters that the worker remembers.
-    RepeatedReads,
-    /// Reads of splitters that the worker does not remember.
-    FirstReads,
     Writes,
     /// Writes to paths that the frame alone holds.
     WritesAlone,
@@ -37,40 +33,30 @@ pub enum Workload {
     WritesShared,
     Control,
     Mix,
-    /// Reads and writes come back to the same splitters. It has fewer writes than the mix, or its shares of reads, writes and control.
-    MixLocal,
-    MixLocalWrites,
     /// Another mix, with folds; those before R-5 have none.
     MixFolds,
     /// One return that ends a chain of waiting frames, Main too.
     Chain,
 }
 
-pub const WORKLOADS: [Workload; 12] = [
+pub const WORKLOADS: [Workload; 8] = [
     Workload::Reads,
-    Workload::RepeatedReads,
-    Workload::FirstReads,
     Workload::Writes,
     Workload::WritesAlone,
     Workload::WritesShared,
     Workload::Control,
     Workload::Mix,
-    Workload::MixLocal,
-    Workload::MixLocalWrites,
     Workload::MixFolds,
     Workload::Chain,
 ];
 
 /// Those whose tapes have 8,192 records.
-pub const LONG_WORKLOADS: [Workload; 9] = [
+pub const LONG_WORKLOADS: [Workload; 6] = [
     Workload::Reads,
-    Workload::RepeatedReads,
     Workload::Writes,
     Workload::WritesAlone,
     Workload::Control,
     Workload::Mix,
-    Workload::MixLocal,
-    Workload::MixLocalWrites,
     Workload::MixFolds,
 ];
 
@@ -78,15 +64,11 @@ impl Workload {
     pub fn name(self) -> &'static str {
         match self {
             Workload::Reads => "reads",
-            Workload::RepeatedReads => "repeated reads",
-            Workload::FirstReads => "first reads",
             Workload::Writes => "writes",
             Workload::WritesAlone => "writes alone",
             Workload::WritesShared => "writes shared",
             Workload::Control => "control",
             Workload::Mix => "mix",
-            Workload::MixLocal => "mix with locality",
-            Workload::MixLocalWrites => "mix with locality, 22 writes",
             Workload::MixFolds => "mix with folds",
             Workload::Chain => "chain",
         }
@@ -110,7 +92,7 @@ impl Workload {
 
 /// A state for the soundness check: in a table of so many places so many frames live, each with so many writes since its spawn. In one line
 /// they are Main and its descendants, on one deque; in more lines Main has so many children, each with as many of the other frames below it,
-/// each line on a deque of its own. At last so many workers read every splitter, and remember it.
+/// each line on a deque of its own.
 #[derive(Clone, Copy, PartialEq, Eq, Debug)]
 pub struct Standing {
     pub n: usize,
@@ -119,20 +101,8 @@ pub struct Standing {
     pub frames: usize,
     pub writes: usize,
     pub lines: usize,
-    pub readers: usize,
 }
 
-impl Standing {
-    /// The workers that remember a splitter: those that read, or, if none does, those whose last step was a write.
-    pub fn remembering(self) -> usize {
-        match self.readers {
-            0 if self.writes > 0 => self.lines,
-            readers => readers,
-        }
-    }
-}
-
-#[derive(Clone)]
 pub struct Case {
     pub workers: usize,
     pub values: Vec<u32>,
@@ -174,7 +144,6 @@ impl Case {
     /// A tape of records.
     pub fn records(workload: Workload, n: usize) -> Self {
         match workload {
-            Workload::FirstReads => Case::first_reads(n),
             Workload::WritesShared => Case::shared(n),
             Workload::Chain => Case::chain(n),
             _ => Case::new(workload, n, WORKERS, POOL_VIEWS * tree_nodes(n), RECORDS),
@@ -198,7 +167,7 @@ impl Case {
     }
 
     /// Each worker has a frame: Main and its line of descendants. Each frame has made n / 2 writes, so the trees share some nodes; or, for
-    /// writes alone, one to every splitter, so they share none. For repeated reads each has then read every splitter. Then the records.
+    /// writes alone, one to every splitter, so they share none. Then the records.
     fn new(workload: Workload, n: usize, workers: usize, nodes: usize, records: usize) -> Self {
         let mut generator = Generator::new(1, workers, n, max_live(n, nodes));
         for thief in 1..workers {
@@ -211,9 +180,6 @@ impl Case {
                 _ => (0..n.div_ceil(2)).for_each(|_| generator.write(worker)),
             }
         }
-        if workload == Workload::RepeatedReads {
-            (0..workers).for_each(|worker| generator.read_all(worker));
-        }
         let prelude = generator.take();
         (0..records).for_each(|_| one_record(&mut generator, workload));
         Case {
@@ -222,23 +188,6 @@ impl Case {
             nodes,
             places: PLACES,
             prelude,
-            tape: generator.take(),
-        }
-    }
-
-    /// Main alone reads every splitter, again and again; before each turn it syncs, and so forgets them.
-    fn first_reads(n: usize) -> Self {
-        let mut generator = Generator::new(7, 1, n, 1);
-        for _ in 0..RECORDS / n {
-            generator.sync(0);
-            generator.read_all(0);
-        }
-        Case {
-            workers: 1,
-            values: values(n),
-            nodes: POOL_VIEWS * tree_nodes(n),
-            places: PLACES,
-            prelude: Vec::new(),
             tape: generator.take(),
         }
     }
@@ -288,11 +237,10 @@ impl Case {
         }
     }
 
-    /// The same without the records that are counted: an empty tape, but for the spawns among shared writes and the syncs among first reads.
+    /// The same without the records that are counted: an empty tape, but for the spawns among shared writes.
     pub fn rest(mut self, workload: Workload) -> Self {
         self.tape = match workload {
-            Workload::WritesShared => of_kind(SPAWN, &self.tape),
-            Workload::FirstReads => of_kind(SYNC, &self.tape),
+            Workload::WritesShared => spawns(&self.tape),
             _ => Vec::new(),
         };
         self
@@ -342,7 +290,6 @@ impl Case {
                 write(&mut generator, worker);
             }
         }
-        (0..standing.readers).for_each(|worker| generator.read_all(worker));
         Case {
             workers,
             values: values(n),
@@ -354,32 +301,22 @@ impl Case {
     }
 }
 
-/// The records of one kind.
-fn of_kind(kind: u8, tape: &[u8]) -> Vec<u8> {
+/// The spawns of a tape.
+fn spawns(tape: &[u8]) -> Vec<u8> {
     let (records, _) = tape.as_chunks::<8>();
-    let of_kind = records.iter().filter(|record| record[0] == kind);
-    of_kind.flatten().copied().collect()
+    let spawns = records.iter().filter(|record| record[0] == SPAWN);
+    spawns.flatten().copied().collect()
 }
 
-/// Mix, and that with locality and 22 writes: 70 in 100 reads, 22 writes, 8 control. Mix with locality: 80 reads, 12 writes, 8 control. Mix with folds: 60 reads, 20 writes, 12 folds, 8 control.
+/// Mix: 70 in 100 reads, 22 writes, 8 control. Mix with folds: 60 reads, 20 writes, 12 folds, 8 control.
 fn one_record(generator: &mut Generator, workload: Workload) {
     match workload {
-        Workload::Reads | Workload::RepeatedReads | Workload::FirstReads => read(generator),
+        Workload::Reads => read(generator),
         Workload::Writes | Workload::WritesAlone | Workload::WritesShared => write(generator),
         Workload::Control | Workload::Chain => generator.control(),
         Workload::Mix => match generator.choice(100) {
             0..70 => read(generator),
             70..92 => write(generator),
-            _ => generator.control(),
-        },
-        Workload::MixLocal => match generator.choice(100) {
-            0..80 => read_near(generator),
-            80..92 => write_near(generator),
-            _ => generator.control(),
-        },
-        Workload::MixLocalWrites => match generator.choice(100) {
-            0..70 => read_near(generator),
-            70..92 => write_near(generator),
             _ => generator.control(),
         },
         Workload::MixFolds => match generator.choice(100) {
@@ -399,16 +336,6 @@ fn read(generator: &mut Generator) {
 fn write(generator: &mut Generator) {
     let worker = generator.busy();
     generator.write(worker);
-}
-
-fn read_near(generator: &mut Generator) {
-    let worker = generator.busy();
-    generator.read_near(worker);
-}
-
-fn write_near(generator: &mut Generator) {
-    let worker = generator.busy();
-    generator.write_near(worker);
 }
 
 fn fold(generator: &mut Generator) {

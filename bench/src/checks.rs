@@ -21,19 +21,10 @@ impl CheckCost {
 
     /// Instructions of library and plain Rust per place that this table has more than another with as many splitters.
     pub fn per_place_more(&self, other: &CheckCost) -> Option<[f64; 2]> {
-        self.more_per(other, |standing| standing.places)
-    }
-
-    /// The same per splitter that the workers remember more.
-    pub fn per_splitter_more(&self, other: &CheckCost) -> Option<[f64; 2]> {
-        self.more_per(other, |standing| standing.readers * standing.n)
-    }
-
-    fn more_per(&self, other: &CheckCost, of: fn(Standing) -> usize) -> Option<[f64; 2]> {
         let (here, there) = (self.standing, other.standing);
-        let units = of(here).checked_sub(of(there))?;
-        let more = |a: u64, b: u64| (a as f64 - b as f64) / units as f64;
-        let same = here.n == there.n && units > 0;
+        let places = here.places.checked_sub(there.places)?;
+        let more = |a: u64, b: u64| (a as f64 - b as f64) / places as f64;
+        let same = here.n == there.n && places > 0;
         same.then(|| {
             [
                 more(self.library, other.library),
@@ -76,7 +67,6 @@ pub fn over_nodes(n: usize) -> Vec<Standing> {
             frames: 1,
             writes: 0,
             lines: 1,
-            readers: 0,
         })
         .collect()
 }
@@ -106,7 +96,6 @@ fn over_frames(n: usize, writes: usize) -> Vec<Standing> {
             frames,
             writes,
             lines: 1,
-            readers: 0,
         })
         .to_vec()
 }
@@ -119,23 +108,6 @@ pub fn siblings(n: usize) -> Vec<Standing> {
     all.filter(wide)
         .map(|standing| Standing { lines, ..standing })
         .collect()
-}
-
-/// Eight workers, each with a frame, of which so many have read every splitter and remember it.
-pub const READERS: [usize; 5] = [0, 1, 2, 4, 8];
-
-pub fn remembering(n: usize) -> Vec<Standing> {
-    let standing = siblings(n).into_iter().find(|standing| {
-        let Standing { frames, writes, .. } = *standing;
-        frames == 8 && writes == 0
-    });
-    let standing = standing.expect("eight frames without writes");
-    READERS
-        .map(|readers| Standing {
-            readers,
-            ..standing
-        })
-        .to_vec()
 }
 
 /// The table's lengths that the check is counted at.
@@ -160,6 +132,5 @@ fn in_table(n: usize, places: usize, frames: usize) -> Standing {
         frames,
         writes: 0,
         lines: 1,
-        readers: 0,
     }
 }

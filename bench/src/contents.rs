@@ -1,15 +1,13 @@
 //! What the tapes hold, counted from their records and the library's answers.
 
 use crate::case::{Case, WORKLOADS};
-use crate::marks;
 use crate::measure::answers;
 use crate::peer::Peer;
 use crate::table::Table;
 
-const HEADER: [&str; 13] = [
+const HEADER: [&str; 11] = [
     "workload",
     "reads",
-    "of them remembered",
     "writes",
     "folds",
     "spawns",
@@ -19,7 +17,6 @@ const HEADER: [&str; 13] = [
     "returns",
     "of them resume",
     "of them wait",
-    "nodes visited",
 ];
 
 /// The tapes at one n; others differ in their random choices only.
@@ -32,10 +29,8 @@ pub fn table(n: usize) -> Table {
             |wanted: &dyn Fn(&[u32]) -> bool| answers.chunks(2).filter(|pair| wanted(pair)).count();
         let kind = |first: u32| count(&|pair| pair[0] == first);
         let outcome = |first: u32, second: u32| count(&|pair| *pair == [first, second]);
-        let visited = marks::of_case(&case, &answers);
         let counts = [
             kind(105),
-            visited.remembered,
             kind(106),
             kind(107),
             kind(101),
@@ -45,7 +40,6 @@ pub fn table(n: usize) -> Table {
             kind(102),
             outcome(102, 2),
             outcome(102, 4),
-            visited.nodes as usize,
         ];
         let numbers = counts.map(|count| count.to_string());
         table.row([vec![workload.name().to_string()], numbers.to_vec()].concat());

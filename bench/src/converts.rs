@@ -119,7 +119,6 @@ fn small(places: usize, frames: usize, writes: usize) -> Standing {
         frames,
         writes,
         lines: 1,
-        readers: 0,
     }
 }
 
@@ -224,8 +223,8 @@ pub fn end_chain_elsewhere(pool: &mut [u32]) {
     last.expect("a node is free")[1] = 0;
 }
 
-/// Library and plain Rust leave the pool of a run in the new layout, zeros after it and the words past the old nodes, state and table as they were
-/// but for the memory, which is zeros; what follows is answered as in that run. A state that is refused is left, and its pool too.
+/// Library and plain Rust leave the pool of a run in the new layout, zeros after it and the words past the old nodes, and state and table as they
+/// were; what follows is answered as in that run. A state that is refused is left, and its pool too.
 pub fn compare() {
     for pool in OLD_POOLS {
         let case = pool.case();
@@ -246,16 +245,15 @@ pub fn compare_peer(peer: Peer, case: &Case, pool: &str) {
     let mut changed = conversion(peer, case);
     let before = changed.parts();
     assert_eq!(changed.convert(), 0, "{what}: refused");
-    let (mut parts, nodes) = left_by_plain(case);
+    let (parts, nodes) = left_by_plain(case);
     assert!(before == parts, "{what}: another state before it");
-    parts.memory.fill(0);
     assert!(changed.parts() == parts, "{what}: another state");
     let zeros = vec![0; (OLD_NODE_WORDS - NODE_WORDS) * case.nodes];
     let expected = [&nodes[..], &zeros, &PAST].concat();
     assert!(changed.pool() == expected, "{what}: another pool");
     let mut answers = vec![0; case.tape.len() / 4];
-    let taped = changed.go_on().tape(&case.tape, &mut answers);
-    assert_eq!(taped.result, 0, "{what}: the tape is refused");
+    let refusal = changed.go_on().tape(&case.tape, &mut answers);
+    assert_eq!(refusal, 0, "{what}: the tape is refused");
     let as_begun = measure::answers(Peer::Plain, case);
     assert!(answers == as_begun, "{what}: other answers");
 }

@@ -37,8 +37,8 @@ fn archive() -> String {
     )
 }
 
-/// The archive's text before R-10, at this commit.
-const TEXT_BEFORE: (u64, &str) = (22_874, "739048d");
+/// The archive's text before R-9, at this commit.
+const TEXT_BEFORE: (u64, &str) = (20_571, "884d316");
 
 /// The bytes of code and constants in the archive, by binutils.
 fn text() -> String {
@@ -49,7 +49,7 @@ fn text() -> String {
         .and_then(|line| line.split_whitespace().next());
     let (before, commit) = TEXT_BEFORE;
     format!(
-        "{} bytes; before R-10, commit {commit}: {before}",
+        "{} bytes; before R-9, commit {commit}: {before}",
         text.unwrap_or("-")
     )
 }

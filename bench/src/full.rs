@@ -14,7 +14,6 @@ use crate::peer::PEERS;
 use crate::pictures;
 use crate::places::{self, PlacesCost, SearchCost};
 use crate::records::{self, Cost};
-use crate::remembering::{self, RememberingCost};
 use crate::report;
 use crate::reports::{self, ReportCost};
 use crate::stack::{self, Stack};
@@ -27,14 +26,12 @@ use std::path::Path;
 use std::time::Duration;
 
 /// The sizes of the growth curves; those of the tables are among them.
-pub const GROWTH: [usize; 9] = [1, 2, 4, 8, 16, 32, 64, 128, 256];
+const GROWTH: [usize; 9] = [1, 2, 4, 8, 16, 32, 64, 128, 256];
 
 pub struct Figures {
     pub facts: String,
     pub stack: Option<Stack>,
     pub costs: Vec<Cost>,
-    /// The same beside the library before R-10, with the nodes visited.
-    pub remembering: Vec<RememberingCost>,
     /// Nodes of two words and of four, and the caches that were simulated.
     pub layouts: Vec<LayoutCost>,
     pub caches: String,
@@ -50,8 +47,6 @@ pub struct Figures {
     /// Growing table, with one frame and with one in each place.
     pub empty_tables: Vec<CheckCost>,
     pub full_tables: Vec<CheckCost>,
-    /// Growing number of workers that remember every splitter.
-    pub memories: Vec<CheckCost>,
     /// The check of filled pools.
     pub filled: Vec<FilledCost>,
     /// The check's time, of those that are timed.
@@ -83,7 +78,6 @@ impl Figures {
             &self.siblings,
             &self.empty_tables,
             &self.full_tables,
-            &self.memories,
         ];
         all.into_iter().flatten()
     }
@@ -154,7 +148,6 @@ fn measure() -> Figures {
         kinds,
         places,
         searches,
-        remembering: remembering::list(&costs),
         costs,
         layouts,
         caches: layouts::caches(),
@@ -165,6 +158,5 @@ fn measure() -> Figures {
         siblings: all_sizes(checks::siblings),
         empty_tables: all_sizes(checks::empty_tables),
         full_tables: all_sizes(checks::full_tables),
-        memories: all_sizes(checks::remembering),
     }
 }

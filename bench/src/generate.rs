@@ -5,10 +5,6 @@ use crate::random::Random;
 use crate::tape::{record, AFFINE, FOLD, READ, REDUCERS, RETURN, SPAWN, STEAL, SYNC, WRITE};
 use crate::view::View;
 
-/// Locality: how many splitters a worker comes back to, and how often, in ten times.
-pub const NEAR: usize = 4;
-pub const NEAR_SHARE: usize = 9;
-
 struct Frame {
     parent: Option<usize>,
     outstanding: usize,
@@ -50,8 +46,6 @@ pub struct Generator {
     max_live: usize,
     /// Top frame first.
     deques: Vec<Vec<usize>>,
-    /// For each worker the splitters that it used last, since its last spawn, return, steal or sync: the latest first, each once.
-    recent: Vec<Vec<usize>>,
     tape: Vec<u8>,
 }
 
@@ -65,7 +59,6 @@ impl Generator {
             frames: vec![Frame::below(None)],
             live: 1,
             max_live,
-            recent: vec![Vec::new(); workers],
             deques,
             tape: Vec::new(),
         }
@@ -77,16 +70,6 @@ impl Generator {
     }
 
     fn push(&mut self, kind: u8, worker: usize, field: usize, value: u32) {
-        let recent = &mut self.recent[worker];
-        match kind {
-            READ | WRITE => {
-                recent.retain(|&splitter| splitter != field);
-                recent.insert(0, field);
-                recent.truncate(NEAR);
-            }
-            FOLD => {}
-            _ => recent.clear(),
-        }
         self.tape
             .extend_from_slice(&record(kind, worker as u8, field as u16, value));
     }
@@ -109,36 +92,8 @@ impl Generator {
 
     pub fn read(&mut self, worker: usize) {
         let splitter = self.random.below(self.splitters);
-        self.read_of(worker, splitter);
-    }
-
-    fn read_of(&mut self, worker: usize, splitter: usize) {
         self.note(worker, Item::Other);
         self.push(READ, worker, splitter, 0);
-    }
-
-    /// Of every splitter, rising.
-    pub fn read_all(&mut self, worker: usize) {
-        (0..self.splitters).for_each(|splitter| self.read_of(worker, splitter));
-    }
-
-    pub fn read_near(&mut self, worker: usize) {
-        let splitter = self.near(worker);
-        self.read_of(worker, splitter);
-    }
-
-    pub fn write_near(&mut self, worker: usize) {
-        let splitter = self.near(worker);
-        self.write_to(worker, splitter);
-    }
-
-    /// A splitter: `NEAR_SHARE` in ten times one of those that the worker used last, if there are such, else any.
-    fn near(&mut self, worker: usize) -> usize {
-        let recent = self.recent[worker].len();
-        if recent > 0 && self.random.below(10) < NEAR_SHARE {
-            return self.recent[worker][self.random.below(recent)];
-        }
-        self.random.below(self.splitters)
     }
 
     pub fn write(&mut self, worker: usize) {

@@ -3,7 +3,7 @@
 use crate::case::{Workload, MAX_PLACES, PLACES};
 use crate::checks::CheckCost;
 use crate::converts::ConvertCost;
-use crate::full::{Figures, GROWTH};
+use crate::full::Figures;
 use crate::images::ImageCost;
 use crate::kind::{Kind, FOLDS};
 use crate::kinds::{self, KindCost};
@@ -11,7 +11,6 @@ use crate::layouts::{self, LayoutCost};
 use crate::peer::Peer;
 use crate::places::PlacesCost;
 use crate::records::{self, Cost};
-use crate::remembering::{self, RememberingCost};
 use crate::reports::{self, ReportCost};
 use crate::stack::Stack;
 use crate::table::grouped;
@@ -36,15 +35,8 @@ const WITHOUT_SIBLINGS: [Kind; 5] = [
     Kind::ReturnIdle,
     Kind::ReturnResumes,
 ];
-/// How much more the check of the longest table may cost than a line through those of 1 and 64 places lets expect; so of the most that is remembered.
+/// How much more the check of the longest table may cost than a line through those of 1 and 64 places lets expect.
 const LINEAR_LIMIT: f64 = 1.02;
-/// How much more than the copying machine's a read of a remembered splitter may cost, and a record of the mix with locality, and at which n.
-const REPEATED_LIMIT: f64 = 1.2;
-const LOCAL_LIMIT: f64 = 2.0;
-const LOCAL_SIZE: usize = 256;
-/// How much more than before R-10 a control record may cost, and at which n.
-const EMPTYING_LIMIT: f64 = 1.1;
-const EMPTYING_SIZE: usize = 256;
 /// How much more than in a tape a record may cost in a report.
 const REPORT_LIMIT: f64 = 1.3;
 /// How many times more the checks of the blocks must have cost before R-4.
@@ -96,9 +88,6 @@ pub fn list(figures: &Figures, checks: &[f64]) -> String {
             |ratio| ratio <= 1.0,
         ),
         copying_goal(costs),
-        repeated_goal(costs),
-        local_goal(&figures.remembering),
-        emptying_goal(&figures.remembering),
         folds_goal(kinds),
         more_goal(kinds),
         layout_goal(&figures.layouts),
@@ -109,7 +98,6 @@ pub fn list(figures: &Figures, checks: &[f64]) -> String {
         plain_report_goal(&figures.reports),
         check_goal(checks),
         linear_goal(&figures.empty_tables, &figures.full_tables),
-        memory_goal(&figures.memories),
         images_goal(images),
         blocks_goal(images),
         convert_goal(&figures.converts),
@@ -155,40 +143,6 @@ fn copying_goal(costs: &[Cost]) -> Goal {
         what: "writes alone: at most 3 times the instructions per further record of the copying machine at n = 256",
         met: ratio <= COPYING_LIMIT,
         figures: format!("library / copying: n = {COPYING_SIZE}: {ratio:.3}"),
-    }
-}
-
-/// R-10, at every n that is counted.
-fn repeated_goal(costs: &[Cost]) -> Goal {
-    let ratios = GROWTH.map(|n| (n, ratio(costs, Peer::Copying, Workload::RepeatedReads, n)));
-    let figures = ratios.map(|(n, ratio)| format!("n = {n}: {ratio:.3}"));
-    Goal {
-        what: "repeated reads: at most 1.2 times the instructions per further record of the copying machine, at every n",
-        met: ratios.into_iter().all(|(_, ratio)| ratio <= REPEATED_LIMIT),
-        figures: format!("library / copying: {}", figures.join(", ")),
-    }
-}
-
-fn local_goal(costs: &[RememberingCost]) -> Goal {
-    let of = |workload| remembering::find(costs, workload, LOCAL_SIZE).over_copying();
-    let (ratio, more_writes) = (of(Workload::MixLocal), of(Workload::MixLocalWrites));
-    Goal {
-        what: "mix with locality: at most 2 times the instructions per further record of the copying machine at n = 256",
-        met: ratio <= LOCAL_LIMIT,
-        figures: format!(
-            "library / copying: n = {LOCAL_SIZE}: {ratio:.3}; without a goal, 22 writes in 100 records: {more_writes:.3}"
-        ),
-    }
-}
-
-/// What emptying a memory adds.
-fn emptying_goal(costs: &[RememberingCost]) -> Goal {
-    let ratio = |n| remembering::find(costs, Workload::Control, n).over_before();
-    let figures = SIZES.map(|n| format!("n = {n}: {:.3}", ratio(n)));
-    Goal {
-        what: "control: at most 1.1 times the instructions per further record that the library took before R-10, at n = 256",
-        met: ratio(EMPTYING_SIZE) <= EMPTYING_LIMIT,
-        figures: format!("library / before: {}", figures.join(", ")),
     }
 }
 
@@ -324,24 +278,6 @@ fn linear_goal(empty: &[CheckCost], full: &[CheckCost]) -> Goal {
         what: "check: linear in the places of the frame table; with 256 at most 1.02 times what a line through 1 and 64 places lets expect",
         met: ratios.as_flattened().iter().all(|&ratio| ratio <= LINEAR_LIMIT),
         figures: figures.join("; "),
-    }
-}
-
-/// By the check with none, two and eight workers that remember every splitter.
-fn memory_goal(costs: &[CheckCost]) -> Goal {
-    let ratios = SIZES.map(|n| {
-        let of = |readers: usize| {
-            let wanted =
-                |cost: &&CheckCost| (cost.standing.n, cost.standing.readers) == (n, readers);
-            costs.iter().find(wanted).expect("it was counted").library as f64
-        };
-        (n, of(8) / (of(0) + 4.0 * (of(2) - of(0))))
-    });
-    let figures = ratios.map(|(n, ratio)| format!("n = {n}: {ratio:.3}"));
-    Goal {
-        what: "check: linear in the workers that remember every splitter; with 8 at most 1.02 times what a line through none and 2 lets expect",
-        met: ratios.into_iter().all(|(_, ratio)| ratio <= LINEAR_LIMIT),
-        figures: figures.join(", "),
     }
 }
 

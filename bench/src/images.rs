@@ -119,7 +119,6 @@ fn standings() -> Vec<(Standing, Before)> {
             frames: FRAMES,
             writes: WRITES,
             lines: 1,
-            readers: 0,
         };
         BOTH.map(|places| (of(places), before))
     };
@@ -150,11 +149,11 @@ fn count_at(standing: Standing, before: Before) -> ImageCost {
 }
 
 /// What is counted of a peer. Plain Rust's soundness check is compiled into each call anew, so there are calls without it. The library's is
-/// one function, which a call with an empty tape has too; a reading checks no memory, so for it the tape is refused before that.
+/// one function, which a call with an empty tape has too.
 fn jobs(peer: Peer, standing: Standing) -> [Job; 5] {
     let image = |call| Job::Image(call, standing);
     let [bare_save, bare_load] = match peer {
-        Peer::Library => [Job::Check(standing), Job::CheckParts(standing)],
+        Peer::Library => [Job::Check(standing); 2],
         _ => [ImageCall::BareSave, ImageCall::BareLoad].map(image),
     };
     let [save, load, checks] = [ImageCall::Save, ImageCall::Load, ImageCall::Checks].map(image);
@@ -241,7 +240,7 @@ fn by_document(case: &Case) -> Vec<u8> {
     );
     let mut target = vec![FILL; bytes(case.places, case.nodes)];
     let saved = image::save(&Parts::of(&state), &pool, &mut work, &mut target);
-    assert_eq!([started, ran.result, saved], [0; 3], "the document's image");
+    assert_eq!([started, ran, saved], [0; 3], "the document's image");
     target
 }
 

@@ -17,8 +17,6 @@ pub enum Job {
     PoolRest(Workload, usize, usize),
     /// An empty tape on a state made for the check.
     Check(Standing),
-    /// The same, but it is refused by the first base of the memory: a check of all but the memory.
-    CheckParts(Standing),
     /// A workload's records, each in a call of its own; n and the nodes of the pool.
     Steps(Workload, usize, usize),
     /// What is done with the image of such a state.
@@ -92,9 +90,7 @@ impl Job {
             }
             Job::Pool(workload, n, nodes) => Case::in_pool(workload, n, nodes),
             Job::PoolRest(workload, n, nodes) => Case::in_pool(workload, n, nodes).rest(workload),
-            Job::Check(standing) | Job::CheckParts(standing) | Job::Image(_, standing) => {
-                Case::standing(standing)
-            }
+            Job::Check(standing) | Job::Image(_, standing) => Case::standing(standing),
             Job::Steps(workload, n, nodes) => Case::steps(workload, n, nodes),
             Job::Filled(filling) => Filled::new(filling).case(),
             Job::FullSteps(step) => step.case(FULL_CALLS),
@@ -114,7 +110,6 @@ impl Job {
             }
             Job::Rest(workload, n, places) => with_rest(Job::Records(workload, n, places)),
             Job::Check(standing) => standing_words("check", standing),
-            Job::CheckParts(standing) => standing_words("check_parts", standing),
             Job::Image(call, standing) => standing_words(call.name(), standing),
             Job::Pool(workload, n, nodes) => pool_words("pool", workload, [n, nodes]),
             Job::PoolRest(workload, n, nodes) => with_rest(Job::Pool(workload, n, nodes)),
@@ -139,7 +134,7 @@ impl Job {
     pub fn from_words(words: &[&str]) -> Option<Self> {
         let number = |word: &str| word.parse::<usize>().ok();
         match words {
-            [name, n, nodes, places, frames, writes, lines, readers] => {
+            [name, n, nodes, places, frames, writes, lines] => {
                 let standing = Standing {
                     n: number(n)?,
                     nodes: number(nodes)?,
@@ -147,11 +142,9 @@ impl Job {
                     frames: number(frames)?,
                     writes: number(writes)?,
                     lines: number(lines)?,
-                    readers: number(readers)?,
                 };
                 match *name {
                     "check" => Some(Job::Check(standing)),
-                    "check_parts" => Some(Job::CheckParts(standing)),
                     call => Some(Job::Image(ImageCall::named(call)?, standing)),
                 }
             }
@@ -210,9 +203,7 @@ fn pool_words(name: &str, workload: Workload, numbers: [usize; 2]) -> Vec<String
 }
 
 fn standing_words(name: &str, s: Standing) -> Vec<String> {
-    let numbers = [
-        s.n, s.nodes, s.places, s.frames, s.writes, s.lines, s.readers,
-    ];
+    let numbers = [s.n, s.nodes, s.places, s.frames, s.writes, s.lines];
     let numbers = numbers.map(|number| number.to_string());
     [vec![name.into()], numbers.to_vec()].concat()
 }

@@ -3,7 +3,7 @@
 use crate::work::Work;
 use host_tests::parts::Parts;
 use host_tests::plain;
-use splitter::{clocks_words, raw, Frame, Report, State, MAX_SPLITTERS, MAX_WORKERS, NODE_WORDS};
+use splitter::{clocks_words, raw, Frame, Report, State, NODE_WORDS};
 
 /// The memory that the calls are lent.
 pub struct Library {
@@ -35,15 +35,10 @@ impl Library {
             numbers,
             deques,
             frames,
-            memory,
         } = plain::to_words(state);
         let (records, _) = frames.as_chunks();
         Library {
-            state: State {
-                numbers,
-                deques,
-                memory,
-            },
+            state: State { numbers, deques },
             table: records
                 .iter()
                 .map(|&words| Frame::from_words(words))
@@ -53,7 +48,7 @@ impl Library {
         }
     }
 
-    pub fn tape(&mut self, tape: &[u8], answers: &mut [u32]) -> raw::Taped {
+    pub fn tape(&mut self, tape: &[u8], answers: &mut [u32]) -> u32 {
         let (state, work) = (self.state.parts(), self.work.words());
         raw::tape(state, &mut self.table, &mut self.pool, work, tape, answers)
     }
@@ -86,15 +81,9 @@ impl Library {
         raw::convert(state, &self.table, &mut self.pool, work)
     }
 
-    /// Its first base is more than any can be.
-    pub fn spoil_memory(&mut self) {
-        self.state.memory[MAX_WORKERS * MAX_SPLITTERS] = u32::MAX;
-    }
-
     pub fn parts(&self) -> Parts {
         Parts {
             numbers: self.state.numbers.into(),
-            memory: self.state.memory.into(),
             deques: self.state.deques.into(),
             frames: self
                 .table

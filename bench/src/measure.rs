@@ -9,12 +9,11 @@ use crate::plain_image::WRONG_CHECK;
 use crate::reports::{self, NO_SPAN};
 use crate::tape::fields;
 use host_tests::plain::OLD_NODE_WORDS;
-use splitter::raw::Taped;
 
 /// The function that callgrind counts in; by its symbol, so it must stay a function of its own.
 #[no_mangle]
 #[inline(never)]
-pub fn bench_measured(run: &mut dyn Run, tape: &[u8], answers: &mut [u32]) -> Taped {
+pub fn bench_measured(run: &mut dyn Run, tape: &[u8], answers: &mut [u32]) -> u32 {
     run.tape(tape, answers)
 }
 
@@ -115,18 +114,11 @@ pub fn once(peer: Peer, job: Job) {
             converts::compare_peer(peer, &case, pool.name());
             convert_call(peer, &case, call);
         }
-        Job::CheckParts(_) => {
-            let mut answers = answers(peer, &case);
-            let mut run = peer.begin(&case);
-            run.spoil_memory();
-            let taped = bench_measured(run.as_mut(), &case.tape, &mut answers);
-            assert_eq!(taped.result, UNSOUND, "{}: the check's answer", peer.name());
-        }
         _ => {
             let mut answers = answers(peer, &case);
             let mut run = peer.begin(&case);
-            let taped = bench_measured(run.as_mut(), &case.tape, &mut answers);
-            assert_eq!(taped.result, 0, "{}: the tape is refused", peer.name());
+            let refusal = bench_measured(run.as_mut(), &case.tape, &mut answers);
+            assert_eq!(refusal, 0, "{}: the tape is refused", peer.name());
         }
     }
 }
@@ -191,16 +183,11 @@ fn convert_call(peer: Peer, case: &Case, call: ConvertCall) {
 
 /// The answers to the case's tape on a fresh run.
 pub fn answers(peer: Peer, case: &Case) -> Vec<u32> {
-    answers_and_visits(peer, case).0
-}
-
-/// The same, and the nodes visited.
-pub fn answers_and_visits(peer: Peer, case: &Case) -> (Vec<u32>, u64) {
     let mut run = peer.begin(case);
     let mut answers = vec![0; case.tape.len() / 4];
-    let taped = run.tape(&case.tape, &mut answers);
-    assert_eq!(taped.result, 0, "{}: the tape is refused", peer.name());
-    (answers, taped.visits)
+    let refusal = run.tape(&case.tape, &mut answers);
+    assert_eq!(refusal, 0, "{}: the tape is refused", peer.name());
+    answers
 }
 
 /// The same records one by one.

@@ -10,7 +10,6 @@ use crate::values::Values;
 use crate::work::Work;
 use host_tests::parts::Parts;
 use host_tests::plain::{self, Layout, OldNode, Refusal, OLD_NODE_WORDS};
-use splitter::raw::Taped;
 use splitter::NODE_WORDS;
 
 #[derive(Clone, Copy, PartialEq, Eq, Debug)]
@@ -38,8 +37,8 @@ pub fn compared() -> impl Iterator<Item = Peer> {
 
 /// A run in progress.
 pub trait Run {
-    /// The refusal of the whole call, or 0, and, of a peer that counts them, the nodes visited.
-    fn tape(&mut self, tape: &[u8], answers: &mut [u32]) -> Taped;
+    /// The refusal of the whole call, or 0.
+    fn tape(&mut self, tape: &[u8], answers: &mut [u32]) -> u32;
 
     /// A step in a call of its own: its answer words. The fields are kind, worker, field and value.
     fn step(&mut self, [kind, worker, field, value]: [u32; 4]) -> [u32; 2] {
@@ -51,11 +50,6 @@ pub trait Run {
 
     /// R-5's totals, once Main has returned.
     fn totals(&mut self) -> Option<[u32; 4]>;
-
-    /// Spoils the first base of the library's memory, so that a check refuses it once all else is checked.
-    fn spoil_memory(&mut self) {
-        unimplemented!("the check looks at the memory alone")
-    }
 
     /// Its images, if it keeps nodes.
     fn images(&mut self) -> Option<&mut dyn Images> {
@@ -141,11 +135,6 @@ impl Peer {
         )
     }
 
-    /// It counts the nodes that a tape visits.
-    pub fn counts_visits(self) -> bool {
-        matches!(self, Peer::Library | Peer::Plain | Peer::FourWords)
-    }
-
     /// A run that has had the case's prelude, all of it accepted.
     pub fn begin(self, case: &Case) -> Box<dyn Run> {
         let mut run = self.start(case);
@@ -213,8 +202,8 @@ impl Peer {
 
 fn run_prelude(run: &mut dyn Run, case: &Case, name: &str) {
     let mut answers = vec![0; case.prelude.len() / 4];
-    let taped = run.tape(&case.prelude, &mut answers);
-    let accepted = taped.result == 0 && answers.chunks(2).all(|pair| pair[0] > 100);
+    let refusal = run.tape(&case.prelude, &mut answers);
+    let accepted = refusal == 0 && answers.chunks(2).all(|pair| pair[0] > 100);
     assert!(accepted, "{name}: the prelude is refused");
 }
 
@@ -226,7 +215,7 @@ pub fn left_by_plain(case: &Case) -> (Parts, Vec<u32>) {
 }
 
 impl Run for Library {
-    fn tape(&mut self, tape: &[u8], answers: &mut [u32]) -> Taped {
+    fn tape(&mut self, tape: &[u8], answers: &mut [u32]) -> u32 {
         Library::tape(self, tape, answers)
     }
 
@@ -236,10 +225,6 @@ impl Run for Library {
 
     fn totals(&mut self) -> Option<[u32; 4]> {
         Library::totals(self)
-    }
-
-    fn spoil_memory(&mut self) {
-        Library::spoil_memory(self);
     }
 
     fn images(&mut self) -> Option<&mut dyn Images> {
@@ -286,12 +271,9 @@ impl Reporter for LibraryReport {
 }
 
 impl<V: Values> Run for Machine<V> {
-    fn tape(&mut self, tape: &[u8], answers: &mut [u32]) -> Taped {
+    fn tape(&mut self, tape: &[u8], answers: &mut [u32]) -> u32 {
         Machine::tape(self, tape, answers);
-        Taped {
-            result: 0,
-            visits: 0,
-        }
+        0
     }
 
     fn totals(&mut self) -> Option<[u32; 4]> {
@@ -335,15 +317,14 @@ impl Plain {
 }
 
 impl Run for Plain {
-    fn tape(&mut self, tape: &[u8], answers: &mut [u32]) -> Taped {
-        let plain::Taped { result, visits } = plain::tape(
+    fn tape(&mut self, tape: &[u8], answers: &mut [u32]) -> u32 {
+        plain::tape(
             &mut self.state,
             &mut self.pool,
             self.work.words(),
             tape,
             answers,
-        );
-        Taped { result, visits }
+        )
     }
 
     fn step(&mut self, [kind, worker, field, value]: [u32; 4]) -> [u32; 2] {
@@ -403,11 +384,9 @@ impl FourWords {
 }
 
 impl Run for FourWords {
-    fn tape(&mut self, tape: &[u8], answers: &mut [u32]) -> Taped {
+    fn tape(&mut self, tape: &[u8], answers: &mut [u32]) -> u32 {
         let FourWords { state, pool, work } = self;
-        let plain::Taped { result, visits } =
-            plain::tape_of::<OldNode>(state, pool, work.words(), tape, answers);
-        Taped { result, visits }
+        plain::tape_of::<OldNode>(state, pool, work.words(), tape, answers)
     }
 
     fn totals(&mut self) -> Option<[u32; 4]> {
@@ -417,7 +396,7 @@ impl Run for FourWords {
 
 impl Conversion for FourWords {
     fn convert(&mut self) -> u32 {
-        plain::convert(&mut self.state, &mut self.pool, self.work.words())
+        plain::convert(&self.state, &mut self.pool, self.work.words())
     }
 
     fn pack(&mut self) {

@@ -42,13 +42,8 @@ fn axis(label: &str, scale: Scale) -> Axis {
 }
 
 pub fn records(costs: &[Cost]) -> Picture {
-    let left_out = [
-        Workload::FirstReads,
-        Workload::MixLocalWrites,
-        Workload::MixFolds,
-        Workload::Chain,
-    ];
-    let of_records = |workload: &Workload| !left_out.contains(workload);
+    let of_records =
+        |workload: &Workload| !matches!(workload, Workload::Chain | Workload::MixFolds);
     let panels = WORKLOADS.into_iter().filter(of_records).map(|workload| {
         let series = PEERS.map(|peer| {
             let of_peer = costs

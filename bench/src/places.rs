@@ -53,11 +53,7 @@ fn of_workload(costs: [&[Cost]; 2], workload: Workload, n: usize) -> PlacesCost 
         n,
         searches: matches!(
             workload,
-            Workload::Control
-                | Workload::Mix
-                | Workload::MixLocal
-                | Workload::MixLocalWrites
-                | Workload::MixFolds
+            Workload::Control | Workload::Mix | Workload::MixFolds
         ),
         library: of(Peer::Library),
         plain: of(Peer::Plain),

@@ -4,7 +4,7 @@
 
 use host_tests::image::{self, Size, DATA_BYTES};
 use host_tests::plain::{
-    of_record, record, sound, Frame, Head, Memory, Refusal, State, View, FRAME_WORDS, NUMBERS_WORDS,
+    of_record, record, sound, Frame, Head, Refusal, State, View, FRAME_WORDS, NUMBERS_WORDS,
 };
 use splitter::NODE_WORDS;
 
@@ -301,7 +301,6 @@ fn read(state: &mut State, pool: &mut [u32], size: Size, image: &[u8]) {
     let mut words = [0; NUMBERS_WORDS];
     reader.take(&mut words);
     set_numbers(state, &words);
-    state.memory = Memory::EMPTY;
     let places = size.places as usize;
     if state.frames.len() != places {
         return;

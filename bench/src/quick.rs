@@ -1,4 +1,4 @@
-//! The quick tables for tuning: instructions of the library and of plain Rust, of records also the copying machine's.
+//! The quick tables for tuning: instructions of the library and of plain Rust.
 
 use crate::case::{Standing, MAX_NODES, PLACES, WORKLOADS};
 use crate::checks;
@@ -12,12 +12,11 @@ use crate::layouts;
 use crate::peer::Peer;
 use crate::places;
 use crate::records::{self, Cost};
-use crate::remembering;
 use crate::reports;
 use crate::steps;
 use crate::tables::{self, SIZES};
 
-const PEERS: [Peer; 3] = [Peer::Library, Peer::Plain, Peer::Copying];
+const PEERS: [Peer; 2] = [Peer::Library, Peer::Plain];
 
 pub fn run() {
     compare::all(&WORKLOADS, &SIZES);
@@ -27,9 +26,6 @@ pub fn run() {
         "{}",
         tables::instructions(&costs, &WORKLOADS, &PEERS, Cost::marginal).markdown()
     );
-    println!("The same beside the library before R-10 and the copying machine:\n");
-    let remembering = remembering::list(&costs);
-    println!("{}", tables::remembering(&remembering).markdown());
     println!(
         "Nodes of two words and of four, n = 256 and 16,384 nodes:\n\n{}",
         layouts::caches()
@@ -59,9 +55,6 @@ pub fn run() {
         "{}",
         tables::checks(&checks::count(&standings())).markdown()
     );
-    println!("The same by the workers that remember every splitter:\n");
-    let memories = checks::count(&SIZES.map(checks::remembering).concat());
-    println!("{}", tables::check_memories(&memories).markdown());
     println!("The same with n = 256 and 16,384 nodes, by how many are in use:\n");
     println!("{}", tables::filled(&filled::count()).markdown());
     println!("Instructions of steps in a full pool, the check included:\n");
@@ -76,7 +69,6 @@ fn standings() -> Vec<Standing> {
         frames,
         writes,
         lines,
-        readers: 0,
     };
     let chosen = [
         (1, 2, 1, 1, 0, 1),

@@ -8,7 +8,6 @@ use crate::checks::CheckCost;
 use crate::contents;
 use crate::filled::FilledCost;
 use crate::full::Figures;
-use crate::generate::{NEAR, NEAR_SHARE};
 use crate::goals;
 use crate::images;
 use crate::job::FULL_CALLS;
@@ -17,7 +16,6 @@ use crate::kinds;
 use crate::layouts;
 use crate::peer::PEERS;
 use crate::records::Cost;
-use crate::remembering;
 use crate::sizing;
 use crate::table::{grouped, Table};
 use crate::tables;
@@ -33,16 +31,14 @@ Written by `make bench` (`bench/run`) together with its two pictures; not edited
 const PEERS_TEXT: &str = "\
 ## The peers
 
-All are fed the same tapes and give the same answer words, which the bench compares before it measures. It also compares the nodes that
-library and plain say to have visited with R-10's rule, which it follows from the records and the answers alone.
+All are fed the same tapes and give the same answer words, which the bench compares before it measures.
 
-- library: `splitter_tape` of libsplitter.a through its C interface, `splitter_step` for single steps, and `splitter_report`. Each worker
-  remembers the leaf of each splitter that it has read or written since its last spawn, return, steal or sync (R-10).
+- library: `splitter_tape` of libsplitter.a through its C interface, `splitter_step` for single steps, and `splitter_report`.
 - plain: the same algorithm in plain Rust on `&mut` state and a slice of frame records (`tests/host/src/plain.rs`), with the same
   soundness check in each call. A write alters the nodes that one holder has where they are and copies the rest of the path from the
   first node with more (R-2); a return waits for the frame's children, and the last child's end ends the waiting frames above it in a
   loop (R-3). An only child's view joins its parent's; where siblings live, the table is searched for the one that names the ended
-  frame, and the next frame is found by going down the eldest children (R-5). Its nodes have two words (R-8), and it remembers leaves (R-10).
+  frame, and the next frame is found by going down the eldest children (R-5). Its nodes have two words (R-8).
 - four words: plain, compiled for nodes of four words, those from before R-8; only in \"Half the pool\". It also makes the old pools of
   \"The change-over\".
 - copying: a machine in Rust that keeps a `Vec<u32>` of values for each live frame; spawn copies it into the buffer of its frame's
@@ -81,7 +77,6 @@ pub fn text(figures: &Figures) -> String {
         how(),
         section("What the tapes hold (n = 16)", "", contents::table(16)),
         records(figures),
-        remembered(figures),
         layouts(figures),
         reports(figures),
         kinds(figures),
@@ -120,15 +115,6 @@ that their trees share some nodes. Reads and writes take a random busy worker an
 8 control. At most {MAX_LIVE} frames live. The tapes of reads, writes, control and mix are those from before R-2; no return in them waits for a
 child (R-3), and they have no folds (R-5). Mix with folds is another tape: 60 in 100 reads, 20 writes, 12 folds, 8 control.
 
-Since R-10 a worker remembers what it has read or written, until its next control record. Of the tape of reads the first to each splitter by
-each worker is not remembered, unless the prelude wrote there, and all others are. In repeated reads all are: at the end of the prelude each
-worker reads every splitter. In first reads none is: one worker syncs, which it passes, reads every splitter, syncs again, and so on, 8,192 reads.
-
-Mix with locality is for a search whose frames come back to the same blocks, as document 02 says of R-10: {NEAR_SHARE} in 10 reads and writes go to one of
-the last {NEAR} splitters that their worker has read or written since its last control record, chosen at random; the others, and the first
-after a control record, go to any splitter. 80 in 100 records are reads, 12 writes, 8 control: for each spawn there are some 27 reads and 4
-writes. \"22 writes\" has the same locality and the mix's own shares, 70, 22 and 8.
-
 Writes alone: in the prelude each frame writes to every splitter instead, so that no node has two holders. Then a write takes no node:
 it stores one value. The bench also sees this tape accepted in a pool without a free node.
 
@@ -139,13 +125,12 @@ last write. The prelude is {SHARED_WRITES} spawns and as many returns, after whi
 Chain has one record: a return that ends {ended} frames, Main too (R-3). Before it, not measured, two workers, T(n) + {WAITING} (H + 1) nodes; Main
 and {WAITING} frames below it, each the child of the one before, each with a write to a random splitter; then worker 1 steals and returns {WAITING}
 times, and each of these frames waits for its child. Its figure is per ended frame: the call less a call with an empty tape, divided by
-{ended}; it is left out with the check, among the times and in the picture, as first reads, mix with folds and that with 22 writes are in the picture.
+{ended}; it is left out with the check, among the times and in the picture, as mix with folds is in the picture.
 
 Instructions are callgrind's, of the one call and nothing else, after one such call that is not counted. \"Per further record\" is a
 call with all records less a call with an empty tape, divided by 8,192: the check, once per call, is not in it. Of writes shared it is
-the call less a call with its {SHARED_WRITES} spawns only, divided by {SHARED_WRITES}: the writes, without the spawns and the check; of first reads the call less a
-call with its syncs only. \"With the check\" is the call with all records divided by 8,192; writes shared is left out there and among the times, as most of so
-short a call is the check, and so is first reads, for its syncs.
+the call less a call with its {SHARED_WRITES} spawns only, divided by {SHARED_WRITES}: the writes, without the spawns and the check. \"With the check\" is
+the call with all records divided by 8,192; writes shared is left out there and among the times, as most of so short a call is the check.
 The C library's memset and memcpy are kept to vector loops while counting, as callgrind takes each byte of a `rep stosb` for an
 instruction. Time is the best of {ROUNDS} calls, the peers by turns in one process.
 
@@ -168,23 +153,6 @@ fn records(figures: &Figures) -> String {
         "Instructions per record, with the check",
         ratio,
         tables::instructions(costs, &LONG_WORKLOADS, &PEERS, Cost::with_check),
-    )
-}
-
-fn remembered(figures: &Figures) -> String {
-    let intro = format!(
-        "\
-The figures from above beside those of the library before R-10, commit {before}: constants of the bench (`bench/src/remembering.rs`), counted
-once by it. \"Reads remembered\" is the share of the reads that are of a splitter which their worker remembers; such a read visits 1 node, every
-other read and every write H + 1: 1, 5 and 9. \"Nodes visited\" are per record. The copying machine remembers nothing: it has its values in one array.
-
-A control record forgets by one store: an entry counts only above its worker's base, which goes up.",
-        before = remembering::BEFORE_COMMIT,
-    );
-    section(
-        "Remembered leaves (R-10)",
-        &intro,
-        tables::remembering(&figures.remembering),
     )
 }
 
@@ -299,15 +267,10 @@ prelude is as for the tapes. As many frames live at most as the pool has full vi
 fn check(figures: &Figures) -> String {
     let intro = "\
 Instructions of a call with an empty tape. The frames are a line of descendants of Main, on one worker; or seven lines, each from a child
-of Main and on a worker of its own. \"Writes each\" are writes to random splitters in every frame after its spawn; a worker remembers those of the
-frame that it is at.";
+of Main and on a worker of its own. \"Writes each\" are writes to random splitters in every frame after its spawn.";
     let places = "\
 The frames are a line that shares one tree, the pool has 2 T(n) nodes. \"Per place more\" is against the row before, divided by the places
 that it has fewer.";
-    let memories = "\
-R-10: eight workers, each with a frame, of which so many have read every splitter. A worker's words are looked through once, whether it remembers
-or not; if it remembers any splitter, the tree of its frame is walked once. \"Per splitter more\" is against the row before, divided by the splitters
-remembered that it has fewer.";
     [
         section(
             "The soundness check against nodes",
@@ -339,11 +302,6 @@ remembered that it has fewer.";
             "",
             tables::check_places(&figures.full_tables),
         ),
-        section(
-            "The soundness check against what is remembered",
-            memories,
-            tables::check_memories(&figures.memories),
-        ),
     ]
     .concat()
 }
@@ -359,8 +317,7 @@ links to follow. \"256 places\": ten writes each, so that more than 200 frames s
         "\
 In the pool that is full after random writes. \"Single\" is a call with one step, its check included: the mean over {FULL_CALLS} calls, one after
 the other. \"In a tape\" is a call with 8,192 such records, its check included, divided by 8,192. A write that takes no node is one to a
-splitter that the frame has written since its spawn. Reads go round all splitters: of the single ones those are
-remembered that the last frame has written, in the tape all after the first 256. Before the return that ends all frames the second worker steals all but the last one,
+splitter that the frame has written since its spawn. Before the return that ends all frames the second worker steals all but the last one,
 and they wait as returning: it is one call, and frees all nodes."
     );
     section(
@@ -377,7 +334,7 @@ and they wait as returning: it is one call, and frees all nodes."
 fn saving(figures: &Figures) -> String {
     let intro = format!(
         "\
-R-1's calls, `splitter_save` and `splitter_load`, with images of R-8's form and R-4's sums; they do not have what is remembered (R-10). n is 16 with 1,024 nodes and 256 with 16,384,
+R-1's calls, `splitter_save` and `splitter_load`, with images of R-8's form and R-4's sums. n is 16 with 1,024 nodes and 256 with 16,384,
 both in tables of 64 and of 256 places; one worker, {frames} live frames as for the soundness check, {writes} writes each. Before anything is counted the bench compares: each peer saves
 the very bytes that `tests/host/src/image.rs` writes and leaves those past them alone; a run that was only started reads the image and
 saves it again.
@@ -392,8 +349,7 @@ saves it again.
   block of the image as it was then (R-5 and R-6 make it longer, R-8 shorter).
 
 Save and reading are accepted and have the soundness check in them. \"Less the check\" is the image alone, with the checks of its blocks.
-Of the library it is the call less its call with an empty tape on the same state, as its soundness check is one function; a reading
-checks no memory, it clears it, and is taken against a call that is refused by the first base of the memory, after all else is checked. That of plain
+Of the library it is the call less its call with an empty tape on the same state, as its soundness check is one function. That of plain
 and bytewise is compiled into each call anew, some instructions more or less per node; theirs is counted in a call that does everything
 else, the tests of 17, 18, 5 and 19 too.
 

@@ -3,7 +3,6 @@
 
 use crate::case::{tree_nodes, values, Case, MAX_PLACES};
 use crate::generate::Generator;
-use crate::marks::Marks;
 use crate::peer::Peer;
 use crate::random::Random;
 use crate::reports;
@@ -72,17 +71,9 @@ fn given(peer: Peer, case: &Case) -> (Vec<[u32; 2]>, Option<[u32; 4]>) {
     assert_eq!(run.totals(), None, "{}: totals at the start", peer.name());
     let mut answers = vec![0; case.tape.len() / 4];
     let calls = case.tape.chunks(8 * CALL);
-    let mut marks = Marks::none(case.values.len());
     for (tape, answers) in calls.zip(answers.chunks_mut(2 * CALL)) {
-        let taped = run.tape(tape, answers);
-        assert_eq!(taped.result, 0, "{}: a tape is refused", peer.name());
-        let by_rule = marks.run(tape, answers).nodes;
-        assert!(
-            !peer.counts_visits() || taped.visits == by_rule,
-            "{}: {} visits, the rule gives {by_rule}",
-            peer.name(),
-            taped.visits
-        );
+        let refusal = run.tape(tape, answers);
+        assert_eq!(refusal, 0, "{}: a tape is refused", peer.name());
     }
     let (pairs, _) = answers.as_chunks();
     let compared = pairs.iter().map(|&[first, second]| match first {

@@ -9,34 +9,26 @@ use crate::full::Figures;
 use crate::goals::CHECK_LIMIT;
 use crate::table::grouped;
 
-/// Instructions that a check takes at most in the states measured: some, and so many for each node of the pool, each place of the table and each
-/// splitter of a worker that remembers one.
+/// Instructions that a check takes at most in the states measured: some, and so many for each node of the pool and each place of the table.
 struct Bound {
     first: u64,
     per_node: u64,
     per_place: u64,
-    per_splitter: u64,
 }
 
 impl Bound {
     fn of(figures: &Figures) -> Self {
-        let per_place = most_more(&figures.full_tables, CheckCost::per_place_more);
-        let per_splitter = most_more(&figures.memories, CheckCost::per_splitter_more);
-        let less_table = |library: u64, places: usize, splitters: usize| {
-            library.saturating_sub(per_place * places as u64 + per_splitter * splitters as u64)
-        };
-        let of_pool = |cost: &FilledCost| {
-            let splitters = if cost.filling.writes() > 0 { N } else { 0 };
-            less_table(cost.library, cost.filling.places(), splitters)
-        };
+        let pairs = figures.full_tables.iter().zip(&figures.full_tables[1..]);
+        let more = pairs.filter_map(|(shorter, longer)| longer.per_place_more(shorter));
+        let per_place = more.map(|[library, _]| library).fold(0.0, f64::max).ceil() as u64;
+        let less_table =
+            |library: u64, places: usize| library.saturating_sub(per_place * places as u64);
+        let of_pool = |cost: &FilledCost| less_table(cost.library, cost.filling.places());
         let most = figures.filled.iter().map(of_pool).max().unwrap_or(0);
         let per_node = most.div_ceil(MAX_NODES as u64);
         let beside = |check: &CheckCost| {
-            let Standing {
-                n, nodes, places, ..
-            } = check.standing;
-            let splitters = n * check.standing.remembering();
-            less_table(check.library, places, splitters).saturating_sub(per_node * nodes as u64)
+            let Standing { nodes, places, .. } = check.standing;
+            less_table(check.library, places).saturating_sub(per_node * nodes as u64)
         };
         Bound {
             first: figures
@@ -47,16 +39,8 @@ impl Bound {
                 .next_multiple_of(100),
             per_node,
             per_place,
-            per_splitter,
         }
     }
-}
-
-/// The library's most instructions per unit that a row has more than the one before.
-fn most_more(checks: &[CheckCost], more: fn(&CheckCost, &CheckCost) -> Option<[f64; 2]>) -> u64 {
-    let pairs = checks.iter().zip(&checks[1..]);
-    let more = pairs.filter_map(|(less, greater)| more(greater, less));
-    more.map(|[library, _]| library).fold(0.0, f64::max).ceil() as u64
 }
 
 pub fn text(figures: &Figures) -> String {
@@ -67,7 +51,6 @@ pub fn text(figures: &Figures) -> String {
         first,
         per_node,
         per_place,
-        per_splitter,
     } = Bound::of(figures);
     let step = |step| single(&figures.full_steps, step);
     let [untouched_change, full_change] = converts::large(&figures.converts);
@@ -76,9 +59,8 @@ pub fn text(figures: &Figures) -> String {
         "
 ## Sizing
 
-**The soundness check costs at most {per_node} instructions per node of the pool, {per_place} per place of the frame table, {per_splitter} per splitter for each worker
-that remembers one (R-10), and {first} beside, in every state measured; it is paid once per call, whether the call has one step or a tape of
-thousands.** A node in use costs more than a free
+**The soundness check costs at most {per_node} instructions per node of the pool, {per_place} per place of the frame table, and {first} beside, in every
+state measured; it is paid once per call, whether the call has one step or a tape of thousands.** A node in use costs more than a free
 one, and a place with a frame more than one without, so size by the full pool and the full table. With {nodes} nodes and n = {N} the check
 takes {untouched} instructions while the pool is untouched and up to {most} when it is full, {times:.1} times as many ({used} nodes in use,
 {frames} live frames). {plain}

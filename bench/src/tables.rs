@@ -1,6 +1,6 @@
 //! The tables of the report, from the figures.
 
-use crate::case::{Standing, Workload, BOTH, LONG_WORKLOADS};
+use crate::case::{Workload, BOTH, LONG_WORKLOADS};
 use crate::checks::CheckCost;
 use crate::converts::ConvertCost;
 use crate::filled::{self, FilledCost, FullStepCost};
@@ -11,7 +11,6 @@ use crate::layouts::{LayoutCost, LAYOUT_PEERS};
 use crate::peer::{Peer, PEERS};
 use crate::places::{per_place, PlacesCost, SearchCost, SEARCH_TABLES};
 use crate::records::{self, Cost};
-use crate::remembering::RememberingCost;
 use crate::reports::ReportCost;
 use crate::steps::StepCost;
 use crate::table::{grouped, Table};
@@ -67,39 +66,6 @@ pub fn rates(times: &[Time], of: fn(&Time) -> f64) -> Table {
     by_peer(&LONG_WORKLOADS, &PEERS, |peer, workload, n| {
         of(timing::find(times, peer, workload, n)) / 1e6
     })
-}
-
-/// The workloads beside the library before R-10 and the copying machine, with the reads that are remembered and the nodes visited.
-pub fn remembering(costs: &[RememberingCost]) -> Table {
-    let header = [
-        "workload",
-        "n",
-        "library",
-        "before R-10",
-        "library / before",
-        "copying",
-        "library / copying",
-        "reads remembered",
-        "nodes visited",
-    ];
-    let mut table = Table::new(header.map(String::from).into());
-    for cost in costs {
-        let remembered = cost
-            .remembered
-            .map(|share| format!("{:.1} %", 100.0 * share));
-        table.row(vec![
-            cost.workload.name().to_string(),
-            cost.n.to_string(),
-            format!("{:.1}", cost.library),
-            format!("{:.1}", cost.before),
-            format!("{:.2}", cost.over_before()),
-            format!("{:.1}", cost.copying),
-            format!("{:.2}", cost.over_copying()),
-            remembered.unwrap_or_else(|| "-".into()),
-            format!("{:.2}", cost.visits),
-        ]);
-    }
-    table
 }
 
 /// Tapes through the report and without it: library and plain Rust, and the library's report against plain Rust's.
@@ -228,59 +194,30 @@ pub fn checks(checks: &[CheckCost]) -> Table {
     table
 }
 
-/// What a check has more than another, per unit of what grows.
-type MorePer = fn(&CheckCost, &CheckCost) -> Option<[f64; 2]>;
-
 /// The check by the table's places: also per place more than in the row before, of the same n.
 pub fn check_places(checks: &[CheckCost]) -> Table {
-    check_growth(
-        checks,
-        ["places", "live frames"],
-        |standing| [standing.places, standing.frames],
-        "place",
-        CheckCost::per_place_more,
-    )
-}
-
-/// The check by the workers that remember every splitter: also per splitter remembered more.
-pub fn check_memories(checks: &[CheckCost]) -> Table {
-    check_growth(
-        checks,
-        ["workers that remember", "splitters remembered"],
-        |standing| [standing.readers, standing.readers * standing.n],
-        "splitter",
-        CheckCost::per_splitter_more,
-    )
-}
-
-/// A row for each check: n, nodes, two more numbers of its state, its costs, and those per unit more than in the row before, of the same n.
-fn check_growth(
-    checks: &[CheckCost],
-    names: [&str; 2],
-    numbers: fn(Standing) -> [usize; 2],
-    unit: &str,
-    more_per: MorePer,
-) -> Table {
-    let per_unit = ["library", "plain"].map(|peer| format!("{peer}, per {unit} more"));
     let header = [
-        &["n", "nodes"][..],
-        &names,
-        &["library", "plain", "library / plain"],
-        &per_unit.each_ref().map(String::as_str),
+        "n",
+        "nodes",
+        "places",
+        "live frames",
+        "library",
+        "plain",
+        "library / plain",
+        "library, per place more",
+        "plain, per place more",
     ];
-    let header = header.concat().into_iter().map(String::from);
-    let mut table = Table::new(header.collect());
+    let mut table = Table::new(header.map(String::from).into());
     let mut before: Option<&CheckCost> = None;
     for check in checks {
-        let Standing { n, nodes, .. } = check.standing;
-        let [one, other] = numbers(check.standing);
-        let numbers = [n, nodes, one, other].map(|number| grouped(number as u64));
+        let s = check.standing;
+        let numbers = [s.n, s.nodes, s.places, s.frames].map(|number| grouped(number as u64));
         let costs = [
             grouped(check.library),
             grouped(check.plain),
             format!("{:.2}", check.ratio()),
         ];
-        let more = before.and_then(|before| more_per(check, before));
+        let more = before.and_then(|before| check.per_place_more(before));
         let more = match more {
             Some(more) => more.map(|count| format!("{count:.1}")),
             None => ["-", "-"].map(String::from),

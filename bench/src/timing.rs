@@ -69,9 +69,9 @@ pub fn time_first(case: &Case) -> Duration {
 
 fn clock(run: &mut dyn Run, tape: &[u8], answers: &mut [u32]) -> Duration {
     let begun = Instant::now();
-    let taped = bench_measured(run, tape, answers);
+    let refusal = bench_measured(run, tape, answers);
     let time = begun.elapsed();
-    assert_eq!(taped.result, 0, "the tape is refused");
+    assert_eq!(refusal, 0, "the tape is refused");
     time
 }
 

@@ -8,7 +8,7 @@
 #include <stdlib.h>
 #include <string.h>
 
-enum { NUMBERS, DEQUES, FRAMES, MEMORY, POOL, WORK, ANSWERS, CLOCKS, REPORT, SLICES };
+enum { NUMBERS, DEQUES, FRAMES, POOL, WORK, ANSWERS, CLOCKS, REPORT, SLICES };
 enum { START = 1, STEP, TAPE, SAVE, LOAD, REPORTED, CONVERT };
 
 static _Alignas(8) uint8_t arena[1 << 22];
@@ -63,7 +63,7 @@ static uint32_t *words(uint32_t count) {
 static void read_call(struct call *call) {
     used = 0;
     call->argument = words(4);
-    call->result = words(4); /* the last two: a tape's visits */
+    call->result = words(2);
     call->values = *words(1);
     call->value = words(call->values);
     call->bytes = *words(1);
@@ -77,53 +77,44 @@ static void read_call(struct call *call) {
     }
 }
 
-static uint64_t make_call(const struct call *call, uint64_t *visits) {
+static uint64_t make_call(const struct call *call) {
     uint32_t *const *slice = call->slice, *argument = call->argument;
     const uint32_t *length = call->length;
     struct splitter_frame *frames = (struct splitter_frame *)slice[FRAMES];
-    const uint32_t places = length[FRAMES] / SPLITTER_FRAME_RECORD_WORDS, memories = length[MEMORY];
-    uint32_t *memory = slice[MEMORY];
-    struct splitter_tape_result taped;
-    *visits = 0;
+    const uint32_t places = length[FRAMES] / SPLITTER_FRAME_RECORD_WORDS;
     switch (call->entry) {
     case START:
-        return splitter_start(slice[NUMBERS], length[NUMBERS], slice[DEQUES], length[DEQUES], frames, places, memory, memories,
+        return splitter_start(slice[NUMBERS], length[NUMBERS], slice[DEQUES], length[DEQUES], frames, places,
                               argument[0], call->value, call->values, slice[POOL], length[POOL]);
     case STEP:
-        return splitter_step(slice[NUMBERS], length[NUMBERS], slice[DEQUES], length[DEQUES], frames, places, memory, memories,
+        return splitter_step(slice[NUMBERS], length[NUMBERS], slice[DEQUES], length[DEQUES], frames, places,
                              slice[POOL], length[POOL], slice[WORK], length[WORK], argument[0], argument[1], argument[2], argument[3]);
     case TAPE:
-        taped = splitter_tape(slice[NUMBERS], length[NUMBERS], slice[DEQUES], length[DEQUES], frames, places, memory, memories,
-                              slice[POOL], length[POOL], slice[WORK], length[WORK], call->byte, call->bytes,
-                              slice[ANSWERS], length[ANSWERS]);
-        *visits = taped.visits;
-        return taped.result;
+        return splitter_tape(slice[NUMBERS], length[NUMBERS], slice[DEQUES], length[DEQUES], frames, places,
+                             slice[POOL], length[POOL], slice[WORK], length[WORK], call->byte, call->bytes,
+                             slice[ANSWERS], length[ANSWERS]);
     case SAVE:
-        return splitter_save(slice[NUMBERS], length[NUMBERS], slice[DEQUES], length[DEQUES], frames, places, memory, memories,
+        return splitter_save(slice[NUMBERS], length[NUMBERS], slice[DEQUES], length[DEQUES], frames, places,
                              slice[POOL], length[POOL], slice[WORK], length[WORK], call->byte, call->bytes);
     case LOAD:
-        return splitter_load(slice[NUMBERS], length[NUMBERS], slice[DEQUES], length[DEQUES], frames, places, memory, memories,
+        return splitter_load(slice[NUMBERS], length[NUMBERS], slice[DEQUES], length[DEQUES], frames, places,
                              slice[POOL], length[POOL], slice[WORK], length[WORK], call->byte, call->bytes);
     case REPORTED:
-        return splitter_report(slice[NUMBERS], length[NUMBERS], slice[DEQUES], length[DEQUES], frames, places, memory, memories,
+        return splitter_report(slice[NUMBERS], length[NUMBERS], slice[DEQUES], length[DEQUES], frames, places,
                                argument[0], call->value, call->values, slice[POOL], length[POOL], slice[WORK], length[WORK],
                                call->byte, call->bytes, slice[ANSWERS], length[ANSWERS], (uint64_t *)slice[CLOCKS], length[CLOCKS] / 2,
                                (uint64_t *)slice[REPORT], length[REPORT] / 2);
     case CONVERT:
-        return splitter_convert(slice[NUMBERS], length[NUMBERS], slice[DEQUES], length[DEQUES], frames, places, memory, memories,
+        return splitter_convert(slice[NUMBERS], length[NUMBERS], slice[DEQUES], length[DEQUES], frames, places,
                                 slice[POOL], length[POOL], slice[WORK], length[WORK]);
     default:
         stop("no such entry");
     }
 }
 
-static void check_call(const struct call *call) {
-    uint64_t visits, got = make_call(call, &visits);
+static void check_call(const struct call *call, uint64_t got) {
     if ((uint32_t)got != call->result[0] || (uint32_t)(got >> 32) != call->result[1]) {
         stop("another result");
-    }
-    if ((uint32_t)visits != call->result[2] || (uint32_t)(visits >> 32) != call->result[3]) {
-        stop("other visits");
     }
     for (int i = 0; i < SLICES; i++) {
         if (memcmp(call->slice[i], call->after[i], (size_t)call->length[i] * 4) != 0) {
@@ -139,7 +130,7 @@ int main(void) {
     struct call call;
     while (read_some((uint8_t *)&call.entry, 4) == 4) {
         read_call(&call);
-        check_call(&call);
+        check_call(&call, make_call(&call));
         calls += 1;
     }
     printf("%u calls made again from C\n", calls);

@@ -25,7 +25,7 @@ static void answers(const char *what, uint64_t got, uint32_t kind, uint32_t numb
 static uint32_t keep_copy(void) {
     static const uint8_t no_tape[1];
     static uint32_t no_answers[1];
-    uint32_t refused = splitter_lent_tape(&lent, no_tape, 0, no_answers, 0).result;
+    uint32_t refused = splitter_lent_tape(&lent, no_tape, 0, no_answers, 0);
     if (refused == SPLITTER_OK) {
         kept_state = state;
         memcpy(kept_table, table, sizeof table);

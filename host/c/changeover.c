@@ -18,12 +18,12 @@ static uint32_t work[NODES];
 
 /* ---- shown */
 /* The memory of a run, which the new program finds as the old one left it. The host notes how many words a node has: that of the header by
- * which the run was begun, until it is changed over. The state's last member, what workers remember, is new: it may hold anything. */
+ * which the run was begun, until it is changed over. */
 struct station {
     uint32_t node_words;
+    struct splitter_state state;
     struct splitter_frame table[PLACES];
     uint32_t pool[NODES * SPLITTER_NODE_WORDS_OLD];
-    struct splitter_state state;
 };
 
 /* What the calls are lent; the front of the pool, once it has present nodes, and its other half serves for something else. */
@@ -155,13 +155,11 @@ static void go_on(struct station *station) {
 static void in_memory(void) {
     static struct station station, damaged;
     take_over(&station);
-    memset(station.state.memory, 0x5a, sizeof station.state.memory);
     damaged = station;
     damaged.pool[1] = 11; /* the child's root links to Main's */
     answers("damaged", change_over(&damaged), SPLITTER_UNSOUND, 0);
     answers("left as it was", damaged.node_words, SPLITTER_NODE_WORDS_OLD, 0);
     answers("change-over", change_over(&station), SPLITTER_OK, 0);
-    answers("nothing is remembered", station.state.memory[0] | station.state.memory[SPLITTER_MEMORY_WORDS - 1], 0, 0);
     answers("inner node", station.pool[2 * 1 + 1], 3 + 65536 * 4, 0);
     answers("inner node without a right link", station.pool[2 * 2 + 1], 5 + 65536 * SPLITTER_NO_LINK, 0);
     answers("leaf", station.pool[2 * 14 + 1], 99, 0);

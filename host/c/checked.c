@@ -100,12 +100,9 @@ static void same_answers(struct checked *run, const uint8_t *tape, size_t tape_l
     }
 }
 
-uint64_t checked_tape(struct checked *run, const uint8_t *tape, size_t tape_len, uint32_t *answers, size_t answers_len) {
-    const uint64_t before = run->plain.visits;
-    struct splitter_tape_result taped = splitter_lent_tape(&run->lent, tape, tape_len, answers, answers_len);
-    same("tape", taped.result, SPLITTER_OK);
+void checked_tape(struct checked *run, const uint8_t *tape, size_t tape_len, uint32_t *answers, size_t answers_len) {
+    same("tape", splitter_lent_tape(&run->lent, tape, tape_len, answers, answers_len), SPLITTER_OK);
     same_answers(run, tape, tape_len, answers);
-    return same("visits", taped.visits, run->plain.visits - before);
 }
 
 /* "Give work divided by span as a whole quotient with its exact remainder." */

@@ -33,8 +33,8 @@ uint64_t checked_fold(struct checked *run, unsigned worker, unsigned reducer, ui
 /* The totals of a run whose Main has returned. */
 struct splitter_totals checked_totals(const struct checked *run);
 
-/* A tape of whole records, with two answer words for each; gives the nodes visited. */
-uint64_t checked_tape(struct checked *run, const uint8_t *tape, size_t tape_len, uint32_t *answers, size_t answers_len);
+/* A tape of whole records, with two answer words for each. */
+void checked_tape(struct checked *run, const uint8_t *tape, size_t tape_len, uint32_t *answers, size_t answers_len);
 
 /* The report of such a tape, run from a start, with a long enough work slice and two clock words for each place. */
 uint32_t checked_report(struct checked *run, unsigned workers, const uint32_t *values, size_t values_len,

@@ -28,7 +28,6 @@ static void begin(unsigned places, unsigned nodes) {
     checked_fold(&run, 1, SPLITTER_REDUCER_MIN, 8);
     checked_sync(&run, 1);
     old_state = state;
-    memset(old_state.memory, 0, sizeof old_state.memory); /* an image does not have it */
     memcpy(old_table, table, sizeof table);
     memcpy(old_pool, pool, sizeof pool);
 }

@@ -65,10 +65,7 @@ static void layout(void) {
     const size_t word = sizeof(uint32_t);
     EXPECT(offsetof(struct splitter_state, numbers), 0);
     EXPECT(offsetof(struct splitter_state, deques), SPLITTER_NUMBERS_WORDS * word);
-    EXPECT(offsetof(struct splitter_state, memory), (SPLITTER_NUMBERS_WORDS + SPLITTER_DEQUES_WORDS) * word);
-    EXPECT(sizeof(struct splitter_state), (SPLITTER_NUMBERS_WORDS + SPLITTER_DEQUES_WORDS + SPLITTER_MEMORY_WORDS) * word);
-    EXPECT(sizeof(struct splitter_state), 16488);
-    EXPECT(SPLITTER_MEMORY_WORDS, SPLITTER_MAX_WORKERS * SPLITTER_MAX_SPLITTERS + SPLITTER_MAX_WORKERS);
+    EXPECT(sizeof(struct splitter_state), (SPLITTER_NUMBERS_WORDS + SPLITTER_DEQUES_WORDS) * word);
     EXPECT(SPLITTER_DEQUES_WORDS, SPLITTER_MAX_WORKERS * (1 + SPLITTER_DEQUE_PLACES));
     EXPECT(SPLITTER_DEQUE_PLACES, SPLITTER_MAX_PLACES);
     EXPECT(SPLITTER_NUMBERS_WORDS, SPLITTER_NUMBER_PLACES + 1);
@@ -209,43 +206,13 @@ static void numbers(const struct splitter_state *state) {
 static void tapes(const struct splitter_lent *lent) {
     const uint8_t tape[SPLITTER_RECORD_BYTES] = {SPLITTER_STEP_READ, 0, 1};
     uint32_t answers[4] = {0, 0, 7, 7};
-    EXPECT(splitter_lent_tape(lent, tape, sizeof tape, answers, 4).result, SPLITTER_OK);
+    EXPECT(splitter_lent_tape(lent, tape, sizeof tape, answers, 4), SPLITTER_OK);
     EXPECT(splitter_state_tape(lent->state, lent->frames, lent->places, lent->pool, lent->pool_len, lent->work, lent->work_len,
-                               tape, sizeof tape, answers + 2, 2).result, SPLITTER_OK);
+                               tape, sizeof tape, answers + 2, 2), SPLITTER_OK);
     ANSWER(splitter_answer(answers[0], answers[1]), SPLITTER_VALUE, 99);
     ANSWER(splitter_answer(answers[2], answers[3]), SPLITTER_VALUE, 99);
     ANSWER(splitter_state_step(lent->state, lent->frames, lent->places, lent->pool, lent->pool_len, lent->work, lent->work_len,
                                SPLITTER_STEP_READ, 0, 0, 0), SPLITTER_VALUE, 10);
-}
-
-/* Two splitters: a path has two nodes. A read again visits one, and that after a spawn two; a refused tape visits none. */
-static void visits(const struct splitter_lent *lent) {
-    static const uint32_t values[2] = {10, 20};
-    const uint8_t tape[2 * SPLITTER_RECORD_BYTES] = {SPLITTER_STEP_READ, 0, 1, 0, 0, 0, 0, 0, SPLITTER_STEP_READ, 0, 1};
-    uint32_t answers[4];
-    EXPECT(splitter_lent_start(lent, 2, values, 2), SPLITTER_OK);
-    EXPECT(splitter_lent_tape(lent, tape, sizeof tape, answers, 4).visits, 3);
-    EXPECT(lent->state->memory[0] == 0 && lent->state->memory[SPLITTER_MAX_WORKERS * SPLITTER_MAX_SPLITTERS] == 0, 1);
-    EXPECT(lent->state->memory[1], 3); /* leaf 2 */
-    EXPECT(splitter_lent_tape(lent, tape, sizeof tape, answers, 4).visits, 2);
-    EXPECT(splitter_lent_tape(lent, tape, sizeof tape, answers, 3).visits, 0);
-    ANSWER(splitter_spawn(lent, 0), SPLITTER_SPAWNED, 1);
-    EXPECT(splitter_lent_tape(lent, tape, sizeof tape, answers, 4).visits, 3);
-    lent->state->memory[1] -= 1;
-    EXPECT(splitter_lent_tape(lent, tape, sizeof tape, answers, 4).result, SPLITTER_UNSOUND);
-    EXPECT(splitter_lent_tape(lent, tape, sizeof tape, answers, 4).visits, 0);
-    memset(lent->state->memory, 0, sizeof lent->state->memory); /* of a run without a memory */
-    EXPECT(splitter_lent_tape(lent, tape, sizeof tape, answers, 4).visits, 3);
-}
-
-/* A memory of another length is a part of the state of another length. */
-static void other_memories(const struct splitter_lent *lent) {
-    struct splitter_state *state = lent->state;
-    for (splitter_len len = SPLITTER_MEMORY_WORDS - 1; len <= SPLITTER_MEMORY_WORDS + 1; len += 2) {
-        ANSWER(splitter_step(state->numbers, SPLITTER_NUMBERS_WORDS, state->deques, SPLITTER_DEQUES_WORDS, lent->frames, lent->places,
-                             state->memory, len, lent->pool, lent->pool_len, lent->work, lent->work_len, SPLITTER_STEP_SPAWN, 0, 0, 0),
-               SPLITTER_BAD_STATE, 0);
-    }
 }
 
 /* A run saved over lent memory and read over a state, and the other way; both images are the same, and go on. */
@@ -269,8 +236,7 @@ static void images(const struct splitter_lent *lent) {
     ANSWER(splitter_read(lent, 0, 1), SPLITTER_VALUE, 99);
 }
 
-/* A start's nodes in four words, changed over by lent memory and by a state, with any memory; the run goes on. State and table are those of
- * the same start. */
+/* A start's nodes in four words, changed over by lent memory and by a state; the run goes on. State and table are those of the same start. */
 static void change_overs(const struct splitter_lent *lent) {
     static const uint32_t values[2] = {10, 20}, none = SPLITTER_NONE;
     const uint32_t old[6 * SPLITTER_NODE_WORDS_OLD + 1] = {1, 1, 2, 0, 1, none, none, 10, 1, none, none, 20,
@@ -279,14 +245,12 @@ static void change_overs(const struct splitter_lent *lent) {
     const struct splitter_lent changed = {lent->state, lent->frames, lent->places, pool, 6 * SPLITTER_NODE_WORDS_OLD, lent->work, 6};
     EXPECT(splitter_lent_start(lent, 2, values, 2), SPLITTER_OK);
     memcpy(pool, old, sizeof pool);
-    memset(lent->state->memory, 0xa5, sizeof lent->state->memory);
     EXPECT(splitter_state_convert(lent->state, lent->frames, lent->places, pool, 6 * SPLITTER_NODE_WORDS_OLD, lent->work, 5), SPLITTER_SHORT_WORK);
     EXPECT(splitter_state_convert(lent->state, lent->frames, lent->places, pool, 6 * SPLITTER_NODE_WORDS_OLD - 1, lent->work, 6), SPLITTER_UNSOUND);
     EXPECT(splitter_state_convert(lent->state, lent->frames, lent->places - 1, pool, 6 * SPLITTER_NODE_WORDS_OLD, lent->work, 6), SPLITTER_UNSOUND);
     EXPECT(splitter_lent_convert(lent), SPLITTER_UNSOUND); /* present nodes */
-    EXPECT(memcmp(pool, old, sizeof pool) == 0 && lent->state->memory[SPLITTER_MEMORY_WORDS - 1] == 0xa5a5a5a5u, 1);
+    EXPECT(memcmp(pool, old, sizeof pool) == 0, 1);
     EXPECT(splitter_state_convert(lent->state, lent->frames, lent->places, pool, 6 * SPLITTER_NODE_WORDS_OLD, lent->work, 6), SPLITTER_OK);
-    EXPECT(lent->state->memory[0] == 0 && lent->state->memory[SPLITTER_MEMORY_WORDS - 1] == 0, 1);
     EXPECT(memcmp(pool, lent->pool, 6 * SPLITTER_NODE_WORDS * sizeof pool[0]) == 0, 1);
     for (uint32_t i = 6 * SPLITTER_NODE_WORDS; i < 6 * SPLITTER_NODE_WORDS_OLD; i++) {
         EXPECT(pool[i], 0);
@@ -336,19 +300,18 @@ static void nulls(const struct splitter_lent *lent) {
         const struct splitter_lent no_work = {lent->state, lent->frames, lent->places, lent->pool, lent->pool_len, NULL, len};
         const struct splitter_lent neither = {lent->state, lent->frames, lent->places, NULL, len, NULL, len};
         ANSWER(splitter_read(&no_table, 0, 1), SPLITTER_UNSOUND, 0);
-        EXPECT(splitter_lent_tape(&no_table, NULL, 0, NULL, len).result, SPLITTER_UNSOUND);
+        EXPECT(splitter_lent_tape(&no_table, NULL, 0, NULL, len), SPLITTER_UNSOUND);
         EXPECT(splitter_lent_save(&no_table, NULL, len), SPLITTER_UNSOUND);
         EXPECT(splitter_lent_live_frames(&no_table), 0);
         EXPECT(splitter_lent_bottom_depth(&no_table, 0), SPLITTER_NONE);
         ANSWER(splitter_read(&no_pool, 0, 1), SPLITTER_UNSOUND, 0);
         ANSWER(splitter_read(&no_work, 0, 1), SPLITTER_SHORT_WORK, 0);
         ANSWER(splitter_read(&neither, 0, 1), SPLITTER_SHORT_WORK, 0);
-        EXPECT(splitter_lent_tape(&no_pool, NULL, 0, NULL, len).result, SPLITTER_UNSOUND);
-        EXPECT(splitter_lent_tape(&neither, NULL, 0, NULL, len).result, SPLITTER_SHORT_WORK);
-        EXPECT(splitter_lent_tape(lent, NULL, 0, NULL, len).result, SPLITTER_OK);
-        EXPECT(splitter_refused(splitter_lent_tape(lent, NULL, len, answers, 2).result), len != 0);
-        EXPECT(splitter_lent_tape(lent, NULL, len, answers, 2).visits, 0);
-        EXPECT(splitter_lent_tape(lent, tape, sizeof tape, NULL, len).result, SPLITTER_BAD_TAPE);
+        EXPECT(splitter_lent_tape(&no_pool, NULL, 0, NULL, len), SPLITTER_UNSOUND);
+        EXPECT(splitter_lent_tape(&neither, NULL, 0, NULL, len), SPLITTER_SHORT_WORK);
+        EXPECT(splitter_lent_tape(lent, NULL, 0, NULL, len), SPLITTER_OK);
+        EXPECT(splitter_refused(splitter_lent_tape(lent, NULL, len, answers, 2)), len != 0);
+        EXPECT(splitter_lent_tape(lent, tape, sizeof tape, NULL, len), SPLITTER_BAD_TAPE);
         EXPECT(splitter_lent_save(lent, NULL, len), SPLITTER_SHORT_TARGET);
         EXPECT(splitter_lent_save(&no_pool, NULL, len), SPLITTER_UNSOUND);
         EXPECT(splitter_lent_save(&no_work, NULL, len), SPLITTER_SHORT_WORK);
@@ -416,8 +379,8 @@ static void reports(const struct splitter_lent *lent) {
                                  lent->work, lent->work_len, tape, sizeof tape, answers, 16, clocks, len, &report), SPLITTER_OK);
     parallelism(&report, 5, 5, 1, 0);
     EXPECT(splitter_report(lent->state->numbers, SPLITTER_NUMBERS_WORDS, lent->state->deques, SPLITTER_DEQUES_WORDS,
-                           lent->frames, lent->places, lent->state->memory, SPLITTER_MEMORY_WORDS, 2, values, 2,
-                           lent->pool, lent->pool_len, lent->work, lent->work_len, tape, sizeof tape, answers, 16, clocks, len, (uint64_t *)&report, SPLITTER_REPORT_WORDS), SPLITTER_OK);
+                           lent->frames, lent->places, 2, values, 2, lent->pool, lent->pool_len, lent->work, lent->work_len,
+                           tape, sizeof tape, answers, 16, clocks, len, (uint64_t *)&report, SPLITTER_REPORT_WORDS), SPLITTER_OK);
     parallelism(&report, 5, 5, 1, 0);
     EXPECT(splitter_lent_report(lent, 2, values, 2, tape, sizeof tape, answers, 16, clocks, len - 1, &report), SPLITTER_BAD_STATE);
     EXPECT(splitter_lent_report(lent, 2, values, 2, tape, sizeof tape, answers, 16, clocks, len + 1, &report), SPLITTER_BAD_STATE);
@@ -479,8 +442,6 @@ int main(void) {
     tapes(&lent);
     images(&lent);
     wide_fields(&lent);
-    visits(&lent);
-    other_memories(&lent);
     change_overs(&lent);
     nulls_of_change_overs(&lent);
     EXPECT(splitter_lent_start(&lent, 2, values, 2), SPLITTER_OK);

@@ -1,7 +1,5 @@
 #include "plain.h"
 
-#include <string.h>
-
 /* The least H with 2^H at least n. */
 static unsigned height(unsigned n) {
     unsigned h = 0;
@@ -327,25 +325,11 @@ static uint64_t fold(struct plain *machine, unsigned worker, unsigned reducer, u
     return splitter_answer(SPLITTER_FOLDED, 0);
 }
 
-/* "Each worker remembers the leaf of each splitter it has read or written; its accepted spawn, return, steal or sync empties that memory."
- * "An accepted read of a remembered splitter visits 1 node, other accepted reads and all accepted writes visit H + 1." */
-static void visit(struct plain *machine, uint32_t kind, uint32_t worker, uint32_t splitter) {
-    bool *remembered = machine->remembered[worker];
-    if (kind == SPLITTER_STEP_READ || kind == SPLITTER_STEP_WRITE) {
-        bool leaf_alone = kind == SPLITTER_STEP_READ && remembered[splitter];
-        machine->visits += leaf_alone ? 1 : height(machine->splitters) + 1;
-        remembered[splitter] = true;
-    } else if (kind != SPLITTER_STEP_FOLD) {
-        memset(remembered, 0, sizeof machine->remembered[worker]);
+uint64_t plain_step(struct plain *machine, uint32_t kind, uint32_t worker, uint32_t field, uint32_t value) {
+    uint32_t refused = refusal(machine, kind, worker, field, value);
+    if (refused) {
+        return splitter_answer(refused, 0);
     }
-}
-
-void plain_forget(struct plain *machine) {
-    memset(machine->remembered, 0, sizeof machine->remembered);
-}
-
-/* A step that is refused by nothing but 16. */
-static uint64_t take(struct plain *machine, uint32_t kind, uint32_t worker, uint32_t field, uint32_t value) {
     switch (kind) {
     case SPLITTER_STEP_SPAWN: return spawn(machine, worker);
     case SPLITTER_STEP_RETURN: return return_from(machine, worker);
@@ -355,16 +339,4 @@ static uint64_t take(struct plain *machine, uint32_t kind, uint32_t worker, uint
     case SPLITTER_STEP_WRITE: return write(machine, worker, field, value);
     default: return fold(machine, worker, field, value);
     }
-}
-
-uint64_t plain_step(struct plain *machine, uint32_t kind, uint32_t worker, uint32_t field, uint32_t value) {
-    uint32_t refused = refusal(machine, kind, worker, field, value);
-    if (refused) {
-        return splitter_answer(refused, 0);
-    }
-    uint64_t answer = take(machine, kind, worker, field, value);
-    if (!splitter_answer_refused(answer)) {
-        visit(machine, kind, worker, field);
-    }
-    return answer;
 }

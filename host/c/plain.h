@@ -1,6 +1,6 @@
-/* The plain machine of documents 01 and 02 (R-2, R-3, R-5, R-6, R-7, R-10): a full list of values for each frame, free nodes by counting the
- * distinct triples, views in the order of the live frames, a clock for each frame, the splitters that each worker remembers. The worked hosts
- * compare the library's answers, reports and visits with it. A product needs no such thing. */
+/* The plain machine of documents 01 and 02 (R-2, R-3, R-5, R-6, R-7): a full list of values for each frame, free nodes by counting the
+ * distinct triples, views in the order of the live frames, a clock for each frame. The worked hosts compare the library's answers and
+ * reports with it. A product needs no such thing. */
 #ifndef PLAIN_H
 #define PLAIN_H
 
@@ -28,8 +28,6 @@ struct plain {
     struct plain_frame frames[SPLITTER_MAX_PLACES];
     unsigned deques[SPLITTER_MAX_WORKERS][SPLITTER_MAX_PLACES]; /* from the top */
     unsigned lengths[SPLITTER_MAX_WORKERS];
-    uint64_t visits; /* by the accepted reads and writes since the start */
-    bool remembered[SPLITTER_MAX_WORKERS][SPLITTER_MAX_SPLITTERS];
 };
 
 /* What splitter_start answers: SPLITTER_OK or a refusal. */
@@ -38,8 +36,5 @@ uint32_t plain_start(struct plain *machine, uint32_t workers, const uint32_t *va
 
 /* What splitter_step answers to a sound state and a long enough work slice: 101 to 107, or a refusal 7 to 13, 15, 20, 16. */
 uint64_t plain_step(struct plain *machine, uint32_t kind, uint32_t worker, uint32_t field, uint32_t value);
-
-/* No worker remembers anything: after a reading. */
-void plain_forget(struct plain *machine);
 
 #endif

@@ -99,7 +99,6 @@ static void read_record(void) {
     next_token();
 }
 
-/* The old library has no memory: what is lent for it holds anything. */
 static void read_point(void) {
     struct point *point = &search.points[search.points_len++];
     static uint32_t words[PLACES * SPLITTER_FRAME_RECORD_WORDS];
@@ -107,7 +106,6 @@ static void read_point(void) {
         surprise("the file has too many points");
     }
     point->at = search.records_len;
-    memset(point->state.memory, (int)(0xa5 * (search.points_len % 2)), sizeof point->state.memory);
     read_words("numbers", point->state.numbers, SPLITTER_NUMBERS_WORDS);
     read_words("deques", point->state.deques, SPLITTER_DEQUES_WORDS);
     read_words("table", words, search.places * SPLITTER_FRAME_RECORD_WORDS);
@@ -176,7 +174,7 @@ static void same_words(const char *what, const void *got, const void *wanted, si
     }
 }
 
-/* The same state, but for what is remembered, and table. */
+/* The same state and table. */
 static void same_state(const char *what, const struct run *run, const struct splitter_state *state, const struct splitter_frame *table) {
     same_words(what, &run->state, state, SPLITTER_NUMBERS_WORDS + SPLITTER_DEQUES_WORDS);
     same_words(what, run->table, table, search.places * SPLITTER_FRAME_RECORD_WORDS);
@@ -198,7 +196,7 @@ static void make_tape(struct run *run, size_t first, size_t len) {
         const struct record *record = &search.records[first + i];
         at = splitter_put_record(at, (uint8_t)record->kind, (uint8_t)record->worker, (uint16_t)record->field, record->value);
     }
-    same("tape", splitter_lent_tape(&run->lent, tape, len * SPLITTER_RECORD_BYTES, answers, 2 * len).result, SPLITTER_OK);
+    same("tape", splitter_lent_tape(&run->lent, tape, len * SPLITTER_RECORD_BYTES, answers, 2 * len), SPLITTER_OK);
     for (size_t i = 0; i < len; i++) {
         same("record", splitter_answer(answers[2 * i], answers[2 * i + 1]), search.records[first + i].answer);
     }
@@ -231,10 +229,8 @@ static void refused(const struct splitter_lent *lent, size_t numbers_len, uint32
     memcpy(old, changed.pool, sizeof old);
     soil_work(&changed);
     same("refused", splitter_convert(lent->state->numbers, numbers_len, lent->state->deques, SPLITTER_DEQUES_WORDS, lent->frames,
-                                     lent->places, lent->state->memory, SPLITTER_MEMORY_WORDS, lent->pool, lent->pool_len,
-                                     lent->work, lent->work_len), wanted);
+                                     lent->places, lent->pool, lent->pool_len, lent->work, lent->work_len), wanted);
     same_state("a refused change-over changed the state", &changed, &from->state, from->table);
-    same_words("a refused change-over changed the memory", changed.state.memory, from->state.memory, SPLITTER_MEMORY_WORDS);
     same_words("a refused change-over changed the pool", changed.pool, old, POOL);
     check_work(&changed, wanted == SPLITTER_UNSOUND ? search.nodes : 0);
     counts.refused += 1;
@@ -301,9 +297,6 @@ static void change_over(void) {
     soil_work(&changed);
     same("change-over", splitter_lent_convert(&changed.lent), SPLITTER_OK);
     same_state("a change-over changed the state", &changed, &from->state, from->table);
-    for (unsigned i = 0; i < SPLITTER_MEMORY_WORDS; i++) {
-        same("the memory after a change-over", changed.state.memory[i], 0);
-    }
     check_work(&changed, search.nodes);
     check_pool();
     change_over_again();
@@ -311,8 +304,7 @@ static void change_over(void) {
 
 /* Without a change-over the old words pass for present nodes only if they happen to be sound. */
 static void without_change_over(void) {
-    memset(changed.state.memory, 0, sizeof changed.state.memory);
-    uint32_t result = splitter_lent_tape(&changed.lent, NULL, 0, NULL, 0).result;
+    uint32_t result = splitter_lent_tape(&changed.lent, NULL, 0, NULL, 0);
     counts.unconverted += result == SPLITTER_OK;
     same("old nodes", result == SPLITTER_UNSOUND || search.nodes == 1 || splitter_main_returned(&changed.state), 1);
 }
@@ -327,7 +319,6 @@ static void go_on(bool by_tapes) {
         check_work(&changed, search.nodes);
         make_steps(&begun, at, len);
         same_state("the run goes on otherwise", &changed, &begun.state, begun.table);
-        same_words("the run remembers otherwise", changed.state.memory, begun.state.memory, SPLITTER_MEMORY_WORDS);
         check_pool();
         counts.answers += len;
     }
@@ -363,7 +354,6 @@ static void try_point(size_t chance) {
     count_point();
     begin();
     refused_present();
-    memset(begun.state.memory, 0, sizeof begun.state.memory); /* a change-over empties it; the two go on alike */
     take_over();
     refused_change_overs(chance * 7 + search.nodes);
     without_change_over();

@@ -1,37 +1,22 @@
-/* Replays a log's steps through the library, without splitrun's limits: tools/tape.py audit builds and runs it for long logs, large pools
- * and other frame tables than splitrun's. Its argument is the number of the table's places, 1 to 256; without it there are 64, as splitrun
- * lends. Standard input as splitrun's: workers and n (16 bits each), nodes (32 bits), n initial values, records to the end. It prints splitrun's
- * lines. Another argument, and input that is cut short, are refused with a message and exit status 2. */
+/* Replays a log's steps through the library, without splitrun's limits: tools/tape.py audit builds and runs it for long logs and large pools.
+ * Standard input as splitrun's: workers and n (16 bits each), nodes (32 bits), n initial values, records to the end. It prints splitrun's
+ * lines. Input that is cut short is refused with a message and exit status 2. */
 #include <stdio.h>
 #include <stdlib.h>
 
 #include "splitter.h"
 
-enum { AT_ONCE = 4096, LENT_PLACES = 64 /* as splitrun lends */, MOST_VALUES = 65535 };
+enum { AT_ONCE = 4096, PLACES = 64 /* as splitrun lends */, MOST_VALUES = 65535 };
 
 static struct splitter_state state;
-static struct splitter_frame table[SPLITTER_MAX_PLACES];
+static struct splitter_frame table[PLACES];
 static uint32_t pool[(SPLITTER_MAX_NODES + 1u) * SPLITTER_NODE_WORDS], work[SPLITTER_MAX_NODES + 1u];
 static uint32_t values[MOST_VALUES + 1], answers[2 * AT_ONCE];
-static uint64_t visits;
 static uint8_t records[AT_ONCE * SPLITTER_RECORD_BYTES];
 
 static void refuse(const char *what) {
     fprintf(stderr, "replay: %s\n", what);
     exit(2);
-}
-
-/* The places of the table: the argument, or as many as splitrun lends. */
-static splitter_len places_of(int count, char **words) {
-    if (count < 2) {
-        return LENT_PLACES;
-    }
-    char *end;
-    unsigned long places = strtoul(words[1], &end, 10);
-    if (count > 2 || *end != '\0' || places < 1 || places > SPLITTER_MAX_PLACES) {
-        refuse("the argument is not a number of places from 1 to 256");
-    }
-    return (splitter_len)places;
 }
 
 static uint32_t word_of(const uint8_t *bytes) {
@@ -61,19 +46,17 @@ static size_t tape(const struct splitter_lent *lent) {
         refuse("the last record is cut short");
     }
     size_t count = bytes / SPLITTER_RECORD_BYTES;
-    struct splitter_tape_result taped = splitter_lent_tape(lent, records, bytes, answers, 2 * count);
-    if (taped.result != SPLITTER_OK) {
-        refuse(splitter_name(taped.result));
+    uint32_t refused = splitter_lent_tape(lent, records, bytes, answers, 2 * count);
+    if (refused != SPLITTER_OK) {
+        refuse(splitter_name(refused));
     }
-    visits += taped.visits;
     for (size_t i = 0; i < count; i++) {
         printf("%u %u\n", answers[2 * i], answers[2 * i + 1]);
     }
     return count;
 }
 
-int main(int count, char **words) {
-    splitter_len places = places_of(count, words);
+int main(void) {
     uint32_t first = read_word("the header is cut short");
     uint32_t nodes = read_word("the header is cut short");
     uint32_t workers = first & 0xffffu, n = first >> 16;
@@ -81,7 +64,7 @@ int main(int count, char **words) {
         values[i] = read_word("the initial values are cut short");
     }
     uint32_t lend = nodes <= SPLITTER_MAX_NODES ? nodes : SPLITTER_MAX_NODES + 1u; /* the library refuses one too many */
-    struct splitter_lent lent = {&state, table, places, pool, lend * SPLITTER_NODE_WORDS, work, lend};
+    struct splitter_lent lent = {&state, table, PLACES, pool, lend * SPLITTER_NODE_WORDS, work, lend};
     printf("%u %u %u\n", workers, n, nodes);
     uint32_t refused = splitter_lent_start(&lent, workers, values, n);
     if (refused != SPLITTER_OK) {
@@ -95,6 +78,5 @@ int main(int count, char **words) {
     if (splitter_lent_get_totals(&lent, &totals)) {
         printf("reduced %u %u %u %u\n", totals.sum, totals.min, totals.multiplier, totals.addend);
     }
-    printf("visits %llu\n", (unsigned long long)visits);
     return 0;
 }

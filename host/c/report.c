@@ -294,11 +294,11 @@ static uint32_t as_start_and_tape(unsigned places) {
     memcpy(&before, &memory, sizeof memory);
     memcpy(&other, &memory, sizeof memory);
     uint32_t result = splitter_report(memory.state.numbers, SPLITTER_NUMBERS_WORDS, memory.state.deques, SPLITTER_DEQUES_WORDS,
-                                      lent.frames, places, memory.state.memory, SPLITTER_MEMORY_WORDS, WORKERS, values, SPLITTERS,
-                                      lent.pool, lent.pool_len, lent.work, lent.work_len, tape, len, memory.answers, words, memory.clocks, SPLITTER_CLOCKS_WORDS(places),
+                                      lent.frames, places, WORKERS, values, SPLITTERS, lent.pool, lent.pool_len, lent.work, lent.work_len,
+                                      tape, len, memory.answers, words, memory.clocks, SPLITTER_CLOCKS_WORDS(places),
                                       memory.report, SPLITTER_REPORT_WORDS);
     same("start", splitter_lent_start(&apart, WORKERS, values, SPLITTERS), SPLITTER_OK);
-    same("tape", splitter_lent_tape(&apart, tape, len, other.answers, words).result, SPLITTER_OK);
+    same("tape", splitter_lent_tape(&apart, tape, len, other.answers, words), SPLITTER_OK);
     unchanged("another state", &memory.state, &other.state, sizeof memory.state);
     unchanged("another table", memory.table, other.table, sizeof memory.table);
     unchanged("another pool", memory.pool, other.pool, sizeof memory.pool);
@@ -339,9 +339,9 @@ static void leaves_the_run(void) {
 }
 
 /* The lengths and numbers of a call, each right or not, with their refusals in the order in which they are looked for. */
-enum { NUMBERS, DEQUES, MEMORY, CLOCKS, REPORT, VALUES, NO_WORKERS, TABLE, POOL, TAPE, WORK, CONDITIONS };
+enum { NUMBERS, DEQUES, CLOCKS, REPORT, VALUES, NO_WORKERS, TABLE, POOL, TAPE, WORK, CONDITIONS };
 static const uint32_t refusals[CONDITIONS] = {SPLITTER_BAD_STATE, SPLITTER_BAD_STATE, SPLITTER_BAD_STATE, SPLITTER_BAD_STATE,
-                                              SPLITTER_BAD_STATE, SPLITTER_BAD_VALUE_COUNT, SPLITTER_BAD_WORKER_COUNT, SPLITTER_BAD_PLACE_COUNT,
+                                              SPLITTER_BAD_VALUE_COUNT, SPLITTER_BAD_WORKER_COUNT, SPLITTER_BAD_PLACE_COUNT,
                                               SPLITTER_BAD_NODE_COUNT, SPLITTER_BAD_TAPE, SPLITTER_SHORT_WORK};
 
 static unsigned has(unsigned wrong, unsigned condition) {
@@ -360,7 +360,6 @@ static uint32_t spoilt_call(unsigned wrong) {
     const unsigned ragged = has(wrong, TAPE) ? any(2) : 0, short_answers = has(wrong, TAPE) && !ragged;
     return splitter_report(memory.state.numbers, SPLITTER_NUMBERS_WORDS - has(wrong, NUMBERS),
                            memory.state.deques, SPLITTER_DEQUES_WORDS - has(wrong, DEQUES), memory.table, places,
-                           memory.state.memory, SPLITTER_MEMORY_WORDS - has(wrong, MEMORY),
                            has(wrong, NO_WORKERS) ? any(2) * 9 : WORKERS, values, has(wrong, VALUES) ? 0 : SPLITTERS,
                            memory.pool, nodes * SPLITTER_NODE_WORDS + any(SPLITTER_NODE_WORDS), memory.work, nodes - has(wrong, WORK),
                            tape, (splitter_len)(end - tape) - ragged, memory.answers, 2 * records() - short_answers,

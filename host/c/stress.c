@@ -2,11 +2,10 @@
  *
  * Beyond the answers: words around the state, past each other slice and past the last whole node never change; the work slice is zero
  * after each call; a refused call or step leaves state, table and pool as they were; a wrong count of holders, a wrong link to a sibling,
- * a total while Main lives, a wrong memory and another table length are refused, and so is a part of the state with another length. The
- * nodes that tapes visit are as many as by the rule. The views of the frames in deques and the totals are the plain machine's. Runs in tables
- * of any length begin in garbage; they are saved and read back into garbage, and go on as the plain machine of that moment does, with nothing
- * remembered. Half of them begin with the report of a tape: its words and the clocks of all live frames are the plain machine's, and the run
- * goes on. */
+ * a total while Main lives and another table length are refused, and so is a part of the state with another length. The views of the
+ * frames in deques and the totals are the plain machine's. Runs in tables of any length begin in garbage; they are saved and read back
+ * into garbage, and go on as the plain machine of that moment does. Half of them begin with the report of a tape: its words and the clocks
+ * of all live frames are the plain machine's, and the run goes on. */
 #include <stdio.h>
 #include <stdlib.h>
 #include <string.h>
@@ -38,7 +37,6 @@ static unsigned long siblings; /* runs in which a frame had three live children 
 static unsigned long totals;   /* runs whose totals were compared */
 static unsigned long full;     /* runs with a full table of more than 64 places */
 static unsigned long reports;  /* tapes that Main's return ended, with a report */
-static unsigned long memories; /* memories that were not sound */
 
 static uint32_t seed;
 
@@ -237,27 +235,6 @@ static void stress_unsound(void) {
     *word ^= bit;
 }
 
-/* A worker, also one that is idle or does not exist, remembers another leaf than its frame has, or no node; or its base is too great. */
-static void stress_wrong_memory(void) {
-    const unsigned worker = any(SPLITTER_MAX_WORKERS), splitter = any(run.plain.splitters);
-    uint32_t *base = state->memory + SPLITTER_MAX_WORKERS * SPLITTER_MAX_SPLITTERS + worker;
-    uint32_t *word = base, wrong = UINT32_MAX - any(SPLITTER_MAX_NODES);
-    if (any(3) != 0) {
-        wrong = *base + 1 + any(SPLITTER_MAX_NODES);
-        word = state->memory + worker * SPLITTER_MAX_SPLITTERS + splitter;
-    }
-    if (run.plain.lengths[worker] > 0) {
-        checked_read(&run, worker, splitter);
-        wrong += *word == wrong;
-    }
-    const uint32_t right = *word;
-    *word = wrong;
-    soil_work();
-    stress_refused(&run.lent, SPLITTER_UNSOUND);
-    *word = right;
-    memories += 1;
-}
-
 /* A table of another length than recorded. */
 static void stress_other_table(void) {
     struct splitter_lent lent = run.lent;
@@ -285,7 +262,6 @@ static void stress_save(void) {
         same("byte past the image", image[image_len + i], 0x5a);
     }
     saved_plain = run.plain;
-    plain_forget(&saved_plain); /* an image has no memory */
 }
 
 /* Whatever state, table and pool hold, the run is the saved one again. */
@@ -344,26 +320,24 @@ static void stress_image(void) {
 }
 
 /* The six calls over parts of these lengths, one of them wrong; other refusals' conditions may hold as well. */
-static void call_bad_state(uint32_t *const parts[3], const size_t lengths[3]) {
+static void call_bad_state(uint32_t *const parts[2], const size_t lengths[2]) {
     const uint8_t tape[SPLITTER_RECORD_BYTES] = {0};
     uint32_t words[2] = {GUARD_WORD, GUARD_WORD};
     const struct splitter_lent *lent = &run.lent;
     const splitter_len places = any(PLACES + 2);
     struct step s = any_step();
-    same("start", splitter_start(parts[0], lengths[0], parts[1], lengths[1], table, places, parts[2], lengths[2],
+    same("start", splitter_start(parts[0], lengths[0], parts[1], lengths[1], table, places,
                                  any(10), values, any(3), lent->pool, lent->pool_len), SPLITTER_BAD_STATE);
-    same("step", splitter_step(parts[0], lengths[0], parts[1], lengths[1], table, places, parts[2], lengths[2],
-                               lent->pool, lent->pool_len, lent->work, any(2), s.kind, s.worker, s.field, s.value), SPLITTER_BAD_STATE);
-    struct splitter_tape_result taped = splitter_tape(parts[0], lengths[0], parts[1], lengths[1], table, places, parts[2], lengths[2],
-                                                      lent->pool, lent->pool_len, lent->work, any(2), tape, 7 + any(2), words, any(3));
-    same("tape", taped.result, SPLITTER_BAD_STATE);
-    same("visits", taped.visits, 0);
-    same("save", splitter_save(parts[0], lengths[0], parts[1], lengths[1], table, places, parts[2], lengths[2],
-                               lent->pool, lent->pool_len, lent->work, any(2), image, any(2)), SPLITTER_BAD_STATE);
-    same("load", splitter_load(parts[0], lengths[0], parts[1], lengths[1], table, places, parts[2], lengths[2], lent->pool, lent->pool_len,
+    same("step", splitter_step(parts[0], lengths[0], parts[1], lengths[1], table, places, lent->pool, lent->pool_len,
+                               lent->work, any(2), s.kind, s.worker, s.field, s.value), SPLITTER_BAD_STATE);
+    same("tape", splitter_tape(parts[0], lengths[0], parts[1], lengths[1], table, places, lent->pool, lent->pool_len,
+                               lent->work, any(2), tape, 7 + any(2), words, any(3)), SPLITTER_BAD_STATE);
+    same("save", splitter_save(parts[0], lengths[0], parts[1], lengths[1], table, places, lent->pool, lent->pool_len,
+                               lent->work, any(2), image, any(2)), SPLITTER_BAD_STATE);
+    same("load", splitter_load(parts[0], lengths[0], parts[1], lengths[1], table, places, lent->pool, lent->pool_len,
                                lent->work, any(2), image, image_len - any(2) * (image_len > 0)), SPLITTER_BAD_STATE);
-    same("convert", splitter_convert(parts[0], lengths[0], parts[1], lengths[1], table, places, parts[2], lengths[2],
-                                     lent->pool, lent->pool_len, lent->work, any(2)), SPLITTER_BAD_STATE);
+    same("convert", splitter_convert(parts[0], lengths[0], parts[1], lengths[1], table, places, lent->pool, lent->pool_len,
+                                     lent->work, any(2)), SPLITTER_BAD_STATE);
     if (words[0] != GUARD_WORD || words[1] != GUARD_WORD) {
         surprise("a refused tape changed its answers");
     }
@@ -373,9 +347,9 @@ static void call_bad_state(uint32_t *const parts[3], const size_t lengths[3]) {
 /* Any other length of a part, shorter or longer: nothing changes. */
 static void stress_bad_state(void) {
     static uint32_t longer[SPLITTER_DEQUES_WORDS + GUARD]; /* apart, for slices must not overlap; always zero */
-    uint32_t *parts[3] = {state->numbers, state->deques, state->memory};
-    size_t lengths[3] = {SPLITTER_NUMBERS_WORDS, SPLITTER_DEQUES_WORDS, SPLITTER_MEMORY_WORDS};
-    unsigned part = any(3);
+    uint32_t *parts[2] = {state->numbers, state->deques};
+    size_t lengths[2] = {SPLITTER_NUMBERS_WORDS, SPLITTER_DEQUES_WORDS};
+    unsigned part = any(2);
     if (any(2) == 0) {
         lengths[part] = any((uint32_t)lengths[part]);
     } else {
@@ -395,7 +369,6 @@ static void stress_bad_state(void) {
 static void stress_call(void) {
     switch (any(40)) {
     case 0: any(4) != 0 ? stress_unsound() : stress_other_table(); break;
-    case 6: stress_wrong_memory(); break;
     case 1: stress_short_work(); break;
     case 2: stress_bad_state(); break;
     case 3:
@@ -546,8 +519,8 @@ static void check_outcomes(void) {
             exit(1);
         }
     }
-    if (siblings == 0 || totals == 0 || full == 0 || reports == 0 || memories == 0) {
-        surprise("no run had three live siblings, more than 64 frames, an end, a report or a wrong memory");
+    if (siblings == 0 || totals == 0 || full == 0 || reports == 0) {
+        surprise("no run had three live siblings, more than 64 frames, an end or a report");
     }
 }
 
@@ -572,8 +545,7 @@ int main(int argc, char **argv) {
         stress_run();
     }
     printf("stress: %lu random runs, %lu answers, each as the plain machine gives it; three live siblings in %lu runs, totals of %lu, full "
-           "tables of more than 64 places in %lu, reports of %lu; %lu wrong memories refused\n", runs, count_answers(), siblings, totals,
-           full, reports, memories);
+           "tables of more than 64 places in %lu, reports of %lu\n", runs, count_answers(), siblings, totals, full, reports);
     check_outcomes();
     return 0;
 }

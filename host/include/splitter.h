@@ -11,8 +11,8 @@
  * (values 1, table 21 or 6, pool 3 or 6, answers and tape 4, work 5, image 17, target 19, clocks 99). State and structs must be there.
  *
  * Memory to lend, and its owner is always the host:
- *   state     three slices, the members of struct splitter_state: numbers, deques, memory; 16,488 bytes. A call changes them in place; what
- *             they hold between calls is the engine's. Each must have just its length, or the call is refused (SPLITTER_BAD_STATE).
+ *   state     two slices, the members of struct splitter_state: numbers, deques; 8,264 bytes. A call changes them in place; what they hold
+ *             between calls is the engine's. Each must have just its length, or the call is refused (SPLITTER_BAD_STATE).
  *   table     an array of struct splitter_frame, 1 to SPLITTER_MAX_PLACES places: as many frames can live at a time. 48 bytes a place,
  *             3 KiB for 64, 12 KiB for 256. A call changes the records where they are and makes no copy of the table. A start takes it
  *             whatever it holds and records its length; every later call of the run gets the same table with the same length.
@@ -35,12 +35,6 @@
  * the state, the table and the pool as the call before left them. Every call but the first three checks what it is handed: what is not
  * sound is refused (SPLITTER_UNSOUND), not used, and so is a table of another length than recorded. A foreign change that leaves all
  * sound, such as another value in a leaf, cannot be seen. A run that the library of header 0.2 has begun takes splitter_convert first.
- *
- * Each worker remembers where the leaf is of each splitter that it has read or written. A repeated read of a block in the same frame then
- * visits that one node, and not all H + 1 on the way from the root, with 2^H the least power of two that is not below n. The worker's
- * accepted spawn, return, steal or sync empties its memory; a start, a reading and a change-over empty all. It is the state's member memory,
- * 8,224 bytes, and is checked with the state; no answer depends on it, and images do not have it. A tape also tells how many nodes its
- * accepted reads and writes have visited.
  *
  * A return with a live child is no mistake: the frame waits for its children and ends when the last of them ends (SPLITTER_WAITS). So a
  * frame that has nothing to do after its children needs no sync.
@@ -65,14 +59,13 @@
  * places as the table has, and two words for each node. A reading takes no other: images from before, of versions 0 to 3, are refused by
  * SPLITTER_BAD_BLOCKS.
  *
- * A search that is under way when this library takes the place of the one with header 0.2, whose nodes have four words, can go on: numbers,
- * deques and table are the same in both, the memory may hold anything, and splitter_convert turns the pool's nodes into the present ones, in
- * the same slice. It is safe to call after the last call to the old library and before the first one to this, for numbers, deques, table and
- * pool as the old one left them; the run must be in memory, for old images are refused. An earlier call would take the old words for present
- * nodes and refuse them by SPLITTER_UNSOUND or, where they happen to be sound, as of a pool of 1 node, go on with other values. A second
- * change-over of the same pool changes no node: it is refused by SPLITTER_UNSOUND, unless Main has returned and the pool has 1 or 2 nodes. It
- * is not for a pool that never had old nodes. While the call runs the pool is of neither kind: where memory outlives a reset, keep a copy of
- * the pool until it has returned. A search of the library with header 0.3 or 0.4, whose state has no memory, goes on with a memory of zeros.
+ * A search that is under way when this library takes the place of the one with header 0.2, whose nodes have four words, can go on: state and
+ * table are the same in both, and splitter_convert turns the pool's nodes into the present ones, in the same slice. It is safe to call
+ * after the last call to the old library and before the first one to this, for state, table and pool as the old one left them; the run must
+ * be in memory, for old images are refused. An earlier call would take the old words for present nodes and refuse them by SPLITTER_UNSOUND
+ * or, where they happen to be sound, as of a pool of 1 node, go on with other values. A second change-over of the same pool changes nothing:
+ * it is refused by SPLITTER_UNSOUND, unless Main has returned and the pool has 1 or 2 nodes. It is not for a pool that never had old nodes.
+ * While the call runs the pool is of neither kind: where memory outlives a reset, keep a copy of the pool until it has returned.
  *
  * The ten functions are the library. Below them are inline helpers: the same calls over struct splitter_state and over struct
  * splitter_lent, a call for each kind of step, queries, records, texts. A host needs no others than those over struct splitter_lent.
@@ -92,7 +85,7 @@ extern "C" {
  * something is added; while the major number is 0, nothing is released and any of them may change anything. The archive has no number:
  * link the one that came with this header. The form of images is counted apart, by SPLITTER_IMAGE_VERSION. */
 #define SPLITTER_VERSION_MAJOR 0u
-#define SPLITTER_VERSION_MINOR 5u
+#define SPLITTER_VERSION_MINOR 4u
 #define SPLITTER_VERSION (SPLITTER_VERSION_MAJOR * 1000u + SPLITTER_VERSION_MINOR)
 
 /* The length of a slice: 64 bits on every machine, also where size_t has 32. */
@@ -111,7 +104,6 @@ typedef uint64_t splitter_len;
 #define SPLITTER_NUMBERS_WORDS 10u      /* SPLITTER_NUMBER_WORKERS to SPLITTER_NUMBER_PLACES */
 #define SPLITTER_DEQUE_PLACES 256u      /* of each worker's deque, whatever the table's length */
 #define SPLITTER_DEQUES_WORDS 2056u     /* for each of 8 workers its deque's length, then SPLITTER_DEQUE_PLACES places from the top */
-#define SPLITTER_MEMORY_WORDS 2056u     /* for each of 8 workers a word for each of 256 splitters, then a base for each worker */
 #define SPLITTER_FRAME_RECORD_WORDS 12u /* of struct splitter_frame */
 #define SPLITTER_NODE_WORDS 2u          /* holders, then what the node's level tells */
 #define SPLITTER_NODE_WORDS_OLD 4u      /* of the library with header 0.2: holders, left, right, value; free: 0, the next one, 0, 0 */
@@ -126,11 +118,7 @@ typedef uint64_t splitter_len;
 #define SPLITTER_BLOCK_WORDS 127u       /* of a block's data */
 #define SPLITTER_IMAGE_VERSION 1024u    /* added to the workers in an image's first word */
 #define SPLITTER_REPORT_WORDS 4u        /* of 64 bits: struct splitter_parallelism */
-#if defined(__aarch64__) || (defined(__riscv) && __riscv_xlen == 64)
-#define SPLITTER_STACK_BYTES 2176u      /* as below */
-#else
 #define SPLITTER_STACK_BYTES 2048u      /* a call takes at most this much stack; measured (host/c/stack.c, make cross-test) */
-#endif
 
 /* splitter_image_bytes as a constant, to size an array: for 0 to SPLITTER_MAX_PLACES places and 0 to SPLITTER_MAX_NODES nodes. */
 #define SPLITTER_IMAGE_WORDS(places, nodes) \
@@ -146,7 +134,6 @@ typedef uint64_t splitter_len;
 struct splitter_state {
     uint32_t numbers[SPLITTER_NUMBERS_WORDS];
     uint32_t deques[SPLITTER_DEQUES_WORDS];
-    uint32_t memory[SPLITTER_MEMORY_WORDS];
 };
 
 /* A record of the frame table, in the order of an image's words. In a free place all but the parent is zero. None is SPLITTER_NONE. */
@@ -163,12 +150,6 @@ struct splitter_frame {
     uint32_t view_multiplier;
     uint32_t view_addend;
     uint32_t younger;         /* the place of the next younger live child of the same parent, or none */
-};
-
-/* What a tape gives. */
-struct splitter_tape_result {
-    uint32_t result; /* SPLITTER_OK, or a refusal */
-    uint64_t visits; /* the nodes that its accepted reads and writes have visited, modulo 2^64; 0 if it was refused */
 };
 
 /* What a report tells, in the order of its words. (In C++ a struct splitter_report would be hidden by the function.) */
@@ -283,7 +264,6 @@ enum {
 uint32_t splitter_start(uint32_t *SPLITTER_RESTRICT numbers, splitter_len numbers_len,
                         uint32_t *SPLITTER_RESTRICT deques, splitter_len deques_len,
                         struct splitter_frame *SPLITTER_RESTRICT frames, splitter_len places,
-                        uint32_t *SPLITTER_RESTRICT memory, splitter_len memory_len,
                         uint32_t workers,
                         const uint32_t *SPLITTER_RESTRICT values, splitter_len values_len,
                         uint32_t *SPLITTER_RESTRICT pool, splitter_len pool_len);
@@ -294,22 +274,19 @@ uint32_t splitter_start(uint32_t *SPLITTER_RESTRICT numbers, splitter_len number
 uint64_t splitter_step(uint32_t *SPLITTER_RESTRICT numbers, splitter_len numbers_len,
                        uint32_t *SPLITTER_RESTRICT deques, splitter_len deques_len,
                        struct splitter_frame *SPLITTER_RESTRICT frames, splitter_len places,
-                       uint32_t *SPLITTER_RESTRICT memory, splitter_len memory_len,
                        uint32_t *SPLITTER_RESTRICT pool, splitter_len pool_len,
                        uint32_t *SPLITTER_RESTRICT work, splitter_len work_len,
                        uint32_t kind, uint32_t worker, uint32_t field, uint32_t value);
 
 /* A tape of records, 8 bytes each: kind, worker, field (2 bytes), value (4 bytes), little-endian. SPLITTER_OK, with two answer words for
- * each record, or a refusal: 99, 4, 5, 6. A refused record gives its refusal and 0, and the tape goes on. An accepted read of a splitter that
- * its worker remembers visits 1 node, other accepted reads and all accepted writes visit H + 1, other steps none. */
-struct splitter_tape_result splitter_tape(uint32_t *SPLITTER_RESTRICT numbers, splitter_len numbers_len,
-                                          uint32_t *SPLITTER_RESTRICT deques, splitter_len deques_len,
-                                          struct splitter_frame *SPLITTER_RESTRICT frames, splitter_len places,
-                                          uint32_t *SPLITTER_RESTRICT memory, splitter_len memory_len,
-                                          uint32_t *SPLITTER_RESTRICT pool, splitter_len pool_len,
-                                          uint32_t *SPLITTER_RESTRICT work, splitter_len work_len,
-                                          const uint8_t *SPLITTER_RESTRICT tape, splitter_len tape_len,
-                                          uint32_t *SPLITTER_RESTRICT answers, splitter_len answers_len);
+ * each record, or a refusal: 99, 4, 5, 6. A refused record gives its refusal and 0, and the tape goes on. */
+uint32_t splitter_tape(uint32_t *SPLITTER_RESTRICT numbers, splitter_len numbers_len,
+                       uint32_t *SPLITTER_RESTRICT deques, splitter_len deques_len,
+                       struct splitter_frame *SPLITTER_RESTRICT frames, splitter_len places,
+                       uint32_t *SPLITTER_RESTRICT pool, splitter_len pool_len,
+                       uint32_t *SPLITTER_RESTRICT work, splitter_len work_len,
+                       const uint8_t *SPLITTER_RESTRICT tape, splitter_len tape_len,
+                       uint32_t *SPLITTER_RESTRICT answers, splitter_len answers_len);
 
 /* A start, one tape from it, and the report of this run: what splitter_start and then splitter_tape leave and answer, whatever state,
  * table and pool hold; then work, span, quotient and remainder in the report. clocks has just SPLITTER_CLOCKS_WORDS(places) words, report
@@ -321,7 +298,6 @@ struct splitter_tape_result splitter_tape(uint32_t *SPLITTER_RESTRICT numbers, s
 uint32_t splitter_report(uint32_t *SPLITTER_RESTRICT numbers, splitter_len numbers_len,
                          uint32_t *SPLITTER_RESTRICT deques, splitter_len deques_len,
                          struct splitter_frame *SPLITTER_RESTRICT frames, splitter_len places,
-                         uint32_t *SPLITTER_RESTRICT memory, splitter_len memory_len,
                          uint32_t workers,
                          const uint32_t *SPLITTER_RESTRICT values, splitter_len values_len,
                          uint32_t *SPLITTER_RESTRICT pool, splitter_len pool_len,
@@ -336,7 +312,6 @@ uint32_t splitter_report(uint32_t *SPLITTER_RESTRICT numbers, splitter_len numbe
 uint32_t splitter_save(const uint32_t *SPLITTER_RESTRICT numbers, splitter_len numbers_len,
                        const uint32_t *SPLITTER_RESTRICT deques, splitter_len deques_len,
                        const struct splitter_frame *SPLITTER_RESTRICT frames, splitter_len places,
-                       const uint32_t *SPLITTER_RESTRICT memory, splitter_len memory_len,
                        const uint32_t *SPLITTER_RESTRICT pool, splitter_len pool_len,
                        uint32_t *SPLITTER_RESTRICT work, splitter_len work_len,
                        uint8_t *SPLITTER_RESTRICT target, splitter_len target_len);
@@ -348,20 +323,17 @@ uint32_t splitter_save(const uint32_t *SPLITTER_RESTRICT numbers, splitter_len n
 uint32_t splitter_load(uint32_t *SPLITTER_RESTRICT numbers, splitter_len numbers_len,
                        uint32_t *SPLITTER_RESTRICT deques, splitter_len deques_len,
                        struct splitter_frame *SPLITTER_RESTRICT frames, splitter_len places,
-                       uint32_t *SPLITTER_RESTRICT memory, splitter_len memory_len,
                        uint32_t *SPLITTER_RESTRICT pool, splitter_len pool_len,
                        uint32_t *SPLITTER_RESTRICT work, splitter_len work_len,
                        const uint8_t *SPLITTER_RESTRICT image, splitter_len image_len);
 
 /* The change-over: turns a pool of old nodes, SPLITTER_NODE_WORDS_OLD words each, into one of as many present nodes in the front of the same
- * slice. The old nodes' other words are zero then, and words past the old nodes never change. The memory is zero then, whatever it held;
- * numbers, deques and table are only read. SPLITTER_OK, and the run goes on as if it had begun with the present nodes; or a refusal: 99, 5,
- * 6; then nothing has changed but, by 6, the work slice. The later calls may be lent the whole slice, or only its front,
- * SPLITTER_NODE_WORDS words for each node. */
+ * slice. The old nodes' other words are zero then, and words past the old nodes never change. State and table are only read. SPLITTER_OK, and
+ * the run goes on as if it had begun with the present nodes; or a refusal: 99, 5, 6; then nothing has changed but, by 6, the work slice. The
+ * later calls may be lent the whole slice, or only its front, SPLITTER_NODE_WORDS words for each node. */
 uint32_t splitter_convert(const uint32_t *SPLITTER_RESTRICT numbers, splitter_len numbers_len,
                           const uint32_t *SPLITTER_RESTRICT deques, splitter_len deques_len,
                           const struct splitter_frame *SPLITTER_RESTRICT frames, splitter_len places,
-                          uint32_t *SPLITTER_RESTRICT memory, splitter_len memory_len,
                           uint32_t *SPLITTER_RESTRICT pool, splitter_len pool_len,
                           uint32_t *SPLITTER_RESTRICT work, splitter_len work_len);
 
@@ -415,8 +387,7 @@ static inline uint32_t splitter_state_start(struct splitter_state *state, struct
     struct splitter_frame record = {0, 0, 0, 0, 0, 0, 0, 0, 0, 0, 0, 0};
     uint32_t word = 0;
     return splitter_start(state->numbers, SPLITTER_NUMBERS_WORDS, state->deques, SPLITTER_DEQUES_WORDS,
-                          frames != NULL ? frames : &record, splitter_slice_len(frames, places),
-                          state->memory, SPLITTER_MEMORY_WORDS, workers,
+                          frames != NULL ? frames : &record, splitter_slice_len(frames, places), workers,
                           values != NULL ? values : &word, splitter_slice_len(values, values_len),
                           pool != NULL ? pool : &word, splitter_slice_len(pool, pool_len));
 }
@@ -429,27 +400,22 @@ static inline uint64_t splitter_state_step(struct splitter_state *state, struct 
     uint32_t word = 0;
     return splitter_step(state->numbers, SPLITTER_NUMBERS_WORDS, state->deques, SPLITTER_DEQUES_WORDS,
                          frames != NULL ? frames : &record, splitter_slice_len(frames, places),
-                         state->memory, SPLITTER_MEMORY_WORDS,
                          pool != NULL ? pool : &word, splitter_slice_len(pool, pool_len),
                          work != NULL ? work : &word, splitter_slice_len(work, work_len), kind, worker, field, value);
 }
 
-static inline struct splitter_tape_result splitter_state_tape(struct splitter_state *state,
-                                                              struct splitter_frame *frames, splitter_len places,
-                                                              uint32_t *pool, splitter_len pool_len,
-                                                              uint32_t *work, splitter_len work_len,
-                                                              const uint8_t *tape, splitter_len tape_len,
-                                                              uint32_t *answers, splitter_len answers_len) {
-    const struct splitter_tape_result refused = {SPLITTER_BAD_TAPE, 0};
+static inline uint32_t splitter_state_tape(struct splitter_state *state, struct splitter_frame *frames, splitter_len places,
+                                           uint32_t *pool, splitter_len pool_len,
+                                           uint32_t *work, splitter_len work_len,
+                                           const uint8_t *tape, splitter_len tape_len, uint32_t *answers, splitter_len answers_len) {
     struct splitter_frame record = {0, 0, 0, 0, 0, 0, 0, 0, 0, 0, 0, 0};
     uint32_t word = 0;
     uint8_t byte = 0;
     if (tape == NULL && tape_len != 0) {
-        return refused;
+        return SPLITTER_BAD_TAPE;
     }
     return splitter_tape(state->numbers, SPLITTER_NUMBERS_WORDS, state->deques, SPLITTER_DEQUES_WORDS,
                          frames != NULL ? frames : &record, splitter_slice_len(frames, places),
-                         state->memory, SPLITTER_MEMORY_WORDS,
                          pool != NULL ? pool : &word, splitter_slice_len(pool, pool_len),
                          work != NULL ? work : &word, splitter_slice_len(work, work_len),
                          tape != NULL ? tape : &byte, splitter_slice_len(tape, tape_len),
@@ -468,8 +434,7 @@ static inline uint32_t splitter_state_report(struct splitter_state *state, struc
     uint32_t word = 0, result;
     uint8_t byte = 0;
     result = splitter_report(state->numbers, SPLITTER_NUMBERS_WORDS, state->deques, SPLITTER_DEQUES_WORDS,
-                             frames != NULL ? frames : &record, splitter_slice_len(frames, places),
-                             state->memory, SPLITTER_MEMORY_WORDS, workers,
+                             frames != NULL ? frames : &record, splitter_slice_len(frames, places), workers,
                              values != NULL ? values : &word, splitter_slice_len(values, values_len),
                              pool != NULL ? pool : &word, splitter_slice_len(pool, pool_len),
                              work != NULL ? work : &word, splitter_slice_len(work, work_len),
@@ -494,7 +459,6 @@ static inline uint32_t splitter_state_save(const struct splitter_state *state, c
     uint8_t byte = 0;
     return splitter_save(state->numbers, SPLITTER_NUMBERS_WORDS, state->deques, SPLITTER_DEQUES_WORDS,
                          frames != NULL ? frames : &record, splitter_slice_len(frames, places),
-                         state->memory, SPLITTER_MEMORY_WORDS,
                          pool != NULL ? pool : &word, splitter_slice_len(pool, pool_len),
                          work != NULL ? work : &word, splitter_slice_len(work, work_len),
                          target != NULL ? target : &byte, splitter_slice_len(target, target_len));
@@ -508,19 +472,17 @@ static inline uint32_t splitter_state_load(struct splitter_state *state, struct 
     uint8_t byte = 0;
     return splitter_load(state->numbers, SPLITTER_NUMBERS_WORDS, state->deques, SPLITTER_DEQUES_WORDS,
                          frames != NULL ? frames : &record, splitter_slice_len(frames, places),
-                         state->memory, SPLITTER_MEMORY_WORDS,
                          pool != NULL ? pool : &word, splitter_slice_len(pool, pool_len),
                          work != NULL ? work : &word, splitter_slice_len(work, work_len),
                          image != NULL ? image : &byte, splitter_slice_len(image, image_len));
 }
 
-static inline uint32_t splitter_state_convert(struct splitter_state *state, const struct splitter_frame *frames, splitter_len places,
+static inline uint32_t splitter_state_convert(const struct splitter_state *state, const struct splitter_frame *frames, splitter_len places,
                                               uint32_t *pool, splitter_len pool_len, uint32_t *work, splitter_len work_len) {
     struct splitter_frame record = {0, 0, 0, 0, 0, 0, 0, 0, 0, 0, 0, 0};
     uint32_t word = 0;
     return splitter_convert(state->numbers, SPLITTER_NUMBERS_WORDS, state->deques, SPLITTER_DEQUES_WORDS,
                             frames != NULL ? frames : &record, splitter_slice_len(frames, places),
-                            state->memory, SPLITTER_MEMORY_WORDS,
                             pool != NULL ? pool : &word, splitter_slice_len(pool, pool_len),
                             work != NULL ? work : &word, splitter_slice_len(work, work_len));
 }
@@ -553,8 +515,8 @@ static inline uint64_t splitter_lent_step(const struct splitter_lent *lent, uint
                                kind, worker, field, value);
 }
 
-static inline struct splitter_tape_result splitter_lent_tape(const struct splitter_lent *lent, const uint8_t *tape, splitter_len tape_len,
-                                                             uint32_t *answers, splitter_len answers_len) {
+static inline uint32_t splitter_lent_tape(const struct splitter_lent *lent, const uint8_t *tape, splitter_len tape_len,
+                                          uint32_t *answers, splitter_len answers_len) {
     return splitter_state_tape(lent->state, lent->frames, lent->places, lent->pool, lent->pool_len, lent->work, lent->work_len,
                                tape, tape_len, answers, answers_len);
 }

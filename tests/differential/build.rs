@@ -8,13 +8,12 @@ use std::{env, fs};
 include!("faults.rs");
 
 /// The copying program's files: each uses only those before it.
-const FILES: [&str; 9] = [
+const FILES: [&str; 8] = [
     "refusal.rs",
     "shape.rs",
     "name.rs",
     "reducer.rs",
     "record.rs",
-    "memory.rs",
     "history.rs",
     "machine.rs",
     "splitrun.rs",

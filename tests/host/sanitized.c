@@ -5,7 +5,7 @@
 #include <stdlib.h>
 #include <string.h>
 
-enum { NUMBERS, DEQUES, FRAMES, MEMORY, POOL, WORK, ANSWERS, CLOCKS, REPORT, SLICES };
+enum { NUMBERS, DEQUES, FRAMES, POOL, WORK, ANSWERS, CLOCKS, REPORT, SLICES };
 
 static void stop(const char *why, unsigned long call)
 {
@@ -32,7 +32,7 @@ static uint32_t word(FILE *file)
 /* One call, its entry already read. */
 static void call(FILE *file, uint32_t entry, unsigned long number)
 {
-    uint32_t *argument = block(file, 4 * sizeof *argument), *result = block(file, 4 * sizeof *result);
+    uint32_t *argument = block(file, 4 * sizeof *argument), *result = block(file, 2 * sizeof *result);
     size_t values = word(file);
     uint32_t *value = block(file, values * 4);
     size_t bytes = word(file);
@@ -46,42 +46,35 @@ static void call(FILE *file, uint32_t entry, unsigned long number)
     }
     struct splitter_frame *frames = (struct splitter_frame *)slice[FRAMES];
     size_t places = length[FRAMES] / SPLITTER_FRAME_RECORD_WORDS;
-    uint32_t *memory = slice[MEMORY];
-    size_t memories = length[MEMORY];
-    uint64_t got = 0, visits = 0;
+    uint64_t got = 0;
     if (entry == 1)
-        got = splitter_start(slice[NUMBERS], length[NUMBERS], slice[DEQUES], length[DEQUES], frames, places, memory, memories,
+        got = splitter_start(slice[NUMBERS], length[NUMBERS], slice[DEQUES], length[DEQUES], frames, places,
                              argument[0], value, values, slice[POOL], length[POOL]);
     else if (entry == 2)
-        got = splitter_step(slice[NUMBERS], length[NUMBERS], slice[DEQUES], length[DEQUES], frames, places, memory, memories,
+        got = splitter_step(slice[NUMBERS], length[NUMBERS], slice[DEQUES], length[DEQUES], frames, places,
                             slice[POOL], length[POOL], slice[WORK], length[WORK],
                             argument[0], argument[1], argument[2], argument[3]);
-    else if (entry == 3) {
-        struct splitter_tape_result taped =
-            splitter_tape(slice[NUMBERS], length[NUMBERS], slice[DEQUES], length[DEQUES], frames, places, memory, memories,
-                          slice[POOL], length[POOL], slice[WORK], length[WORK], byte, bytes, slice[ANSWERS], length[ANSWERS]);
-        got = taped.result;
-        visits = taped.visits;
-    } else if (entry == 4)
-        got = splitter_save(slice[NUMBERS], length[NUMBERS], slice[DEQUES], length[DEQUES], frames, places, memory, memories,
+    else if (entry == 3)
+        got = splitter_tape(slice[NUMBERS], length[NUMBERS], slice[DEQUES], length[DEQUES], frames, places,
+                            slice[POOL], length[POOL], slice[WORK], length[WORK], byte, bytes, slice[ANSWERS], length[ANSWERS]);
+    else if (entry == 4)
+        got = splitter_save(slice[NUMBERS], length[NUMBERS], slice[DEQUES], length[DEQUES], frames, places,
                             slice[POOL], length[POOL], slice[WORK], length[WORK], byte, bytes);
     else if (entry == 5)
-        got = splitter_load(slice[NUMBERS], length[NUMBERS], slice[DEQUES], length[DEQUES], frames, places, memory, memories,
+        got = splitter_load(slice[NUMBERS], length[NUMBERS], slice[DEQUES], length[DEQUES], frames, places,
                             slice[POOL], length[POOL], slice[WORK], length[WORK], byte, bytes);
     else if (entry == 6)
-        got = splitter_report(slice[NUMBERS], length[NUMBERS], slice[DEQUES], length[DEQUES], frames, places, memory, memories,
+        got = splitter_report(slice[NUMBERS], length[NUMBERS], slice[DEQUES], length[DEQUES], frames, places,
                               argument[0], value, values, slice[POOL], length[POOL], slice[WORK], length[WORK], byte, bytes,
                               slice[ANSWERS], length[ANSWERS], (uint64_t *)slice[CLOCKS], length[CLOCKS] / 2,
                               (uint64_t *)slice[REPORT], length[REPORT] / 2);
     else if (entry == 7)
-        got = splitter_convert(slice[NUMBERS], length[NUMBERS], slice[DEQUES], length[DEQUES], frames, places, memory, memories,
+        got = splitter_convert(slice[NUMBERS], length[NUMBERS], slice[DEQUES], length[DEQUES], frames, places,
                                slice[POOL], length[POOL], slice[WORK], length[WORK]);
     else
         stop("no such entry", number);
     if ((uint32_t)got != result[0] || (uint32_t)(got >> 32) != result[1])
         stop("another result", number);
-    if ((uint32_t)visits != result[2] || (uint32_t)(visits >> 32) != result[3])
-        stop("other visits", number);
     for (int i = 0; i < SLICES; i++) {
         if (memcmp(slice[i], after[i], length[i] * 4))
             stop("another word in a slice", number);

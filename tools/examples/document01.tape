@@ -12,4 +12,3 @@ values 10 20 30 40 50
 0 return       expect 102 3
 expect free 20
 expect reduced 0 4294967295 1 0
-expect visits 12

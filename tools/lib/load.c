@@ -32,7 +32,7 @@ static int save(struct splitter_lent *lent, size_t length) {
     for (uint32_t i = 0; i < n; i++) {
         values[i] = word_at(9 + 4 * (size_t)i);
     }
-    if (splitter_lent_start(lent, workers, values, n) != 0 || splitter_lent_tape(lent, input + from, length - from, answers, 2 * RECORDS).result != 0
+    if (splitter_lent_start(lent, workers, values, n) != 0 || splitter_lent_tape(lent, input + from, length - from, answers, 2 * RECORDS) != 0
         || splitter_lent_save(lent, image, bytes) != 0) {
         return 1;
     }

@@ -8,16 +8,14 @@ from pathlib import Path
 
 from . import log as logs
 from . import machine, part, script, shorten
-from .cli import DEFAULT, Trouble, bounded, put, say, shout, splitrun_lines
+from .cli import DEFAULT, Trouble, put, say, shout, splitrun_lines
 from .explain import REFUSED, event_words, total_words, who
 from .explain import count_words as number_words
-from .machine import LENT_PLACES
-from .soundness import MOST_PLACES
 
 ROOT = Path(__file__).resolve().parents[2]
 MOST_NODES, MOST_RECORDS = 1024, 2048  # splitrun's limits; what is longer goes through the library
 WIDEST = 40  # records in a picture
-WRITTEN, TABLE_FULL, POOL_FULL = 106, 13, 16
+WRITTEN, POOL_FULL = 106, 16
 
 
 def read_log(path):
@@ -50,8 +48,7 @@ def built_replay():
     archive = Path(os.environ.get("SPLITTER_LIB_DIR", ROOT / "target/staticlib")) / "libsplitter.a"
     source, header, program = ROOT / "host/c/replay.c", ROOT / "host/include/splitter.h", ROOT / "target/audit/replay"
     if not archive.exists():
-        why = f"--library, --places other than {LENT_PLACES}, or beyond splitrun's limits"
-        raise Trouble(f"the library must replay this log ({why}), and there is no {archive}: make lib first")
+        raise Trouble(f"the library must replay this log (--library, or beyond splitrun's limits), and there is no {archive}: make lib first")
     if program.exists() and all(program.stat().st_mtime > needed.stat().st_mtime for needed in (archive, source, header)):
         return program
     try:
@@ -70,24 +67,18 @@ def totals_of(line):
     return tuple(map(int, line.split()[1:])) if re.fullmatch("reduced( [0-9]+){4}", line) else None
 
 
-def fits_splitrun(log):
-    """Whether splitrun can replay the log: it is within the limits, and the frame table is as long as the one that splitrun lends."""
-    return log.nodes <= MOST_NODES and len(log.entries) <= MOST_RECORDS and log.places == LENT_PLACES
-
-
 def replayed(log, arguments):
-    """(who replayed the log, the two answer words of each step, the totals or None, the visits)."""
-    by_splitrun = fits_splitrun(log) and not arguments.library
-    name, program, *words = ("splitrun", arguments.splitrun) if by_splitrun else ("the library", built_replay(), str(log.places))
-    lines = splitrun_lines(program, log.start + log.records(), *words)
-    totals = totals_of(lines[-2]) if len(lines) > 1 else None
-    answers = lines[1 : -3 if totals else -2]
+    """(who replayed the log, the two answer words of each step, the totals or None)."""
+    small = log.nodes <= MOST_NODES and len(log.entries) <= MOST_RECORDS
+    name, program = ("splitrun", arguments.splitrun) if small and not arguments.library else ("the library", built_replay())
+    lines = splitrun_lines(program, log.start + log.records())
+    totals = totals_of(lines[-1]) if lines else None
+    answers = lines[1 : -2 if totals else -1]
     wrong = [line for line in answers if not re.fullmatch("[0-9]+ [0-9]+", line)]
-    wrong += [line for line in lines[-1:] if not re.fullmatch("visits [0-9]+", line)]
     if wrong or len(answers) != len(log.entries):
         shown = (wrong or lines or ["none"])[-1]
         raise Trouble(f"{name} ({program}) gave {len(lines)} lines for {len(log.entries)} steps, such as '{shown[:60]}': not splitrun's")
-    return name, [tuple(int(word) for word in line.split()) for line in answers], totals, int(lines[-1].split()[1])
+    return name, [tuple(int(word) for word in line.split()) for line in answers], totals
 
 
 def answer(event):
@@ -97,7 +88,7 @@ def answer(event):
 
 def plain(log, note_b=False):
     """A plain machine at the log's start."""
-    return machine.Machine(log.workers, log.values, log.nodes, note_b, log.places)
+    return machine.Machine(log.workers, log.values, log.nodes, note_b)
 
 
 def events_of(log, note_b=False):
@@ -112,7 +103,7 @@ def plain_totals(events):
 
 @dataclass
 class Audit:
-    """A log, who replayed it with which answers, the events by document 01's rule and by note B's, and the replay's totals and visits."""
+    """A log, who replayed it with which answers, the events by document 01's rule and by note B's, and the replay's totals."""
 
     log: logs.Log
     by: str
@@ -120,7 +111,6 @@ class Audit:
     own: list
     other: list
     totals: tuple = None
-    visits: int = 0
 
     def __post_init__(self):
         entries = self.log.entries
@@ -241,8 +231,6 @@ def verdict_words(audit, found):
         words.append("Only the free nodes differ; if the firmware has no such count, --no-free leaves it out.")
     if found.event.refusal == POOL_FULL:
         words.append(f"If the firmware has more memory than {audit.log.nodes} nodes, the log's start must say so.")
-    if TABLE_FULL in (audit.log.entries[found.at].first, found.event.refusal):
-        words.append(f"If the firmware's frame table has more or fewer places than {audit.log.places}, --places must say how many.")
     return words
 
 
@@ -286,8 +274,7 @@ def head_words(name, audit):
     half = sum(entry.recorded() and entry.second is None for entry in log.entries)
     counts = f"{number_words(len(log.entries), 'step')}, {number_words(audit.recorded(), 'answer')}"
     counts += f", {half} without the second word" if half else ""
-    places = "" if log.places == LENT_PLACES else f", {number_words(log.places, 'frame place')}"
-    return f"{name}: {log.workers} workers, {len(log.values)} splitters, {log.nodes} nodes{places}; {counts}; replayed by {audit.by}"
+    return f"{name}: {log.workers} workers, {len(log.values)} splitters, {log.nodes} nodes; {counts}; replayed by {audit.by}"
 
 
 def window(found):
@@ -322,8 +309,6 @@ def write_short(name, audit, found, path):
     if made is None:
         return put(f"no short script: the difference comes after {shorten.LONGEST} steps\n")
     nodes, records = made
-    if records is None:
-        return put(f"no short script: with the {LENT_PLACES} frame places that splitrun lends the difference does not show\n")
     write_text(path, shorten.script_of(name, audit.log, nodes, records, found.event.number))
     return put(f"short script: {len(records)} steps, in {path}\n")
 
@@ -337,19 +322,15 @@ def surprise(audit):
     totals = plain_totals(audit.own)
     if totals != audit.totals:
         say(f"totals: {audit.by} says {audit.totals}, the plain machine {totals}")
-    visits = sum(event.visits for event in audit.own) % 2**64
-    if visits != audit.visits:
-        say(f"visits: {audit.by} says {audit.visits}, the plain machine {visits}")
-    return bool(wrong) or totals != audit.totals or visits != audit.visits
+    return bool(wrong) or totals != audit.totals
 
 
 def do_audit(arguments):
     log = read_log(arguments.log)
-    log.places = arguments.places
     if arguments.no_free:
         leave_free_out(log)
-    by, answers, totals, visits = replayed(log, arguments)
-    audit = Audit(log, by, answers, events_of(log), events_of(log, note_b=True), totals, visits)
+    by, answers, totals = replayed(log, arguments)
+    audit = Audit(log, by, answers, events_of(log), events_of(log, note_b=True), totals)
     if surprise(audit):
         return shout(False)
     name = os.path.basename(arguments.log)
@@ -373,8 +354,6 @@ def add_command(commands):
     command.add_argument("log", help="the log's file, binary or text, - for standard input")
     command.add_argument("--draw", metavar="FILE", help="draw the records around the difference, as SVG")
     command.add_argument("--short", metavar="FILE", help="write a short script with the difference, for tape.py run, draw and compare-note-b")
-    table = f"the places of the firmware's frame table, 1 to {MOST_PLACES} (default {LENT_PLACES}, splitrun's; others replay through the library)"
-    command.add_argument("--places", metavar="K", type=bounded(1, MOST_PLACES), default=LENT_PLACES, help=table)
     command.add_argument("--no-free", action="store_true", help="do not compare the free nodes that a write answers")
     command.add_argument("--library", action="store_true", help="replay through the library also what splitrun could")
     command.add_argument("--splitrun", default=DEFAULT, help=f"the program (default {DEFAULT})")

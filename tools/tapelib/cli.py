@@ -17,17 +17,6 @@ class Trouble(Exception):
     """Something that the user must put right."""
 
 
-def bounded(least, most):
-    """A whole number from least to most, or a refusal."""
-
-    def read(word):
-        if not word.isascii() or not word.isdigit() or not least <= int(word) <= most:
-            raise argparse.ArgumentTypeError(f"'{word}' is not a whole number from {least} to {most}")
-        return int(word)
-
-    return read
-
-
 def to_nothing():
     """What is still to be written to standard output goes nowhere."""
     os.dup2(os.open(os.devnull, os.O_WRONLY), sys.stdout.fileno())
@@ -102,10 +91,10 @@ def fit_script(path):
     return parsed
 
 
-def splitrun_lines(path, data, *words):
-    """What splitrun prints, or a program in its place with these words, without the line ends; a missing last line end shows as a last line."""
+def splitrun_lines(path, data):
+    """What splitrun prints, without the line ends; a missing last line end shows as a last line."""
     try:
-        done = subprocess.run([path, *words], input=data, capture_output=True, timeout=60)
+        done = subprocess.run([path], input=data, capture_output=True, timeout=60)
     except FileNotFoundError:
         raise Trouble(f"splitrun cannot be run: there is no {path}; make run first, or name the program with --splitrun") from None
     except subprocess.TimeoutExpired:

@@ -354,7 +354,7 @@ class Picture(Drawing):
             self.bottom += 18
 
     def title(self):
-        size = f"{size_words(self.run)}; {self.run.lines[len(self.run.events) + 1]} at the end; {self.run.lines[-1]}"
+        size = f"{size_words(self.run)}; {self.run.lines[len(self.run.events) + 1]} at the end"
         whole = (self.first, self.last) == (1, len(self.run.events))
         return size if whole else f"{size}; records {self.first} to {self.last} of {len(self.run.events)}"
 
@@ -398,7 +398,7 @@ def label_words(event):
         return refused_words(event) + [f"refused {event.refusal}"], RED
     me = name_text(event.frame)
     if event.kind == "read":
-        return [f"read {event.low}", f"= {event.number}"] + ["remembered"] * event.known, BLACK
+        return [f"read {event.low}", f"= {event.number}"], BLACK
     if event.kind == "write":
         return [f"write {event.low}", f":= {event.value}"], BLACK
     if event.kind == "fold":

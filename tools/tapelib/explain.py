@@ -2,7 +2,7 @@
 from dataclasses import dataclass
 from itertools import zip_longest
 
-from .machine import IDENTITY, name_text, tree_nodes
+from .machine import IDENTITY, LENT_PLACES, name_text, tree_nodes
 from .script import AFFINE, Expect, about, record_line, split_input, split_records
 
 # Document 01's sentences, "Refused, in checking order"; 16 as document 02, R-2, has it; 14 is gone with R-3; 7 and 20 as R-5 has them,
@@ -20,7 +20,7 @@ REFUSED = {
     10: "The step is not a steal and the worker is idle.",
     11: "The step is a steal and the thief is not idle.",
     12: "The victim does not exist or has fewer than two frames.",
-    13: "The step is a spawn and as many frames live as the frame table has places.",
+    13: f"The step is a spawn and as many frames live as the frame table has places; splitrun lends {LENT_PLACES}.",
     15: "The step is a read or a write and the splitter is not below n.",
     16: "The step is a write and fewer nodes are free than the shared rest of its path has.",
     20: "The step is a fold and names no reducer.",
@@ -91,10 +91,10 @@ def accepted_words(event):
         waits = f"{me} has a live child and is suspended; worker {event.worker} is idle"
         return waits if event.number else f"{me} has no live child and passes"
     if kind == "read":
-        return f"{me} reads splitter {event.low}: {event.number}{visit_words(event)}"
+        return f"{me} reads splitter {event.low}: {event.number}"
     if kind == "fold":
         return fold_words(event)
-    return f"{me} writes {event.value} to splitter {event.low}{new_words(event.new)}{visit_words(event)}"
+    return f"{me} writes {event.value} to splitter {event.low}{new_words(event.new)}"
 
 
 def count_words(count, what):
@@ -107,26 +107,18 @@ def new_words(new):
     return f", with {count_words(new, 'new node')}" if new else ", in place"
 
 
-def visit_words(event):
-    """How many nodes a read or a write visits."""
-    return f", {'remembered: ' if event.known else ''}{count_words(event.visits, 'node')} visited"
-
-
 def short_words(event):
-    """What there was too little of, where a spawn was refused by 13 or a write by 16."""
-    if event.refusal == 13:
-        return f" It has {event.places}."
-    if event.refusal == 16:
-        return f" The rest has {count_words(event.new, 'node')}, {event.free} {'is' if event.free == 1 else 'are'} free."
-    return ""
+    """Why a write was refused by 16."""
+    return f" The rest has {count_words(event.new, 'node')}, {event.free} {'is' if event.free == 1 else 'are'} free."
 
 
 def event_words(event):
     """What the record did, and the free nodes after it."""
     if not event.refusal:
         return f"{accepted_words(event)}. Free nodes: {event.free}"
+    short = short_words(event) if event.refusal == 16 else ""
     bottom = f" (bottom frame: {name_text(event.frame)})" if event.frame is not None else ""
-    return f"refused {event.refusal}: {REFUSED[event.refusal]}{short_words(event)}{bottom} Nothing changes. Free nodes: {event.free}"
+    return f"refused {event.refusal}: {REFUSED[event.refusal]}{short}{bottom} Nothing changes. Free nodes: {event.free}"
 
 
 def size_words(run):
@@ -153,8 +145,7 @@ def run_words(run):
         return words + [f"the call is refused whole, number {run.refused}: {REFUSED[run.refused]}"]
     over = "Main has returned" if run.totals else "Main has not returned"
     words += [event_words(event) for event in run.events] + [f"the free nodes at the end; {over}"]
-    words += [f"the totals: {total_words(run.totals)}"] if run.totals else []
-    return words + ["the nodes that reads and writes visited"]
+    return words + ([f"the totals: {total_words(run.totals)}"] if run.totals else [])
 
 
 def total_words(totals):
@@ -187,8 +178,8 @@ def step_texts(data, run):
 
 
 def table(rows):
-    """Rows of texts in columns, the last column free. The lines `reduced` and `visits` are long and widen no column."""
-    widths = [max(len(row[at]) for row in rows if not row[at].startswith(("reduced", "visits"))) for at in range(len(rows[0]) - 1)]
+    """Rows of texts in columns, the last column free. The line `reduced` is long and widens no column."""
+    widths = [max(len(row[at]) for row in rows if not row[at].startswith("reduced")) for at in range(len(rows[0]) - 1)]
     return ["  ".join([*(c.ljust(w) for c, w in zip(row, widths)), row[-1]]).rstrip() for row in rows]
 
 

@@ -3,7 +3,6 @@ import struct
 from dataclasses import dataclass
 
 from . import script
-from .machine import LENT_PLACES
 
 ENTRY = 16  # bytes: the record, then its two answer words
 NONE = 0xFFFFFFFF  # an answer word that was not recorded
@@ -38,12 +37,10 @@ class Entry:
 
 @dataclass
 class Log:
-    """A whole log; start is splitrun's header with the initial values, as bytes. places, those of the firmware's frame table, are not in
-    its file."""
+    """A whole log; start is splitrun's header with the initial values, as bytes."""
 
     start: bytes
     entries: list
-    places: int = LENT_PLACES
 
     def __post_init__(self):
         self.workers, self.nodes, self.values, _ = script.split_input(self.start)

@@ -1,4 +1,4 @@
-"""The plain machine of documents 01 and 02 (R-2, R-3, R-5, R-6, R-10), and the lines that splitrun must print.
+"""The plain machine of documents 01 and 02 (R-2, R-3, R-5, R-6), and the lines that splitrun must print.
 
 With note_b=True the machine has the bug of integration note B: a frame that resumes after its last
 child takes that child's values."""
@@ -9,7 +9,7 @@ from itertools import groupby
 
 from .script import AFFINE, NAMES, REDUCERS, is_step, split_input, split_records
 
-LENT_PLACES = 64  # of the frame table that splitrun lends
+LENT_PLACES = 64  # of the frame table that splitrun lends, and host/c/replay.c
 # Splitrun's limits (document 01): past one of them it prints `unfit`.
 MOST_SPLITTERS, MOST_NODES, MOST_BYTES = 256, 1024, 16384
 # A view, and the totals: the sum, the minimum, the multiplier and the addend.
@@ -60,8 +60,7 @@ class Event:
     frames that a return ended, child first: its own, and those that waited as returning. new is the number of
     new nodes of a write, also of one refused by 16: the shared rest of its path. view is the frame's view after a
     fold, the one that a child inherits, or that of the frames that a return ends, which joins the view of the frame
-    joined, or is the totals. visits is the number of nodes that an accepted read or write visits; known, whether the
-    worker of a read remembered its leaf. places has those of the frame table, for a spawn refused by 13."""
+    joined, or is the totals."""
 
     record: bytes
     worker: int
@@ -76,11 +75,8 @@ class Event:
     new: int = 0
     view: tuple = IDENTITY
     joined: tuple = None
-    visits: int = 0
-    known: bool = False
     free: int = 0
     bottoms: tuple = ()
-    places: int = 0
 
     def answer(self):
         if self.refusal:
@@ -119,8 +115,6 @@ class Machine:
         main = Frame((), values, [[0] * ((self.n + 2**level - 1) >> level) for level in range(height(self.n) + 1)])
         self.frames = {(): main}
         self.deques = [[] for _ in range(workers)]
-        self.remembered = [set() for _ in range(workers)]  # of each worker, the splitters whose leaf it remembers
-        self.visits = 0
         self.deques[0].append(main)
         self.hold(main.triples())
 
@@ -160,7 +154,6 @@ class Machine:
         if kind == "steal":
             return self.steal_refusal(deque, event.low)
         if kind == "spawn" and len(self.frames) >= self.places:
-            event.places = self.places
             return 13
         if kind in ("read", "write") and event.low >= self.n:
             return 15
@@ -191,20 +184,8 @@ class Machine:
         event = self.look(record)
         if not event.refusal:
             getattr(self, "do_" + event.kind)(event, self.deques[event.worker])
-            self.visit(event, self.remembered[event.worker])
         event.free, event.bottoms = self.free, self.bottoms()
         return event
-
-    def visit(self, event, remembered):
-        """R-10: a worker remembers what it has read or written, and an accepted spawn, return, steal or sync of its own empties that. A
-        read of a remembered splitter visits 1 node, other reads and all writes visit H + 1."""
-        if event.kind in ("read", "write"):
-            event.known = event.kind == "read" and event.low in remembered
-            event.visits = 1 if event.known else height(self.n) + 1
-            remembered.add(event.low)
-        elif event.kind != "fold":
-            remembered.clear()
-        self.visits = (self.visits + event.visits) % 2**64
 
     def do_spawn(self, event, deque):
         parent = deque[-1]
@@ -308,7 +289,6 @@ class Run:
     values: tuple = ()
     nodes: int = 0
     totals: tuple = None
-    visits: int = 0
 
 
 def whole_refusal(workers, values, nodes, tail):
@@ -362,6 +342,4 @@ def run(data, note_b=False):
     result.totals = machine.totals
     if result.totals:
         result.lines.append(" ".join(map(str, ("reduced", *result.totals))))
-    result.visits = machine.visits
-    result.lines.append(f"visits {result.visits}")
     return result

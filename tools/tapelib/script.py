@@ -32,7 +32,7 @@ MARKS = (
 )
 DECIMAL = re.compile(r"[0-9]{1,20}")
 # Splitrun's lines after the records', with the numbers that each has.
-LAST_LINES = {"free": 1, "refused": 1, "reduced": 4, "visits": 1}
+LAST_LINES = {"free": 1, "refused": 1, "reduced": 4}
 
 
 class ScriptError(Exception):
@@ -174,7 +174,7 @@ def expected_text(line, words):
     """The answer after `expect`, as splitrun prints it."""
     name = words[0] if words and words[0] in LAST_LINES else ""
     if len(words) != (1 + LAST_LINES[name] if name else 2):
-        last = "free N, refused N, reduced SUM MIN MULTIPLIER ADDEND or visits N"
+        last = "free N, refused N or reduced SUM MIN MULTIPLIER ADDEND"
         raise ScriptError(line, f"expect takes an answer's two words, such as 105 50, or {last}")
     numbers = [str(number(line, word, "an expected number", 0xFFFFFFFF)) for word in words[bool(name) :]]
     return " ".join([name, *numbers] if name else numbers)

@@ -40,7 +40,7 @@ def worker_of(stepping, act, name):
 
 def rebuilt(acts, log):
     """(records, the last event) of these steps alone; None where one of them cannot be taken."""
-    stepping, names, records, event = machine.Machine(log.workers, log.values, log.nodes, places=log.places), {(): ()}, [], None
+    stepping, names, records, event = machine.Machine(log.workers, log.values, log.nodes), {(): ()}, [], None
     for act in acts:
         name = names.get(act.frame)
         if act.event.kind == "steal" and name in stepping.bottoms():
@@ -61,7 +61,7 @@ def still_shows(acts, log, right, wrong):
     made = rebuilt(acts, log)
     if made is None or made[1].number != right:
         return None
-    stepping = machine.Machine(log.workers, log.values, log.nodes, note_b=True, places=log.places)
+    stepping = machine.Machine(log.workers, log.values, log.nodes, note_b=True)
     last = [stepping.step(record) for _, record in made[0]][-1]
     return made[0] if not last.refusal and last.number == wrong else None
 
@@ -86,15 +86,14 @@ def shortened(acts, log, right, wrong):
 
 
 def with_nodes(log, nodes):
-    """The log with another pool, and with the frame table that splitrun lends."""
+    """The log with another pool."""
     other = copy.copy(log)
-    other.nodes, other.places = nodes, machine.LENT_PLACES
+    other.nodes = nodes
     return other
 
 
 def short_records(log, events, at):
-    """(nodes, (place in the log, record) for each step) of the short tape that ends with the read; None where the log is too long. The
-    steps are None where splitrun's frame table is too short for them."""
+    """(nodes, (place in the log, record) for each step) of the short tape that ends with the read; None where the log is too long."""
     if at >= LONGEST:
         return None
     acts = [Act(place, event) for place, event in enumerate(events[: at + 1]) if not event.refusal]
@@ -102,7 +101,7 @@ def short_records(log, events, at):
     acts = shortened(acts, log, right, wrong)
     fit = with_nodes(log, min(log.nodes, SPLITRUN_NODES))
     records = still_shows(acts, fit, right, wrong)
-    return (fit.nodes, records) if records else (log.nodes, still_shows(acts, with_nodes(log, log.nodes), right, wrong))
+    return (fit.nodes, records) if records else (log.nodes, still_shows(acts, log, right, wrong))
 
 
 def script_of(name, log, nodes, records, right):

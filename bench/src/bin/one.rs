@@ -11,7 +11,7 @@ use std::process::ExitCode;
 
 const USAGE: &str = "\
 one PEER WORKLOAD N PLACES [rest]
-one PEER check|check_parts N NODES PLACES FRAMES WRITES LINES READERS
+one PEER check N NODES PLACES FRAMES WRITES LINES
 one PEER pool WORKLOAD N NODES [rest]
 one PEER steps WORKLOAD N NODES
 one PEER filled FILLING
@@ -19,7 +19,7 @@ one PEER full_steps|full_tape STEP
 one PEER kind KIND PLACES [rest]
 one PEER report WORKLOAD N [rest]
 one PEER convert convert|refused|pack|check|copy POOL
-one PEER save|load|bare_save|bare_load|checks|copy N NODES PLACES FRAMES WRITES LINES READERS";
+one PEER save|load|bare_save|bare_load|checks|copy N NODES PLACES FRAMES WRITES LINES";
 
 fn main() -> ExitCode {
     let words: Vec<String> = env::args().skip(1).collect();

@@ -10,4 +10,3 @@ pub mod pack_nodes
 pub mod fit
 pub mod unfit
 pub mod convert_on
-pub mod clear_all

@@ -5,9 +5,8 @@ use mathlib.Core.Bool.{Bool, true, false, cond}
 use mathlib.Core.List.{List}
 use Prim.Native.Nat.{ℕ, ◌*◌, ◌≤◌}
 use native.Mathlib.Omega.{arith}
-use lib.Dec.{leb, eqb}
-use lib.ListN.{length, replicate}
-use borrow.Author.Tests.{eq-eqb, ne_eqb}
+use lib.Dec.{leb}
+use lib.ListN.{length}
 use Rattle.frames.specs.declared.Frame.{Frame}
 use Rattle.soundness.specs.declared.Numbers.{Numbers}
 use Rattle.soundness.specs.declared.Checked.{Checked}
@@ -16,15 +15,12 @@ use Rattle.soundness.specs.Numbers.{numbers_in, totals_in}
 use Rattle.soundness.specs.Soundness.{checked}
 use Rattle.soundness.specs.Layout.{four_words}
 use Rattle.packed.specs.Pack.{converted}
-use Rattle.semantics.specs.Entries.{State, numbers_of, is_sound, chain_free}
-use Rattle.semantics.specs.Convert.{ConvertResult, convert_checked, convert_with}
-use Rattle.semantics.specs.Promises.{parts, IsConvert, IsConvertWith}
-use Rattle.semantics.specs.Remembering.{fits_with, convert_remembering}
+use Rattle.semantics.specs.Entries.{State, fits, numbers_of, is_sound, chain_free}
+use Rattle.semantics.specs.Convert.{ConvertResult, convert_checked, convert_with, convert_on}
+use Rattle.semantics.specs.Promises.{parts, IsConvert}
 use Rattle.semantics.specs.Theory.Images.{sound_room}
 use Rattle.semantics.specs.Theory.WorkSlice.{no_room_keeps}
 use Rattle.engine.specs.Promises.{check_number}
-use Rattle.engine.proofs.Fitting.{fit_memory}
-use Rattle.engine.proofs.Remembered.{zeroed}
 use Rattle.conversion.specs.Promises.{IsOldCheck}
 
 -- a check that refuses nothing found state and pool sound
@@ -71,23 +67,11 @@ module _ (ns ds : List ℕ) (fs : List Frame) (ws ks : List ℕ) (k : Checked) (
 
 -- ---- the parts do not fit, or what was done
 
-module _ (ns ds : List ℕ) (fs : List Frame) (ms : List ℕ) (b : Bool) (eb : b ≡ fits_with (parts ns ds fs) ms) (ws ks : List ℕ) where
-  pub convert_unfit : b ≡ false → (r : ℕ) → r ≡ 99 → IsConvertWith (convert_remembering (parts ns ds fs) ms ws ks) ms ws ks r
-  unfolding convert_remembering
-  convert_unfit f r e = rw (sym eb ∙ f) (record { call = record { result = e; pool = refl; work = refl }; memory = refl })
+module _ (ns ds : List ℕ) (fs : List Frame) (b : Bool) (eb : b ≡ fits (parts ns ds fs)) where
+  pub convert_unfit : b ≡ false → (ws ks : List ℕ) (r : ℕ) → r ≡ 99 → IsConvert (convert_on (parts ns ds fs) ws ks) ws ks r
+  unfolding convert_on
+  convert_unfit f ws ks r e = rw (sym eb ∙ f) (record { result = e; pool = refl; work = refl })
 
-  module _ (t : b ≡ true) (ws' ks' : List ℕ) (r : ℕ) (o : IsConvert (convert_with (parts ns ds fs) ws ks) ws' ks' r) where
-    -- refused, the memory is left
-    pub convert_left : r ≢ 0 → IsConvertWith (convert_remembering (parts ns ds fs) ms ws ks) ms ws' ks' r
-    unfolding convert_remembering
-    convert_left n =
-        let f : eqb (convert_with (parts ns ds fs) ws ks).result 0 ≡ false = ne_eqb (convert_with (parts ns ds fs) ws ks).result 0 (λ z. n (o.result ∙ z)) in
-        rw (sym eb ∙ t, f) (record { call = o; memory = refl })
-
-    -- and else it is zero
-    pub convert_empty : r ≡ 0 → (ms' : List ℕ) → ms' ≡ replicate (length ms) 0 → IsConvertWith (convert_remembering (parts ns ds fs) ms ws ks) ms' ws' ks' 0
-    unfolding convert_remembering
-    convert_empty z ms' em =
-        let y : (convert_with (parts ns ds fs) ws ks).result ≡ 0 = sym o.result ∙ z in
-        let done : IsConvert (convert_with (parts ns ds fs) ws ks) ws' ks' 0 = record { result = sym y; pool = o.pool; work = o.work } in
-        rw (sym eb ∙ t, eq-eqb (convert_with (parts ns ds fs) ws ks).result 0 y) (record { call = done; memory = zeroed ms ms' (fit_memory ns ds fs ms b eb t) em })
+  pub convert_fit : b ≡ true → (ws ks ws' ks' : List ℕ) (r : ℕ) → IsConvert (convert_with (parts ns ds fs) ws ks) ws' ks' r → IsConvert (convert_on (parts ns ds fs) ws ks) ws' ks' r
+  unfolding convert_on
+  convert_fit t ws ks ws' ks' r o = rw (sym eb ∙ t) o

@@ -1,8 +1,7 @@
 // R-9: the change-over of a sound state in the middle of a search, from a pool of four-word nodes to one of two-word nodes in the front of the same words.
 // It asks nothing of its caller; its contract is an equation with a definition of the crate semantics.
-ghost use Rattle.semantics.specs.Convert.{convert_with};
-ghost use Rattle.semantics.specs.Promises.{parts, Fits, IsConvert, IsConvertWith};
-ghost use Rattle.semantics.specs.Remembering.{convert_remembering};
+ghost use Rattle.semantics.specs.Convert.{convert_on, convert_with};
+ghost use Rattle.semantics.specs.Promises.{parts, Fits, IsConvert};
 
 mod checking;
 mod pack;
@@ -11,7 +10,6 @@ use checking::check_old;
 use engine::{check_number, fit, numbers_in, unfit};
 use frames::Frame;
 use pack::pack_nodes;
-use words::clear_all;
 
 // "The call checks 5, then 6; a state refused so is left, and its pool too."
 pub fn convert_on(
@@ -34,26 +32,19 @@ pub fn convert_on(
     0
 }
 
-// A part of the state that has another length than it must have is refused first, by 99, and nothing changes. What is lent for the memory (R-10) may hold
-// anything: a state of the old layout has none. It is zero once the pool is changed over.
+// A part of the state that has another length than it must have is refused first, by 99, and nothing changes.
 pub fn convert(
     numbers: &[u32],
     deques: &[u32],
     frames: &[Frame],
-    memory: &mut [u32],
     pool: &mut [u32],
     work: &mut [u32],
 ) -> u32
-    ensures { IsConvertWith (convert_remembering (parts numbers.now deques.now frames.now) memory.old pool.old work.old)
-        memory.new pool.new work.new result }
+    ensures { IsConvert (convert_on (parts numbers.now deques.now frames.now) pool.old work.old)
+        pool.new work.new result }
 {
-    if !fit(numbers, deques, memory) {
+    if !fit(numbers, deques) {
         return unfit();
     }
-    let refused = convert_on(numbers, deques, frames, pool, work);
-    if refused != 0 {
-        return refused;
-    }
-    clear_all(memory);
-    0
+    convert_on(numbers, deques, frames, pool, work)
 }

@@ -1,11 +1,12 @@
--- A core that is ready is ready with any totals, and so is its memory: no index of a step's code depends on them.
-use Rattle.std.proofs.Common.{ℕ, zero, suc, List}
+-- A core that is ready is ready with any totals: no index of a step's code depends on them.
+use mathlib.Core.List.{List}
+use Prim.Native.Nat.{ℕ, zero, suc}
 use Rattle.frames.specs.Deques.{bottom, pop}
 use Rattle.frames.specs.declared.Frame.{Frame}
 use Rattle.frames.specs.Frames.{frame_at}
 use Rattle.semantics.specs.declared.Head.{Head}
 use Rattle.semantics.specs.Core.{end_at}
-use Rattle.semantics.specs.Ranges.{EndsUpward, Ready, Recalls}
+use Rattle.semantics.specs.Ranges.{EndsUpward, Ready}
 use Rattle.engine.specs.Promises.{core}
 use Rattle.soundness.specs.Layout.{two_words}
 
@@ -49,6 +50,3 @@ ready_any h ts us ds fs ws r = record {
   path = r.path;
   writes = r.writes;
 }
-
-pub recalls_any : (h : Head) (ts us ds : List ℕ) (fs : List Frame) (ws ms : List ℕ) → Recalls (core h ts ds fs ws) ms → Recalls (core h us ds fs ws) ms
-recalls_any h ts us ds fs ws ms r = record { long = r.long; bases = r.bases; right = r.right; leaf = r.leaf; written = r.written }

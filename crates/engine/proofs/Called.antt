@@ -6,6 +6,7 @@ pub mod spawned
 pub mod sync_frame
 pub mod waited
 pub mod no_splitter
+pub mod read_at
 pub mod unchanged
 pub mod first_shared
 pub mod set_value
@@ -75,6 +76,7 @@ pub mod totals_right
 pub mod check_pool
 pub mod unfit_tape
 pub mod refusal_number
+pub mod check_state
 pub mod check_number
 pub mod free_in
 pub mod run_on
@@ -114,17 +116,3 @@ pub mod report_refusal
 pub mod report_run
 pub mod fit_report
 pub mod report_on
-pub mod visited
-pub mod recall
-pub mod leaf_value
-pub mod find_leaf
-pub mod remember
-pub mod empties
-pub mod empty
-pub mod ran
-pub mod add_visits
-pub mod taped
-pub mod check_parts
-pub mod check_memory
-pub mod write_new
-pub mod check_leaves

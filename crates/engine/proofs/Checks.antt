@@ -1,6 +1,12 @@
 -- The check's ways out, over plain variables, in a layout L: this crate's check is of two-word nodes, that of crate conversion of four-word nodes.
-use Rattle.std.proofs.Common.{◌≡◌, ℕ, suc, ◌*◌, ◌<◌, ◌≤◌, Bool, true, false, cond, ◌&&◌, ◌||◌, eqb, leb, List, length, get_or, sym, refl, ap, ◌∙◌, subst, arith, eqb-true, le-leb, leb-true}
-use borrow.Author.Tests.{lt-leb}
+use mathlib.Core.Path.{◌≡◌, refl, sym, ap, subst, ◌∙◌}
+use mathlib.Core.Bool.{Bool, true, false, cond, ◌&&◌, ◌||◌}
+use mathlib.Core.List.{List}
+use Prim.Native.Nat.{ℕ, suc, ◌*◌, ◌≤◌, ◌<◌}
+use native.Mathlib.Omega.{arith}
+use lib.Dec.{eqb, leb}
+use lib.ListN.{length, get_or}
+use borrow.Author.Tests.{le-leb, lt-leb, leb-true, eqb-true}
 use Rattle.words.specs.Basics.{all}
 use Rattle.words.specs.Tests.{both, true≢false}
 use Rattle.sizes.specs.Sizes.{tree_nodes}

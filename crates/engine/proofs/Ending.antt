@@ -1,5 +1,13 @@
 -- A return's ways out, and the turns of its ends upward, over plain variables.
-use Rattle.std.proofs.Common.{◌≡◌, ℕ, suc, ◌-◌, ◌*◌, ◌<◌, ◌≤◌, true, false, cond, eqb, ◌≢◌, List, length, sym, refl, ap, ◌∙◌, subst, inl, inr, arith, eq-eqb, ne_eqb}
+use mathlib.Core.Path.{◌≡◌, refl, sym, ap, ◌∙◌, subst}
+use mathlib.Core.Logic.{◌≢◌, inl, inr}
+use mathlib.Core.Bool.{true, false, cond}
+use mathlib.Core.List.{List}
+use Prim.Native.Nat.{ℕ, suc, ◌-◌, ◌*◌, ◌≤◌, ◌<◌}
+use native.Mathlib.Omega.{arith}
+use lib.Dec.{eqb}
+use lib.ListN.{length}
+use borrow.Author.Tests.{eq-eqb, ne_eqb}
 use Rattle.words.specs.Basics.{none}
 use Rattle.reducers.specs.Reducers.{view_words}
 use Rattle.packed.specs.Pool.{release}
@@ -62,14 +70,14 @@ module _ (h : Head) (ts ds : List ℕ) (fs : List Frame) (ws : List ℕ) (w n no
       abbrev after : Core
       after = core (renewed h node₁ p count₁) ts₁ ds fs₁ ws₁
 
-      after_is_lem : end_at two_words before p ≡ after
+      after_is : end_at two_words before p ≡ after
       unfolding end_at
-      after_is_lem = rw (er.0, er.1, er.2, e₁, et, eo, eq)
+      after_is = rw (er.0, er.1, er.2, e₁, et, eo, eq)
 
       -- the other frames of the deque go on
       pub continues : (o : Out) → n ≢ 1 → LeavesEnded o node₁ p count₁ Continued → Leaves h o ts₁ ds fs₁ ws₁ (ends_from before w p)
       continues o z u =
-          let e : returned after Continued ≡ ends_from before w p = rw (ne_eqb (size ds w) 0 (λ y. z (r.has ∙ ap suc y)), after_is_lem) in
+          let e : returned after Continued ≡ ends_from before w p = rw (ne_eqb (size ds w) 0 (λ y. z (r.has ∙ ap suc y)), after_is) in
           ends_in h o ts₁ ds fs₁ ws₁ node₁ p count₁ Continued (ends_from before w p) u e
 
       module _ (z : n ≡ 1) where
@@ -77,7 +85,7 @@ module _ (h : Head) (ts ds : List ℕ) (fs : List Frame) (ws : List ℕ) (w n no
         alone = omega (arith, z, r.has)
 
         ends_is : ends_from before w p ≡ upward two_words (frame_at fs p).depth after w q
-        ends_is = rw (eq-eqb (size ds w) 0 alone, after_is_lem, eq)
+        ends_is = rw (eq-eqb (size ds w) 0 alone, after_is, eq)
 
         module _ (m : q ≢ none) where
           deep : 0 < (frame_at fs p).depth
@@ -90,7 +98,7 @@ module _ (h : Head) (ts ds : List ℕ) (fs : List Frame) (ws : List ℕ) (w n no
           rises : EndsUpward (suc ((frame_at fs p).depth - 1)) after q
           rises =
               subst (λ (d : ℕ). EndsUpward d after q) depth_is
-              (subst (λ (c : Core). EndsUpward (frame_at fs p).depth c q) after_is_lem (subst (λ (x : ℕ). EndsUpward (frame_at fs p).depth (end_at two_words before p) x) (sym eq) r.upward))
+              (subst (λ (c : Core). EndsUpward (frame_at fs p).depth c q) after_is (subst (λ (x : ℕ). EndsUpward (frame_at fs p).depth (end_at two_words before p) x) (sym eq) r.upward))
 
           pub parent_asks : q < length fs₁
           parent_asks = rises.0

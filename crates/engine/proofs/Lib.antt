@@ -2,12 +2,10 @@ pub mod AnyTotals
 pub mod Laws
 pub mod NumberWords
 pub mod Steps
-pub mod Remembering
 pub mod Ending
 pub mod Turns
 pub mod Passing
 pub mod Called
-pub mod Remembered
 pub mod Checks
 pub mod Taping
 pub mod Timing

@@ -1,5 +1,11 @@
 -- The words of the numbers and of the totals behind them, stored one by one.
-use Rattle.std.proofs.Common.{◌≡◌, ℕ, ◌&&◌, eqb, List, [], ◌∷◌, length, get_or, set, replicate, refl, arith}
+use mathlib.Core.Path.{◌≡◌, refl}
+use mathlib.Core.Bool.{◌&&◌}
+use mathlib.Core.List.{List, [], ◌∷◌}
+use Prim.Native.Nat.{ℕ}
+use native.Mathlib.Omega.{arith}
+use lib.Dec.{eqb}
+use lib.ListN.{length, get_or, set, replicate}
 use Rattle.words.specs.Basics.{all}
 use Rattle.soundness.specs.Numbers.{total_count, number_count, numbers_in, number_words, totals_in, set_free_node, set_free_place}
 

@@ -1,22 +1,27 @@
 -- R-7: a report's ways out, over plain variables.
-use Rattle.std.proofs.Common.{◌≡◌, ℕ, ◌*◌, ◌/◌, ◌%◌, ◌<◌, ◌≤◌, Bool, true, false, cond, ◌&&◌, eqb, ltb, ◌≢◌, List, [], ◌∷◌, ◌++◌, length, get_or, replicate, sym, refl, ap, ◌∙◌, subst, inl, inr, arith, le-ltb, lt-ltb, eq-eqb, ne_eqb, eqb-true}
+use mathlib.Core.Path.{◌≡◌, refl, sym, ap, subst, ◌∙◌}
+use mathlib.Core.Logic.{◌≢◌, inl, inr}
+use mathlib.Core.Bool.{Bool, true, false, cond, ◌&&◌}
+use mathlib.Core.List.{List, [], ◌∷◌, ◌++◌}
+use Prim.Native.Nat.{ℕ, ◌*◌, ◌/◌, ◌%◌, ◌≤◌, ◌<◌}
+use native.Mathlib.Omega.{arith}
 use native.Mathlib.Decide.{ℕ_discrete}
+use lib.Dec.{eqb, ltb}
+use lib.ListN.{length, get_or, replicate}
+use borrow.Author.Tests.{eq-eqb, ne_eqb, eqb-true, lt-ltb, le-ltb}
 use Rattle.words.specs.Tests.{decided, both, ge_of}
 use Rattle.frames.specs.declared.Frame.{Frame}
-use Rattle.memory.specs.Memory.{memory_words, no_memory}
 use Rattle.soundness.specs.declared.Checked.{Checked}
 use Rattle.soundness.specs.declared.Checked.TheVariants.{Sound}
 use Rattle.semantics.specs.declared.Refusal.{Refusal}
 use Rattle.semantics.specs.declared.Refusal.TheVariants.{Tape, Work, Span}
 use Rattle.semantics.specs.Answers.{refusal_number}
 use Rattle.semantics.specs.Entries.{State, zeros, fits, whole_nodes, chain_free, core_of, checked_state, StartResult, start_with, TapeResult, tape_with, records_result, records_of, run_on, unfit_tape}
-use Rattle.semantics.specs.Promises.{parts, lent, Fits, IsStart, IsTape, IsReport, IsReportWith}
-use Rattle.semantics.specs.Ranges.{Kept, Remembers}
-use Rattle.semantics.specs.Remembering.{fits_with, memory_over, memory_checked, report_memory, report_remembering}
-use Rattle.semantics.specs.Report.{ReportResult, report_words, report_refused, report_done, report_started, timing_of, report_with}
+use Rattle.semantics.specs.Promises.{parts, lent, Fits, IsStart, IsTape, IsReport}
+use Rattle.semantics.specs.Ranges.{Kept}
+use Rattle.semantics.specs.Report.{ReportResult, report_words, report_refused, report_done, report_started, timing_of, report_with, report_on}
 use Rattle.semantics.specs.Timing.{Timing, timing_at_start, timed_over}
-use Rattle.semantics.specs.Theory.MemoryKept.{remembers_none}
-use Rattle.semantics.specs.Theory.TimedWords.{started-checked, started-fits, at_most_start}
+use Rattle.semantics.specs.Theory.TimedWords.{started_checked, started_fits, at_most_start}
 use Rattle.timing.specs.Turns.{timing}
 use Rattle.engine.specs.Promises.{IsCheck, IsRun, check_number, free_in, refusal_by, start_tests, report_tests}
 use Rattle.engine.proofs.Steps.{refusal-some}
@@ -79,39 +84,35 @@ module _ (workers : ℕ) (vs ns ds : List ℕ) (fs : List Frame) (ws ks tape rs 
     rest_is : k ≡ refusal_by tape_tests
     rest_is = ek ∙ sym (passed_before (start_tests workers (length vs) (length fs) (whole_nodes two_words ws)) tape_tests z)
 
-  module _ (n : k ≢ 0) (ns' ds' ms : List ℕ) (F : Fits (parts ns ds fs)) (e₁ : ns' ≡ replicate (length ns) 0) (e₂ : ds' ≡ replicate (length ds) 0) (em : ms ≡ no_memory) where
+  module _ (n : k ≢ 0) (ns' ds' : List ℕ) (F : Fits (parts ns ds fs)) (e₁ : ns' ≡ replicate (length ns) 0) (e₂ : ds' ≡ replicate (length ds) 0) where
     cleared : parts ns' ds' fs ≡ zeros fs
     cleared = rw (e₁, e₂, F.numbers, F.deques)
 
-    by_number : (r : ℕ) → k ≡ r → report_refused (parts ns ds fs) ws (lent ks rs cs qs) r ≡ report_with two_words (parts ns ds fs) workers vs ws tape (lent ks rs cs qs) → no_memory ≡ report_memory two_words (parts ns ds fs) workers vs ws tape (lent ks rs cs qs)
-        → IsReport (report_with two_words (parts ns ds fs) workers vs ws tape (lent ks rs cs qs)) ns' ds' fs ws ks rs cs qs k × (ms ≡ report_memory two_words (parts ns ds fs) workers vs ws tape (lent ks rs cs qs))
-    by_number r e o m = (
-      record { result = e ∙ ap (λ (q : ReportResult). q.result) o; state = cleared ∙ ap (λ (q : ReportResult). q.state) o; pool = ap (λ (q : ReportResult). q.pool) o; lent = ap (λ (q : ReportResult). q.lent) o },
-      em ∙ m,
-    )
+    by_number : (r : ℕ) → k ≡ r → report_refused (parts ns ds fs) ws (lent ks rs cs qs) r ≡ report_with two_words (parts ns ds fs) workers vs ws tape (lent ks rs cs qs)
+        → IsReport (report_with two_words (parts ns ds fs) workers vs ws tape (lent ks rs cs qs)) ns' ds' fs ws ks rs cs qs k
+    by_number r e o = record { result = e ∙ ap (λ (q : ReportResult). q.result) o; state = cleared ∙ ap (λ (q : ReportResult). q.state) o; pool = ap (λ (q : ReportResult). q.pool) o; lent = ap (λ (q : ReportResult). q.lent) o }
 
-    start_refuses : start_number ≢ 0 → IsReport (report_with two_words (parts ns ds fs) workers vs ws tape (lent ks rs cs qs)) ns' ds' fs ws ks rs cs qs k × (ms ≡ report_memory two_words (parts ns ds fs) workers vs ws tape (lent ks rs cs qs))
-    unfolding report_with report_memory
+    start_refuses : start_number ≢ 0 → IsReport (report_with two_words (parts ns ds fs) workers vs ws tape (lent ks rs cs qs)) ns' ds' fs ws ks rs cs qs k
+    unfolding report_with
     start_refuses m =
         let S : IsStart (start_with two_words workers vs fs ws) ns' ds' fs ws start_number = start_refused_lem workers vs fs ws (whole_nodes two_words ws) refl start_number refl m ns ds ns' ds' F e₁ e₂ in
         let e : k ≡ start_number = ek ∙ sym (refused_before (start_tests workers (length vs) (length fs) (whole_nodes two_words ws)) tape_tests m) in
-        let f : eqb (start_with two_words workers vs fs ws).result 0 ≡ false = ne_eqb (start_with two_words workers vs fs ws).result 0 (λ z. m (S.result ∙ z)) in
-        by_number (start_with two_words workers vs fs ws).result (e ∙ S.result) (rw f) (rw f)
+        by_number (start_with two_words workers vs fs ws).result (e ∙ S.result) (rw (ne_eqb (start_with two_words workers vs fs ws).result 0 (λ z. m (S.result ∙ z))))
 
-    tape_refuses : start_number ≡ 0 → IsReport (report_with two_words (parts ns ds fs) workers vs ws tape (lent ks rs cs qs)) ns' ds' fs ws ks rs cs qs k × (ms ≡ report_memory two_words (parts ns ds fs) workers vs ws tape (lent ks rs cs qs))
-    unfolding report_with report_memory
+    tape_refuses : start_number ≡ 0 → IsReport (report_with two_words (parts ns ds fs) workers vs ws tape (lent ks rs cs qs)) ns' ds' fs ws ks rs cs qs k
+    unfolding report_with
     tape_refuses z =
         let t : eqb (start_with two_words workers vs fs ws).result 0 ≡ true = eq-eqb (start_with two_words workers vs fs ws).result 0 (taken z) in
         let e : k ≡ refusal_by tape_tests = rest_is z in
         elim (decided (unfit_tape tape rs)) [
-          | inl u ↦ by_number (refusal_number Tape) (let q : refusal_by tape_tests ≡ refusal_number Tape = rw u in e ∙ q) (rw (t, u)) (rw (t, u))
+          | inl u ↦ by_number (refusal_number Tape) (let q : refusal_by tape_tests ≡ refusal_number Tape = rw u in e ∙ q) (rw (t, u))
           | inr u ↦ elim (decided (ltb (length ks) (whole_nodes two_words ws))) [
-            | inl v ↦ by_number (refusal_number Work) (let q : refusal_by tape_tests ≡ refusal_number Work = rw (u, v) in e ∙ q) (rw (t, u, v)) (rw (t, u, v))
+            | inl v ↦ by_number (refusal_number Work) (let q : refusal_by tape_tests ≡ refusal_number Work = rw (u, v) in e ∙ q) (rw (t, u, v))
             | inr v ↦ absurd (n (let q : refusal_by tape_tests ≡ 0 = rw (u, v) in e ∙ q))
           ]
         ]
 
-    pub report_refused_lem : IsReport (report_with two_words (parts ns ds fs) workers vs ws tape (lent ks rs cs qs)) ns' ds' fs ws ks rs cs qs k × (ms ≡ report_memory two_words (parts ns ds fs) workers vs ws tape (lent ks rs cs qs))
+    pub report_refused_lem : IsReport (report_with two_words (parts ns ds fs) workers vs ws tape (lent ks rs cs qs)) ns' ds' fs ws ks rs cs qs k
     report_refused_lem = elim (ℕ_discrete start_number 0) [ yes z ↦ tape_refuses z | no m ↦ start_refuses m ]
 
   -- nothing is refused
@@ -130,13 +131,13 @@ module _ (workers : ℕ) (vs ns ds : List ℕ) (fs : List Frame) (ws ks tape rs 
 
     module _ (ns₁ ds₁ : List ℕ) (fs₁ : List Frame) (ws₁ : List ℕ) (r₁ : ℕ) (S : IsStart (start_with two_words workers vs fs ws) ns₁ ds₁ fs₁ ws₁ r₁) where
       pub started_fit : Fits (parts ns₁ ds₁ fs₁)
-      started_fit = subst (λ (s : State). Fits s) (sym S.state) (started-fits two_words two_pools workers vs fs ws (taken all_pass.0))
+      started_fit = subst (λ (s : State). Fits s) (sym S.state) (started_fits two_words two_pools workers vs fs ws (taken all_pass.0))
 
-      pub started-sound : checked_state two_words (parts ns₁ ds₁ fs₁) ws₁ ks ≡ Sound (chain_free two_words (parts ns₁ ds₁ fs₁) ws₁)
-      started-sound =
+      pub started_sound : checked_state two_words (parts ns₁ ds₁ fs₁) ws₁ ks ≡ Sound (chain_free two_words (parts ns₁ ds₁ fs₁) ws₁)
+      started_sound =
           let o : StartResult = start_with two_words workers vs fs ws in
           subst (λ (s : State). checked_state two_words s ws₁ ks ≡ Sound (chain_free two_words s ws₁)) (sym S.state)
-          (subst (λ (ps : List ℕ). checked_state two_words o.state ps ks ≡ Sound (chain_free two_words o.state ps)) (sym S.pool) (started-checked two_words two_pools workers vs fs ws (taken all_pass.0) ks (ge_of all_pass.2)))
+          (subst (λ (ps : List ℕ). checked_state two_words o.state ps ks ≡ Sound (chain_free two_words o.state ps)) (sym S.pool) (started_checked two_words two_pools workers vs fs ws (taken all_pass.0) ks (ge_of all_pass.2)))
 
       pub tape-fits : unfit_tape tape rs ≡ false
       tape-fits = all_pass.1
@@ -151,20 +152,10 @@ module _ (workers : ℕ) (vs ns ds : List ℕ) (fs : List Frame) (ws ks tape rs 
           ∙ ap (λ (ps : List ℕ). report_done (tape_with two_words o.state ps ks tape rs) (timing_of two_words o.state ps tape cs) qs) S.pool
           ∙ p
 
-      memory_from_start : memory_checked two_words (checked_state two_words (parts ns₁ ds₁ fs₁) ws₁ ks) (parts ns₁ ds₁ fs₁) ws₁ no_memory (records_of tape) ≡ report_memory two_words (parts ns ds fs) workers vs ws tape (lent ks rs cs qs)
-      unfolding report_memory
-      memory_from_start =
-          let o : StartResult = start_with two_words workers vs fs ws in
-          let p : memory_checked two_words (checked_state two_words o.state o.pool ks) o.state o.pool no_memory (records_of tape) ≡ report_memory two_words (parts ns ds fs) workers vs ws tape (lent ks rs cs qs) = rw (eq-eqb o.result 0 (taken all_pass.0), all_pass.1, all_pass.2) in
-          ap (λ (s : State). memory_checked two_words (checked_state two_words s ws₁ ks) s ws₁ no_memory (records_of tape)) S.state
-          ∙ ap (λ (ps : List ℕ). memory_checked two_words (checked_state two_words o.state ps ks) o.state ps no_memory (records_of tape)) S.pool
-          ∙ p
-
-      pub report_started_lem : (ns' ds' : List ℕ) (fs' : List Frame) (ms' ws' ks' rs' cs' qs' : List ℕ) (r : ℕ)
+      pub report_started_lem : (ns' ds' : List ℕ) (fs' : List Frame) (ws' ks' rs' cs' qs' : List ℕ) (r : ℕ)
           → IsReport (report_done (tape_with two_words (parts ns₁ ds₁ fs₁) ws₁ ks tape rs) (timing_of two_words (parts ns₁ ds₁ fs₁) ws₁ tape cs) qs) ns' ds' fs' ws' ks' rs' cs' qs' r
-          × (ms' ≡ memory_checked two_words (checked_state two_words (parts ns₁ ds₁ fs₁) ws₁ ks) (parts ns₁ ds₁ fs₁) ws₁ no_memory (records_of tape))
-          → IsReport (report_with two_words (parts ns ds fs) workers vs ws tape (lent ks rs cs qs)) ns' ds' fs' ws' ks' rs' cs' qs' r × (ms' ≡ report_memory two_words (parts ns ds fs) workers vs ws tape (lent ks rs cs qs))
-      report_started_lem ns' ds' fs' ms' ws' ks' rs' cs' qs' r R = (subst (λ (o : ReportResult). IsReport o ns' ds' fs' ws' ks' rs' cs' qs' r) from_start_lem R.0, R.1 ∙ memory_from_start)
+          → IsReport (report_with two_words (parts ns ds fs) workers vs ws tape (lent ks rs cs qs)) ns' ds' fs' ws' ks' rs' cs' qs' r
+      report_started_lem ns' ds' fs' ws' ks' rs' cs' qs' r R = subst (λ (o : ReportResult). IsReport o ns' ds' fs' ws' ks' rs' cs' qs' r) from_start_lem R
 
 -- ---- the tape and the report, after the start
 
@@ -190,18 +181,6 @@ module _ (ns ds : List ℕ) (fs : List Frame) (ws ks tape rs cs words : List ℕ
   pub report_kept : Kept two_words (core_of (parts ns ds fs) ws free)
   report_kept = found_sound ns ds fs ws ks ks' found (check_number found) free F check refl none_refused ef
 
-  pub report_remembers : (ms : List ℕ) → ms ≡ no_memory → Remembers two_words (core_of (parts ns ds fs) ws free) ms
-  report_remembers ms e = subst (λ (m : List ℕ). Remembers two_words (core_of (parts ns ds fs) ws free) m) (sym e) (remembers_none two_words (core_of (parts ns ds fs) ws free))
-
-  -- the check found the state sound, as free nodes are on the chain
-  memory_done : (ms ms' : List ℕ) → ms ≡ no_memory → ms' ≡ memory_over two_words (core_of (parts ns ds fs) ws free) ms (records_of tape)
-      → ms' ≡ memory_checked two_words (checked_state two_words (parts ns ds fs) ws ks) (parts ns ds fs) ws no_memory (records_of tape)
-  memory_done ms ms' e e' =
-      e'
-      ∙ ap (λ (m : List ℕ). memory_over two_words (core_of (parts ns ds fs) ws free) m (records_of tape)) e
-      ∙ ap (λ (m : ℕ). memory_over two_words (core_of (parts ns ds fs) ws m) no_memory (records_of tape)) free_is
-      ∙ ap (λ (j : Checked). memory_checked two_words j (parts ns ds fs) ws no_memory (records_of tape)) (sym sound)
-
   pub report_room : 2 * (length tape / 8) ≤ length rs
   report_room = fit_answers tape rs (unfit_tape tape rs) refl fit
 
@@ -209,28 +188,21 @@ module _ (ns ds : List ℕ) (fs : List Frame) (ws ks tape rs cs words : List ℕ
     pub clocks_zero : (j : ℕ) → get_or cs₁ j 0 ≤ 0
     clocks_zero j = subst (λ (x : List ℕ). get_or x j 0 ≤ 0) (sym ec) ((at_most_start cs).clocks j)
 
-    pub report_done_lem : (ms : List ℕ) → ms ≡ no_memory → (work span : ℕ) (ns' ds' : List ℕ) (fs' : List Frame) (ms' ws' rs' cs' qs : List ℕ) (r : ℕ)
+    pub report_done_lem : (work span : ℕ) (ns' ds' : List ℕ) (fs' : List Frame) (ws' rs' cs' qs : List ℕ) (r : ℕ)
         → IsRun (run_on two_words (records_result (core_of (parts ns ds fs) ws free) rs) 0 (records_of tape)) ns' ds' fs' ws' rs'
         × (timing cs' work span ≡ timed_over two_words (core_of (parts ns ds fs) ws free) (records_of tape) (timing cs₁ 0 0))
-        × (ms' ≡ memory_over two_words (core_of (parts ns ds fs) ws free) ms (records_of tape))
         → (qs ≡ cond (eqb span 0) words (report_words (timing words work span))) × (r ≡ cond (eqb span 0) (refusal_number Span) 0)
         → IsReport (report_done (tape_with two_words (parts ns ds fs) ws ks tape rs) (timing_of two_words (parts ns ds fs) ws tape cs) words) ns' ds' fs' ws' ks' rs' cs' qs r
-        × (ms' ≡ memory_checked two_words (checked_state two_words (parts ns ds fs) ws ks) (parts ns ds fs) ws no_memory (records_of tape))
-    report_done_lem ms em work span ns' ds' fs' ms' ws' rs' cs' qs r R p =
+    report_done_lem work span ns' ds' fs' ws' rs' cs' qs r R p =
         let T : IsTape (tape_with two_words (parts ns ds fs) ws ks tape rs) ns' ds' fs' ws' ks' rs' 0 =
         tape_done_lem ns ds fs ws ks tape rs (unfit_tape tape rs) refl fit found ks' check (check_number found) free ns' ds' fs' ws' rs' refl none_refused ef R.0 in
         let e : timing cs' work span ≡ timing_of two_words (parts ns ds fs) ws tape cs =
         R.1
         ∙ ap (λ (x : List ℕ). timed_over two_words (core_of (parts ns ds fs) ws free) (records_of tape) (timing x 0 0)) ec
         ∙ ap (λ (m : ℕ). timed_over two_words (core_of (parts ns ds fs) ws m) (records_of tape) (timing_at_start cs)) free_is in
-        (done_by_lem (tape_with two_words (parts ns ds fs) ws ks tape rs) (timing_of two_words (parts ns ds fs) ws tape cs) words ns' ds' fs' ws' ks' rs' cs' qs r 0 work span T e p, memory_done ms ms' em R.2)
+        done_by_lem (tape_with two_words (parts ns ds fs) ws ks tape rs) (timing_of two_words (parts ns ds fs) ws tape cs) words ns' ds' fs' ws' ks' rs' cs' qs r 0 work span T e p
 
 -- ---- on all inputs
-
-and_last : (x y z : Bool) → (x && y) && z ≡ (x && z) && y
-and_last true true z = elim z [ true ↦ refl | false ↦ refl ]
-and_last true false z = elim z [ true ↦ refl | false ↦ refl ]
-and_last false y z = refl
 
 -- two words for each of m places
 pub halved : (n m : ℕ) (b : Bool) → (eqb (n % 2) 0 && eqb (n / 2) m) && b ≡ eqb n (2 * m) && b
@@ -244,32 +216,26 @@ halved n m b =
     ] in
     ap (λ (x : Bool). x && b) same
 
-module _ (ns ds : List ℕ) (fs : List Frame) (ms : List ℕ) (workers : ℕ) (vs ws tape ks rs cs qs : List ℕ) (a : Bool) (ea : a ≡ fits_with (parts ns ds fs) ms) where
-  abbrev words : Bool
-  words = eqb (length cs) (2 * length fs) && eqb (length qs) 4
+module _ (ns ds : List ℕ) (fs : List Frame) (workers : ℕ) (vs ws tape ks rs cs qs : List ℕ) (a : Bool) (ea : a ≡ fits (parts ns ds fs)) where
+  unfit_by : (b : Bool) → b ≡ eqb (length cs) (2 * length fs) && eqb (length qs) 4 → a && b ≡ false → (r : ℕ) → r ≡ 99
+      → IsReport (report_on two_words (parts ns ds fs) workers vs ws tape (lent ks rs cs qs)) ns ds fs ws ks rs cs qs r
+  unfolding report_on
+  unfit_by b eb f r e = rw (ap (λ (x : Bool). x && (eqb (length cs) (2 * length fs) && eqb (length qs) 4)) (sym ea) ∙ ap (λ (x : Bool). a && x) (sym eb) ∙ f) (record { result = e; state = refl; pool = refl; lent = refl })
 
-  -- all tests of lengths, as the definition has them
-  fits_all : (fits (parts ns ds fs) && words) && eqb (length ms) memory_words ≡ a && words
-  fits_all = and_last (fits (parts ns ds fs)) words (eqb (length ms) memory_words) ∙ ap (λ (x : Bool). x && words) (sym ea)
+  pub parts-unfit : a ≡ false → (r : ℕ) → r ≡ 99 → IsReport (report_on two_words (parts ns ds fs) workers vs ws tape (lent ks rs cs qs)) ns ds fs ws ks rs cs qs r
+  parts-unfit f r e = unfit_by (eqb (length cs) (2 * length fs) && eqb (length qs) 4) refl (ap (λ (x : Bool). x && (eqb (length cs) (2 * length fs) && eqb (length qs) 4)) f) r e
 
-  unfit_by : a && words ≡ false → (r : ℕ) → r ≡ 99 → IsReportWith (report_remembering two_words (parts ns ds fs) ms workers vs ws tape (lent ks rs cs qs)) ns ds fs ms ws ks rs cs qs r
-  unfolding report_remembering
-  unfit_by f r e = rw (fits_all ∙ f) (record { call = record { result = e; state = refl; pool = refl; lent = refl }; memory = refl })
-
-  pub parts-unfit : a ≡ false → (r : ℕ) → r ≡ 99 → IsReportWith (report_remembering two_words (parts ns ds fs) ms workers vs ws tape (lent ks rs cs qs)) ns ds fs ms ws ks rs cs qs r
-  parts-unfit f r e = unfit_by (ap (λ (x : Bool). x && words) f) r e
-
-  module _ (t : a ≡ true) (b : Bool) (eb : b ≡ words) where
-    pub words-unfit : b ≡ false → (r : ℕ) → r ≡ 99 → IsReportWith (report_remembering two_words (parts ns ds fs) ms workers vs ws tape (lent ks rs cs qs)) ns ds fs ms ws ks rs cs qs r
-    words-unfit f r e = unfit_by (ap (λ (x : Bool). x && words) t ∙ sym eb ∙ f) r e
+  module _ (t : a ≡ true) (b : Bool) (eb : b ≡ eqb (length cs) (2 * length fs) && eqb (length qs) 4) where
+    pub words-unfit : b ≡ false → (r : ℕ) → r ≡ 99 → IsReport (report_on two_words (parts ns ds fs) workers vs ws tape (lent ks rs cs qs)) ns ds fs ws ks rs cs qs r
+    words-unfit f r e = unfit_by b eb (ap (λ (x : Bool). x && b) t ∙ f) r e
 
     pub words_fit : b ≡ true → (length cs ≡ 2 * length fs) × (length qs ≡ 4)
     words_fit u =
         let q = both (eqb (length cs) (2 * length fs)) (eqb (length qs) 4) (sym eb ∙ u) in
         (eqb-true (length cs) (2 * length fs) q.0, eqb-true (length qs) 4 q.1)
 
-    pub report_fit : b ≡ true → (ns' ds' : List ℕ) (fs' : List Frame) (ms' ws' ks' rs' cs' qs' : List ℕ) (r : ℕ)
-        → IsReport (report_with two_words (parts ns ds fs) workers vs ws tape (lent ks rs cs qs)) ns' ds' fs' ws' ks' rs' cs' qs' r × (ms' ≡ report_memory two_words (parts ns ds fs) workers vs ws tape (lent ks rs cs qs))
-        → IsReportWith (report_remembering two_words (parts ns ds fs) ms workers vs ws tape (lent ks rs cs qs)) ns' ds' fs' ms' ws' ks' rs' cs' qs' r
-    unfolding report_remembering
-    report_fit u ns' ds' fs' ms' ws' ks' rs' cs' qs' r R = rw (fits_all ∙ ap (λ (x : Bool). x && words) t ∙ sym eb ∙ u) (record { call = R.0; memory = R.1 })
+    pub report_fit : b ≡ true → (ns' ds' : List ℕ) (fs' : List Frame) (ws' ks' rs' cs' qs' : List ℕ) (r : ℕ)
+        → IsReport (report_with two_words (parts ns ds fs) workers vs ws tape (lent ks rs cs qs)) ns' ds' fs' ws' ks' rs' cs' qs' r
+        → IsReport (report_on two_words (parts ns ds fs) workers vs ws tape (lent ks rs cs qs)) ns' ds' fs' ws' ks' rs' cs' qs' r
+    unfolding report_on
+    report_fit u ns' ds' fs' ws' ks' rs' cs' qs' r R = rw (ap (λ (x : Bool). x && (eqb (length cs) (2 * length fs) && eqb (length qs) 4)) (sym ea ∙ t) ∙ sym eb ∙ u) R

@@ -1,5 +1,14 @@
 -- The ways out of a save and of a reading, over plain variables.
-use Rattle.std.proofs.Common.{◌≡◌, ℕ, suc, ◌+◌, ◌-◌, ◌*◌, ◌/◌, ◌<◌, ◌≤◌, Bool, true, false, cond, ◌&&◌, eqb, ltb, leb, ◌≢◌, List, ◌++◌, length, drop, replicate, sym, refl, ap, ◌∙◌, subst, inl, inr, arith, length-append, length-drop, drop-drop, drop_at, ltb-false, le-ltb, lt-ltb, eq-eqb, eqb-true, le-leb, leb-false, leb-true}
+use mathlib.Core.Path.{◌≡◌, refl, sym, ap, ◌∙◌, subst}
+use mathlib.Core.Logic.{◌≢◌, inl, inr}
+use mathlib.Core.Bool.{Bool, true, false, cond, ◌&&◌}
+use mathlib.Core.List.{List, ◌++◌}
+use Prim.Native.Nat.{ℕ, suc, ◌+◌, ◌-◌, ◌*◌, ◌/◌, ◌≤◌, ◌<◌}
+use native.Mathlib.Omega.{arith}
+use lib.Dec.{eqb, leb, ltb}
+use lib.ListN.{length, drop, replicate, length-append, length-drop}
+use lib.Seq.{drop_at, drop-drop}
+use borrow.Author.Tests.{eq-eqb, le-leb, lt-ltb, le-ltb, eqb-true, leb-true, ltb-false, leb-false}
 use Rattle.words.specs.Tests.{decided, both, true≢false}
 use Rattle.frames.specs.declared.Frame.{Frame}
 use Rattle.frames.specs.Widths.{max_places, deque_words}
@@ -16,15 +25,12 @@ use Rattle.image.specs.Image.{Lengths, IsRead, image_of, image_bytes, image_chec
 use Rattle.image.specs.Theory.Promises.{parts_lengths, same_nodes, same_places, pool_length}
 use Rattle.semantics.specs.declared.Refusal.TheVariants.{Work, Target}
 use Rattle.semantics.specs.Answers.{refusal_number}
-use Rattle.semantics.specs.Entries.{State, zeros, is_sound, whole_nodes, checked_state}
-use Rattle.semantics.specs.Images.{SaveResult, saved_bytes, save_checked, LoadResult, state_in, pool_with, records_zero, nodes_zero, load_refused, load_read, load_checked, load_with}
+use Rattle.semantics.specs.Entries.{State, zeros, is_sound, whole_nodes}
+use Rattle.semantics.specs.Images.{SaveResult, saved_bytes, save_checked, save_with, LoadResult, state_in, pool_with, records_zero, nodes_zero, load_refused, load_read, load_checked, load_with}
 use Rattle.semantics.specs.Promises.{parts, Fits, IsSave, IsLoad}
-use Rattle.semantics.specs.Remembering.{right_memory, save_remembering}
 use Rattle.semantics.specs.Theory.WorkSlice.{checked_room, no_room_keeps}
 use Rattle.semantics.specs.Theory.Images.{sound_numbers}
-use Rattle.memory.specs.Memory.{memory_words}
-use Rattle.engine.specs.Promises.{IsCheck, IsCheckWith, check_number, image_number, IsRechecked, IsLoading}
-use Rattle.engine.proofs.Remembered.{fits_memory, no_room_with, sound_with_lem}
+use Rattle.engine.specs.Promises.{IsCheck, check_number, image_number, IsRechecked, IsLoading}
 use Rattle.soundness.specs.Layout.{two_words}
 use Rattle.image.specs.Theory.Version.{two_version}
 
@@ -78,23 +84,23 @@ module _ (s : Numbers) (ts ds : List ℕ) (fs : List Frame) (ws ks : List ℕ) w
 
 -- ---- a save
 
-module _ (ns ds : List ℕ) (fs : List Frame) (ms ws ks ts : List ℕ) (F : Fits (parts ns ds fs)) (long : length ms ≡ memory_words) (k : Checked) (ks' : List ℕ) (ek : IsCheckWith (parts ns ds fs) ms ws ks ks' k) (r : ℕ) (er : r ≡ check_number k) where
+module _ (ns ds : List ℕ) (fs : List Frame) (ws ks ts : List ℕ) (k : Checked) (ks' : List ℕ) (ek : IsCheck (parts ns ds fs) ws ks ks' k) (r : ℕ) (er : r ≡ check_number k) where
   abbrev s : State
   s = parts ns ds fs
 
-  by_answer : (o : SaveResult) → o ≡ save_checked two_words k s ws ks ts → o ≡ save_remembering two_words (parts ns ds fs) ms ws ks ts
-  unfolding save_remembering
-  by_answer o e = rw (fits_memory s ms F long) (e ∙ ap (λ (j : Checked). save_checked two_words j s ws ks ts) ek.1)
+  by_answer : (o : SaveResult) → o ≡ save_checked two_words k s ws ks ts → o ≡ save_with two_words (parts ns ds fs) ws ks ts
+  unfolding save_with
+  by_answer o e = e ∙ ap (λ (j : Checked). save_checked two_words j s ws ks ts) ek.1
 
-  is_save : (ks₁ ts₁ : List ℕ) (r₁ : ℕ) → record { work = ks₁; target = ts₁; result = r₁ } ≡ save_remembering two_words (parts ns ds fs) ms ws ks ts → IsSave (save_remembering two_words (parts ns ds fs) ms ws ks ts) ks₁ ts₁ r₁
+  is_save : (ks₁ ts₁ : List ℕ) (r₁ : ℕ) → record { work = ks₁; target = ts₁; result = r₁ } ≡ save_with two_words (parts ns ds fs) ws ks ts → IsSave (save_with two_words (parts ns ds fs) ws ks ts) ks₁ ts₁ r₁
   is_save ks₁ ts₁ r₁ e = record { result = ap (λ (o : SaveResult). o.result) e; work = ap (λ (o : SaveResult). o.work) e; target = ap (λ (o : SaveResult). o.target) e }
 
   refused_by_lem : (j : Checked) → k ≡ j → r ≢ 0 → ◌≡◌ {A = SaveResult} (record { work = ks'; target = ts; result = r }) (save_checked two_words k s ws ks ts)
-  refused_by_lem NoRoom e n = let kept : ks' ≡ ks = ek.0 ∙ no_room_keeps two_words (numbers_in ns) (totals_in ns) ds fs ws ks (no_room_with (checked_state two_words s ws ks) (right_memory two_words s ws ms) (sym ek.1 ∙ e)) in rw (er, e, kept)
+  refused_by_lem NoRoom e n = let kept : ks' ≡ ks = ek.0 ∙ no_room_keeps two_words (numbers_in ns) (totals_in ns) ds fs ws ks (sym ek.1 ∙ e) in rw (er, e, kept)
   refused_by_lem Checked.Unsound e n = rw (er, e, ek.0)
   refused_by_lem (Sound free) e n = absurd (n (er ∙ ap check_number e))
 
-  pub save_refused_lem : r ≢ 0 → IsSave (save_remembering two_words (parts ns ds fs) ms ws ks ts) ks' ts r
+  pub save_refused_lem : r ≢ 0 → IsSave (save_with two_words (parts ns ds fs) ws ks ts) ks' ts r
   save_refused_lem n = is_save ks' ts r (by_answer _ (refused_by_lem k refl n))
 
   module _ (z : r ≡ 0) where
@@ -104,7 +110,7 @@ module _ (ns ds : List ℕ) (fs : List Frame) (ms ws ks ts : List ℕ) (F : Fits
     sound-answer (Sound free) e o h = h free e ∙ ap (λ (j : Checked). save_checked two_words j s ws ks ts) (sym e)
 
     module _ (t : ℕ) (et : t ≡ cond (ltb (length ts) (image_bytes two_words (numbers_in ns).places (numbers_in ns).nodes)) (refusal_number Target) 0) where
-      pub save_short : t ≢ 0 → IsSave (save_remembering two_words (parts ns ds fs) ms ws ks ts) ks' ts t
+      pub save_short : t ≢ 0 → IsSave (save_with two_words (parts ns ds fs) ws ks ts) ks' ts t
       save_short n =
           let short = met (ltb (length ts) (saved_bytes two_words s)) 19 t et n in
           is_save ks' ts t (by_answer _ (sound-answer k refl _ (λ free e. rw (ek.0, et, short))))
@@ -114,13 +120,12 @@ module _ (ns ds : List ℕ) (fs : List Frame) (ms ws ks ts : List ℕ) (F : Fits
         long_target = unmet (ltb (length ts) (saved_bytes two_words s)) 18 t et y
 
         -- the table has the recorded places, the nodes are in the pool, and the target holds the image
-        pub save_asks : Lengths ns ds fs × (2 * node_count ns ≤ length ws) × (image_bytes two_words (numbers_in ns).places (numbers_in ns).nodes ≤ length ts)
-        save_asks =
-            let q : check_number (checked_state two_words s ws ks) ≡ 0 = sound_with_lem (checked_state two_words s ws ks) (right_memory two_words s ws ms) (ap check_number (sym ek.1) ∙ sym er ∙ z) in
-            let N = sound_numbers two_words s ws (answer-sound (numbers_in ns) (totals_in ns) ds fs ws ks (checked_state two_words s ws ks) refl q) in
+        pub save_asks : Fits (parts ns ds fs) → Lengths ns ds fs × (2 * node_count ns ≤ length ws) × (image_bytes two_words (numbers_in ns).places (numbers_in ns).nodes ≤ length ts)
+        save_asks F =
+            let N = sound_numbers two_words s ws (answer-sound (numbers_in ns) (totals_in ns) ds fs ws ks k ek.1 (sym er ∙ z)) in
             (record { numbers = F.numbers; deques = F.deques; frames = N.table; most = few_places N }, N.room, ltb-false (length ts) (saved_bytes two_words s) long_target)
 
-        pub save_done : (ts' : List ℕ) → ts' ≡ stored (image_of two_words ns ds fs ws) ts → IsSave (save_remembering two_words (parts ns ds fs) ms ws ks ts) ks' ts' 0
+        pub save_done : (ts' : List ℕ) → ts' ≡ stored (image_of two_words ns ds fs ws) ts → IsSave (save_with two_words (parts ns ds fs) ws ks ts) ks' ts' 0
         save_done ts' e' = is_save ks' ts' 0 (by_answer _ (sound-answer k refl _ (λ free e. rw (ek.0, e', long_target))))
 
 -- ---- the check of what was read

@@ -1,5 +1,12 @@
 -- A step's ways out, over plain variables: refused by a test, or done.
-use Rattle.std.proofs.Common.{◌≡◌, ℕ, suc, ◌+◌, ◌<◌, ◌≤◌, Bool, true, false, cond, ltb, ◌≢◌, List, [], ◌∷◌, ◌++◌, sym, refl, ap, ◌∙◌, subst, inl, inr, arith, le-ltb, lt-ltb, eq-eqb, ne_eqb}
+use mathlib.Core.Path.{◌≡◌, refl, sym, ap, ◌∙◌, subst}
+use mathlib.Core.Logic.{◌≢◌, inl, inr}
+use mathlib.Core.Bool.{Bool, true, false, cond}
+use mathlib.Core.List.{List, [], ◌∷◌, ◌++◌}
+use Prim.Native.Nat.{ℕ, suc, ◌+◌, ◌≤◌, ◌<◌}
+use native.Mathlib.Omega.{arith}
+use lib.Dec.{ltb}
+use borrow.Author.Tests.{eq-eqb, ne_eqb, lt-ltb, le-ltb}
 use Rattle.words.specs.Basics.{none, plus}
 use Rattle.words.specs.Tests.{decided}
 use Rattle.packed.specs.Pool.{read_at, retain, set_value, first_shared, rest, write_from, write}
@@ -14,7 +21,7 @@ use Rattle.frames.specs.Steps.{spawn, steal, fold, synced_number}
 use Rattle.frames.specs.Promises.{table, IsSync}
 use Rattle.model.specs.Steps.{reducers}
 use Rattle.model.specs.declared.Decoded.{Decoded}
-use Rattle.model.specs.declared.Decoded.TheVariants.{Invalid}
+use Rattle.model.specs.declared.Decoded.TheVariants.{Valid, Invalid}
 use Rattle.model.specs.declared.Step.{Step}
 use Rattle.model.specs.declared.Step.TheVariants.{Spawn, Return, Steal, Sync, Read, Write, Fold}
 use Rattle.semantics.specs.declared.Head.{Head}
@@ -94,7 +101,7 @@ step_refused : (c : Core) (st : Step) (w k : ℕ) → tests_of two_words c st �
 unfolding step_on
 step_refused c st w k t e n = subst (λ us. RefusedBy k c (judged us c (done_by two_words c st))) (sym t) (refuses (acting_tests c w) (kind_tests two_words c st) c (done_by two_words c st) k e n)
 
-pub step-passed : (c : Core) (st : Step) (w : ℕ) → tests_of two_words c st ≡ acting_tests c w ++ kind_tests two_words c st → refusal_by (acting_tests c w) ≡ 0 → kind_on c st ≡ step_on two_words c st
+step-passed : (c : Core) (st : Step) (w : ℕ) → tests_of two_words c st ≡ acting_tests c w ++ kind_tests two_words c st → refusal_by (acting_tests c w) ≡ 0 → kind_on c st ≡ step_on two_words c st
 unfolding step_on
 step-passed c st w t e = sym (ap (λ us. judged us c (done_by two_words c st)) t ∙ passed (acting_tests c w) (kind_tests two_words c st) c (done_by two_words c st) e)
 
@@ -178,7 +185,7 @@ module _ (h : Head) (ts ds : List ℕ) (fs : List Frame) (ws : List ℕ) (w : �
           leaves h (with_free_nodes h first count) o ts ds fs' ws' (Accepted (Written count)) (kind_on (core h ts ds fs ws) (Write w x v)) eo.0 (both_words_lem eo.1 eo.2) acts
 
       -- no node is shared: the leaf's value alone is stored
-      pub leaf_write : b ≡ false → (v : ℕ) → write h.height ws h.numbers.free_node h.free_count root x v ≡ (set_value ws node v, h.numbers.free_node, h.free_count, root)
+      leaf_write : b ≡ false → (v : ℕ) → write h.height ws h.numbers.free_node h.free_count root x v ≡ (set_value ws node v, h.numbers.free_node, h.free_count, root)
       unfolding write write_from
       leaf_write n v = rw (e.rest ∙ ap (λ b. cond b (suc m) 0) n, e.found)
 
@@ -231,6 +238,10 @@ module _ (h : Head) (ts ds : List ℕ) (fs : List Frame) (ws : List ℕ) (w v : 
 
 pub record_refused : (h : Head) (o : Out) (ts ds : List ℕ) (fs : List Frame) (ws : List ℕ) (d : Decoded) → d ≡ Invalid → Answers h o (refusal_number Record) 0 → Leaves h o ts ds fs ws (record_on two_words (core h ts ds fs ws) d)
 record_refused h o ts ds fs ws d e q = rw e (out_refused h o ts ds fs ws Record q)
+
+pub record_steps : (h : Head) (o : Out) (ts ds : List ℕ) (fs : List Frame) (ws ts' ds' : List ℕ) (fs' : List Frame) (ws' : List ℕ) (d : Decoded) (s : Step) → d ≡ Valid s
+    → Leaves h o ts' ds' fs' ws' (step_on two_words (core h ts ds fs ws) s) → Leaves h o ts' ds' fs' ws' (record_on two_words (core h ts ds fs ws) d)
+record_steps h o ts ds fs ws ts' ds' fs' ws' d s e l = rw e l
 
 -- the step of these fields, by the tests of its kind
 module _ (r : Fields) where

@@ -1,7 +1,14 @@
 -- R-7: a report's turns, over plain variables: a record, then the reads, writes and folds after it, whose clocks are moved when all of them are done.
-use Rattle.std.proofs.Common.{◌≡◌, ℕ, zero, suc, ◌+◌, ◌-◌, ◌*◌, ◌/◌, ◌<◌, ◌≤◌, Bool, true, false, cond, ◌&&◌, eqb, ltb, leb, ◌≢◌, List, [], ◌∷◌, ◌++◌, length, get_or, sym, refl, ap, ◌∙◌, subst, inl, inr, arith, eq-eqb, ne_eqb, eqb-true}
+use mathlib.Core.Path.{◌≡◌, refl, sym, ap, subst, ◌∙◌}
+use mathlib.Core.Logic.{◌≢◌, inl, inr}
+use mathlib.Core.Bool.{Bool, true, false, cond, ◌&&◌}
+use mathlib.Core.List.{List, [], ◌∷◌, ◌++◌}
+use Prim.Native.Nat.{ℕ, zero, suc, ◌+◌, ◌-◌, ◌*◌, ◌/◌, ◌≤◌, ◌<◌}
+use native.Mathlib.Omega.{arith}
+use lib.Dec.{eqb, ltb, leb}
+use lib.ListN.{length, get_or}
 use native.Mathlib.Decide.{ℕ_discrete}
-use borrow.Author.Tests.{lt-leb}
+use borrow.Author.Tests.{ne_eqb, eqb-true, eq-eqb, lt-leb}
 use Rattle.words.specs.Tests.{decided, true≢false, lt_of, not-false}
 use Rattle.frames.specs.Widths.{max_workers}
 use Rattle.frames.specs.Deques.{size, bottom}
@@ -19,8 +26,7 @@ use Rattle.semantics.specs.declared.Rise.{Rise}
 use Rattle.semantics.specs.Answers.{answer_words}
 use Rattle.semantics.specs.Core.{Core, StepResult, idle, no_worker, all_idle, judged, acting_tests, kind_tests, tests_of, done_by, step_on, spawn_on, steal_on, sync_on, read_on, write_on, fold_on}
 use Rattle.semantics.specs.Entries.{RecordsResult, records_result, records_from, records_of, record_on, put_answer, run_on}
-use Rattle.semantics.specs.Ranges.{Kept, Ready, Remembers}
-use Rattle.semantics.specs.Remembering.{memory_over}
+use Rattle.semantics.specs.Ranges.{Kept, Ready}
 use Rattle.semantics.specs.Timing.{latest, rise, Timing, costing, ticked, rise_from, timed_with, worker_of, timed_record, timed_over}
 use Rattle.semantics.specs.Theory.Kept.{kept_record}
 use Rattle.semantics.specs.Theory.Ready.{kept_ready}
@@ -29,7 +35,6 @@ use Rattle.semantics.specs.Theory.TapeWords.{length_records, put_long, put_befor
 use Rattle.semantics.specs.Theory.TimedWords.{AtMost, timed_most, timed_over_most, rise_most, moves_no_deque, deques_kept, timed_ticks, run-core, timed_append}
 use Rattle.timing.specs.Turns.{timing, kind_at, worker_at, first_at, ticks_over, AllClocked}
 use Rattle.engine.specs.Promises.{core, renewed}
-use Rattle.engine.proofs.Remembered.{memory_append, two_over}
 use Rattle.engine.proofs.Turns.{finish}
 use Rattle.engine.proofs.Taping.{all_records}
 use Rattle.soundness.specs.Layout.{two_words}
@@ -79,11 +84,6 @@ module _ (tape : List ℕ) (i j n : ℕ) (l : i ≤ j) (m : j ≤ n) where
       let xs = records_from (j - i) tape (8 * i) in
       let ys = records_from (n - j) tape (8 * j) in
       ap (λ (c : Core). timed_over two_words c ys (timed_over two_words r.core xs t)) (run-core two_words r (2 * i) xs) ∙ sym (timed_append two_words r.core xs ys t) ∙ ap (λ ds. timed_over two_words r.core ds t) (sym split_at)
-
-  pub memory_parts : (r : RecordsResult) (ms : List ℕ)
-      → memory_over two_words (run_on two_words r (2 * i) (records_from (j - i) tape (8 * i))).core (memory_over two_words r.core ms (records_from (j - i) tape (8 * i))) (records_from (n - j) tape (8 * j))
-      ≡ memory_over two_words r.core ms (records_from (n - i) tape (8 * i))
-  memory_parts r ms = sym (memory_append (records_from (j - i) tape (8 * i)) (records_from (n - j) tape (8 * j)) r (2 * i) ms) ∙ ap (λ ds. memory_over two_words r.core ms ds) (sym split_at)
 
 -- a run keeps the core sound, and the answer words before its own
 pub kept_run : (ds : List Decoded) (r : RecordsResult) (k : ℕ) → Kept two_words r.core → Kept two_words (run_on two_words r k ds).core
@@ -316,9 +316,9 @@ module _ (tape : List ℕ) (c : Core) (a : List ℕ) (i to : ℕ) (K : Kept two_
   unfolding records_from
   one_more = let e : to - i ≡ suc (to - (i + 1)) = omega arith in ap (λ (k : ℕ). records_from k tape (8 * i)) e
 
-  after_is_lem : records_result c' a' ≡ after
+  after_is : records_result c' a' ≡ after
   unfolding run_on
-  after_is_lem = done ∙ ap (λ ds. run_on two_words (records_result c a) (2 * i) ds) one_more
+  after_is = done ∙ ap (λ ds. run_on two_words (records_result c a) (2 * i) ds) one_more
 
   the_batch : Batch tape c₁ after others (i + 1) (to - (i + 1))
   the_batch =
@@ -328,12 +328,12 @@ module _ (tape : List ℕ) (c : Core) (a : List ℕ) (i to : ℕ) (K : Kept two_
   -- the first record's answer words
   first_word : get_or a' (2 * i) 0 ≡ (answer_words (record_on two_words c d).answer).0
   first_word =
-      ap (λ (q : RecordsResult). get_or q.answers (2 * i) 0) after_is_lem ∙ run_before others c₁ a₁ (2 * i + 2) (2 * i) (omega arith) ∙ put_first a (2 * i) (record_on two_words c d).answer (omega (arith, l, room))
+      ap (λ (q : RecordsResult). get_or q.answers (2 * i) 0) after_is ∙ run_before others c₁ a₁ (2 * i + 2) (2 * i) (omega arith) ∙ put_first a (2 * i) (record_on two_words c d).answer (omega (arith, l, room))
 
   second_word : get_or a' (2 * i + 1) 0 ≡ (answer_words (record_on two_words c d).answer).1
   second_word =
       let e : 2 * i + 1 ≡ suc (2 * i) = omega arith in
-      ap (λ (q : RecordsResult). get_or q.answers (2 * i + 1) 0) after_is_lem
+      ap (λ (q : RecordsResult). get_or q.answers (2 * i + 1) 0) after_is
       ∙ run_before others c₁ a₁ (2 * i + 2) (2 * i + 1) (omega arith)
       ∙ ap (λ (k : ℕ). get_or a₁ k 0) e
       ∙ put_second a (2 * i) (record_on two_words c d).answer (omega (arith, l, room))
@@ -378,7 +378,7 @@ module _ (tape : List ℕ) (c : Core) (a : List ℕ) (i to : ℕ) (K : Kept two_
         turn_timed ks₂ work₂ e₂ =
             let k : ℕ = to - (i + 1) in
             e₂ span₁
-            ∙ ap (λ (q : RecordsResult). ticks_over q.core.deques tape q.answers (i + 1) k (timing ks₁ work₁ span₁)) after_is_lem
+            ∙ ap (λ (q : RecordsResult). ticks_over q.core.deques tape q.answers (i + 1) k (timing ks₁ work₁ span₁)) after_is
             ∙ ap (λ ds. ticks_over ds tape after.answers (i + 1) k (timing ks₁ work₁ span₁)) the_batch.deques
             ∙ the_batch.timed (timing ks₁ work₁ span₁)
             ∙ ap (λ (t : Timing). timed_over two_words c₁ others t) first_timed
@@ -392,27 +392,24 @@ module _ (tape : List ℕ) (c : Core) (a : List ℕ) (i to : ℕ) (K : Kept two_
   turn_clocked ks long j x y z =
       let w : ℕ = worker_at tape j in
       let R : Ready c' = kept_ready c' turn_kept in
-      let A = the_batch.busy j x (omega (arith, y, l)) (subst (λ (q : RecordsResult). 100 ≤ first_at q.answers j) after_is_lem z) in
-      let same : c'.deques ≡ c₁.deques = ap (λ (q : RecordsResult). q.core.deques) after_is_lem ∙ the_batch.deques in
+      let A = the_batch.busy j x (omega (arith, y, l)) (subst (λ (q : RecordsResult). 100 ≤ first_at q.answers j) after_is z) in
+      let same : c'.deques ≡ c₁.deques = ap (λ (q : RecordsResult). q.core.deques) after_is ∙ the_batch.deques in
       let some : 0 < size c'.deques w = subst (λ ds. 0 < size ds w) (sym same) A.1 in
       record { long = R.long_deques; worker = A.0; busy = some; few = R.sizes w A.0; within = omega (arith, long, bottom_within c' turn_kept w A.0 some) }
 
 -- ---- the loop of turns
 
--- before the i-th of n records, with the core c, the answer words a, the clocks, work and span t and the memory ms: what is left gives what all records give from
--- the start
-pub record Going (tape : List ℕ) (n : ℕ) (r₀ : RecordsResult) (t₀ : Timing) (ms₀ : List ℕ) (c : Core) (a : List ℕ) (t : Timing) (ms : List ℕ) (i : ℕ) : Type 0 where
+-- before the i-th of n records, with the core c, the answer words a and the clocks, work and span t: what is left gives what all records give from the start
+pub record Going (tape : List ℕ) (n : ℕ) (r₀ : RecordsResult) (t₀ : Timing) (c : Core) (a : List ℕ) (t : Timing) (i : ℕ) : Type 0 where
   pub few : i ≤ n
   pub kept : Kept two_words c
   pub run : run_on two_words (records_result c a) (2 * i) (records_from (n - i) tape (8 * i)) ≡ run_on two_words r₀ 0 (records_of tape)
   pub timed : timed_over two_words c (records_from (n - i) tape (8 * i)) t ≡ timed_over two_words r₀.core (records_of tape) t₀
   pub most : AtMost i t
-  pub remembers : Remembers two_words c ms
-  pub memory : memory_over two_words c ms (records_from (n - i) tape (8 * i)) ≡ memory_over two_words r₀.core ms₀ (records_of tape)
 
 module _ (tape : List ℕ) (n : ℕ) where
-  pub going_begins : n ≡ length tape / 8 → (c : Core) (a : List ℕ) (t : Timing) (ms : List ℕ) → Kept two_words c → AtMost 0 t → Remembers two_words c ms → Going tape n (records_result c a) t ms c a t ms 0
-  going_begins e c a t ms K h R =
+  pub going_begins : n ≡ length tape / 8 → (c : Core) (a : List ℕ) (t : Timing) → Kept two_words c → AtMost 0 t → Going tape n (records_result c a) t c a t 0
+  going_begins e c a t K h =
       let z : n - 0 ≡ length tape / 8 = omega (arith, e) in
       record {
         few = omega arith;
@@ -420,57 +417,42 @@ module _ (tape : List ℕ) (n : ℕ) where
         run = all_records (records_result c a) tape n e;
         timed = ap (λ (m : ℕ). timed_over two_words c (records_from m tape 0) t) z;
         most = h;
-        remembers = R;
-        memory = ap (λ (m : ℕ). memory_over two_words c ms (records_from m tape 0)) z;
       }
 
-  module _ (r₀ : RecordsResult) (t₀ : Timing) (ms₀ : List ℕ) where
-    going_on : (c : Core) (a : List ℕ) (t : Timing) (ms : List ℕ) (i : ℕ) (c' : Core) (a' : List ℕ) (t' : Timing) (ms' : List ℕ) (to : ℕ) → Going tape n r₀ t₀ ms₀ c a t ms i → i < to → to ≤ n
-        → records_result c' a' ≡ run_on two_words (records_result c a) (2 * i) (records_from (to - i) tape (8 * i)) → t' ≡ timed_over two_words c (records_from (to - i) tape (8 * i)) t
-        → ms' ≡ memory_over two_words c ms (records_from (to - i) tape (8 * i)) → Going tape n r₀ t₀ ms₀ c' a' t' ms' to
-    going_on c a t ms i c' a' t' ms' to G l m er et em =
+  module _ (r₀ : RecordsResult) (t₀ : Timing) where
+    going_on : (c : Core) (a : List ℕ) (t : Timing) (i : ℕ) (c' : Core) (a' : List ℕ) (t' : Timing) (to : ℕ) → Going tape n r₀ t₀ c a t i → i < to → to ≤ n
+        → records_result c' a' ≡ run_on two_words (records_result c a) (2 * i) (records_from (to - i) tape (8 * i)) → t' ≡ timed_over two_words c (records_from (to - i) tape (8 * i)) t → Going tape n r₀ t₀ c' a' t' to
+    going_on c a t i c' a' t' to G l m er et =
         let le : i ≤ to = omega (arith, l) in
         let xs = records_from (to - i) tape (8 * i) in
         let ys = records_from (n - to) tape (8 * to) in
         let s : i + length xs ≡ to = omega (arith, l, length_records (to - i) tape (8 * i)) in
-        let after : RecordsResult = run_on two_words (records_result c a) (2 * i) xs in
-        let A = two_over xs c G.kept ms G.remembers a (2 * i) in
         record {
           few = m;
-          kept = subst (λ (q : RecordsResult). Kept two_words q.core) (sym er) A.0;
+          kept = subst (λ (q : RecordsResult). Kept two_words q.core) (sym er) (kept_run xs (records_result c a) (2 * i) G.kept);
           run = ap (λ (q : RecordsResult). run_on two_words q (2 * to) ys) er ∙ run-parts tape i to n le m (records_result c a) ∙ G.run;
           timed = ap (λ (q : RecordsResult). timed_over two_words q.core ys t') er
               ∙ ap (λ (q : Timing). timed_over two_words (run_on two_words (records_result c a) (2 * i) xs).core ys q) et
               ∙ timed_parts tape i to n le m (records_result c a) t
               ∙ G.timed;
           most = subst (λ (q : Timing). AtMost to q) (sym et) (subst (λ (k : ℕ). AtMost k (timed_over two_words c xs t)) s (timed_over_most two_words two_pools c xs i t G.most));
-          remembers = subst (λ (q : RecordsResult). Remembers two_words q.core ms') (sym er) (subst (λ (m : List ℕ). Remembers two_words after.core m) (sym em) A.1);
-          memory = ap (λ (q : RecordsResult). memory_over two_words q.core ms' ys) er
-              ∙ ap (λ (m : List ℕ). memory_over two_words after.core m ys) em
-              ∙ memory_parts tape i to n le m (records_result c a) ms
-              ∙ G.memory;
         }
 
-    pub going_ends : (c : Core) (a : List ℕ) (t : Timing) (ms : List ℕ) (i : ℕ) → Going tape n r₀ t₀ ms₀ c a t ms i → n ≤ i
-        → (records_result c a ≡ run_on two_words r₀ 0 (records_of tape)) × (t ≡ timed_over two_words r₀.core (records_of tape) t₀) × (ms ≡ memory_over two_words r₀.core ms₀ (records_of tape))
-    unfolding records_from timed_over memory_over
-    going_ends c a t ms i G l =
-        let z : n - i ≡ 0 = omega (arith, l) in (
-          sym (finish tape n (records_result c a) i (2 * i) (8 * i) l) ∙ G.run,
-          ap (λ (m : ℕ). timed_over two_words c (records_from m tape (8 * i)) t) (sym z) ∙ G.timed,
-          ap (λ (m : ℕ). memory_over two_words c ms (records_from m tape (8 * i))) (sym z) ∙ G.memory,
-        )
+    pub going_ends : (c : Core) (a : List ℕ) (t : Timing) (i : ℕ) → Going tape n r₀ t₀ c a t i → n ≤ i → (records_result c a ≡ run_on two_words r₀ 0 (records_of tape)) × (t ≡ timed_over two_words r₀.core (records_of tape) t₀)
+    unfolding records_from timed_over
+    going_ends c a t i G l =
+        let z : n - i ≡ 0 = omega (arith, l) in
+        (sym (finish tape n (records_result c a) i (2 * i) (8 * i) l) ∙ G.run, ap (λ (m : ℕ). timed_over two_words c (records_from m tape (8 * i)) t) (sym z) ∙ G.timed)
 
     -- the same of the numbers and lent parts, after a turn that began with the numbers `head`
-    pub turn_goes_on : (h head : Head) (node place count node' place' count' : ℕ) (ts ds : List ℕ) (fs : List Frame) (ws a ts' ds' : List ℕ) (fs' : List Frame) (ws' a' : List ℕ) (t t' : Timing) (ms ms' : List ℕ) (i to : ℕ)
-        → head ≡ renewed h node place count → Going tape n r₀ t₀ ms₀ (core (renewed h node place count) ts ds fs ws) a t ms i → i < to → to ≤ n
+    pub turn_goes_on : (h head : Head) (node place count node' place' count' : ℕ) (ts ds : List ℕ) (fs : List Frame) (ws a ts' ds' : List ℕ) (fs' : List Frame) (ws' a' : List ℕ) (t t' : Timing) (i to : ℕ)
+        → head ≡ renewed h node place count → Going tape n r₀ t₀ (core (renewed h node place count) ts ds fs ws) a t i → i < to → to ≤ n
         → records_result (core (renewed head node' place' count') ts' ds' fs' ws') a' ≡ run_on two_words (records_result (core head ts ds fs ws) a) (2 * i) (records_from (to - i) tape (8 * i))
-        → t' ≡ timed_over two_words (core head ts ds fs ws) (records_from (to - i) tape (8 * i)) t → ms' ≡ memory_over two_words (core head ts ds fs ws) ms (records_from (to - i) tape (8 * i))
-        → Going tape n r₀ t₀ ms₀ (core (renewed h node' place' count') ts' ds' fs' ws') a' t' ms' to
-    turn_goes_on h head node place count node' place' count' ts ds fs ws a ts' ds' fs' ws' a' t t' ms ms' i to eh G l m er et em =
+        → t' ≡ timed_over two_words (core head ts ds fs ws) (records_from (to - i) tape (8 * i)) t
+        → Going tape n r₀ t₀ (core (renewed h node' place' count') ts' ds' fs' ws') a' t' to
+    turn_goes_on h head node place count node' place' count' ts ds fs ws a ts' ds' fs' ws' a' t t' i to eh G l m er et =
         let xs = records_from (to - i) tape (8 * i) in
         let c : Core = core (renewed h node place count) ts ds fs ws in
         let er' : records_result (core (renewed h node' place' count') ts' ds' fs' ws') a' ≡ run_on two_words (records_result c a) (2 * i) xs =
         subst (λ (g : Head). records_result (core (renewed g node' place' count') ts' ds' fs' ws') a' ≡ run_on two_words (records_result (core g ts ds fs ws) a) (2 * i) xs) eh er in
-        going_on c a t ms i (core (renewed h node' place' count') ts' ds' fs' ws') a' t' ms' to G l m er' (et ∙ ap (λ (g : Head). timed_over two_words (core g ts ds fs ws) xs t) eh)
-        (em ∙ ap (λ (g : Head). memory_over two_words (core g ts ds fs ws) ms xs) eh)
+        going_on c a t i (core (renewed h node' place' count') ts' ds' fs' ws') a' t' to G l m er' (et ∙ ap (λ (g : Head). timed_over two_words (core g ts ds fs ws) xs t) eh)

@@ -1,33 +1,22 @@
 -- The tape's loop.
-use Rattle.std.proofs.Common.{◌≡◌, ℕ, suc, ◌+◌, ◌-◌, ◌*◌, ◌%◌, ◌^◌, ◌<◌, ◌≤◌, List, set, sym, refl, ap, ◌∙◌, subst, arith}
+use mathlib.Core.Path.{◌≡◌, refl, sym, ap, subst, ◌∙◌}
+use mathlib.Core.List.{List}
+use Prim.Native.Nat.{ℕ, suc, ◌+◌, ◌-◌, ◌*◌, ◌≤◌, ◌<◌}
+use native.Mathlib.Omega.{arith}
+use lib.ListN.{set}
 use Rattle.model.specs.Record.{decode_at}
-use Rattle.model.specs.declared.Decoded.{Decoded}
 use Rattle.semantics.specs.Answers.{answer_words}
 use Rattle.semantics.specs.declared.Head.{Head}
 use Rattle.frames.specs.declared.Frame.{Frame}
 use Rattle.semantics.specs.Core.{Core, StepResult}
 use Rattle.semantics.specs.Entries.{RecordsResult, records_result, run_on, record_on, records_from, put_answer}
-use Rattle.semantics.specs.Remembering.{memory_after, memory_over, visits_over}
-use Rattle.semantics.specs.Ranges.{Kept, Ready, Remembers, Recalls}
+use Rattle.semantics.specs.Ranges.{Kept, Ready}
 use Rattle.semantics.specs.Theory.Kept.{kept_record}
 use Rattle.semantics.specs.Theory.Ready.{kept_ready}
-use Rattle.semantics.specs.Theory.Recalls.{recalls}
-use Rattle.semantics.specs.Theory.MemoryKept.{remembers_record}
-use Rattle.semantics.specs.Theory.TwoLeaves.{two_leaves}
 use Rattle.engine.specs.declared.Out.{Out}
-use Rattle.engine.specs.Promises.{core, renewed, head_after, Leaves, RemembersRecord}
+use Rattle.engine.specs.Promises.{core, renewed, head_after, Leaves}
 use Rattle.soundness.specs.Layout.{two_words}
 use Rattle.semantics.specs.Theory.TwoPools.{two_pools}
-
--- ---- sums modulo 2^64
-
-adds : (v k v' x y : ℕ) → v' ≡ (v + k) % 2 ^ 64 → y ≡ k + x → (v' + x) % 2 ^ 64 ≡ (v + y) % 2 ^ 64
-adds v k v' x y e f = omega arith
-
-stays : (v x : ℕ) → v < 2 ^ 64 → x ≡ 0 → (v + x) % 2 ^ 64 ≡ v
-stays v x b e = omega arith
-
--- ---- a turn
 
 -- where the loop begins, what is left when a record has been run, and when none is left
 module _ (tape : List ℕ) (n : ℕ) where
@@ -79,70 +68,9 @@ module _ (tape : List ℕ) (n : ℕ) where
             ∙ turn c a a' i o.first o.second d l refl (ap (λ (q : ℕ × ℕ). q.0) L.1) (ap (λ (q : ℕ × ℕ). q.1) L.1) ea,
       )
 
-  -- R-10: the memory and the visits, where v nodes were visited before
-  pub turn_remembers : (c c' : Core) (ms ms' : List ℕ) (i v v' k : ℕ) → i < n → c' ≡ (record_on two_words c (decode_at tape (i * 8))).core → RemembersRecord c ms (decode_at tape (i * 8)) ms' k → v' ≡ (v + k) % 2 ^ 64
-      → (memory_over two_words c' ms' (records_from (n - (i + 1)) tape ((i + 1) * 8)) ≡ memory_over two_words c ms (records_from (n - i) tape (i * 8)))
-      × ((v' + visits_over two_words c' ms' (records_from (n - (i + 1)) tape ((i + 1) * 8))) % 2 ^ 64 ≡ (v + visits_over two_words c ms (records_from (n - i) tape (i * 8))) % 2 ^ 64)
-  unfolding records_from memory_over visits_over
-  turn_remembers c c' ms ms' i v v' k l ec R ev =
-      let d : Decoded = decode_at tape (i * 8) in
-      let m = n - (i + 1) in
-      let em : n - i ≡ suc m = omega arith in
-      let e8 : (i + 1) * 8 ≡ i * 8 + 8 = omega arith in
-      let same : visits_over two_words c' ms' (records_from m tape ((i + 1) * 8)) ≡ visits_over two_words (record_on two_words c d).core (memory_after two_words c ms d) (records_from m tape (i * 8 + 8)) =
-      λ j. visits_over two_words (ec j) (R.memory j) (records_from m tape (e8 j)) in
-      let all : visits_over two_words c ms (records_from (n - i) tape (i * 8)) ≡ k + visits_over two_words c' ms' (records_from m tape ((i + 1) * 8)) =
-      ap (λ (z : ℕ). visits_over two_words c ms (records_from z tape (i * 8))) em ∙ (λ j. sym R.visits j + sym same j) in (
-        (λ j. memory_over two_words (ec j) (R.memory j) (records_from m tape (e8 j))) ∙ ap (λ (z : ℕ). memory_over two_words c ms (records_from z tape (i * 8))) (sym em),
-        adds v k v' (visits_over two_words c' ms' (records_from m tape ((i + 1) * 8))) (visits_over two_words c ms (records_from (n - i) tape (i * 8))) ev all,
-      )
-
-  -- and the memory is sound again
-  pub turn_memory : (h head : Head) (o : Out) (ts ds : List ℕ) (fs : List Frame) (ws ts' ds' : List ℕ) (fs' : List Frame) (ws' ms ms' : List ℕ) (node place count i v v' k : ℕ) → head ≡ renewed h node place count
-      → Kept two_words (core (renewed h node place count) ts ds fs ws) → Remembers two_words (core (renewed h node place count) ts ds fs ws) ms → i < n
-      → Leaves head o ts' ds' fs' ws' (record_on two_words (core head ts ds fs ws) (decode_at tape (i * 8)))
-      → RemembersRecord (core head ts ds fs ws) ms (decode_at tape (i * 8)) ms' k → v' ≡ (v + k) % 2 ^ 64
-      → Remembers two_words (core (head_after h o) ts' ds' fs' ws') ms'
-      × (memory_over two_words (core (head_after h o) ts' ds' fs' ws') ms' (records_from (n - (i + 1)) tape ((i + 1) * 8)) ≡ memory_over two_words (core (renewed h node place count) ts ds fs ws) ms (records_from (n - i) tape (i * 8)))
-      × ((v' + visits_over two_words (core (head_after h o) ts' ds' fs' ws') ms' (records_from (n - (i + 1)) tape ((i + 1) * 8))) % 2 ^ 64
-      ≡ (v + visits_over two_words (core (renewed h node place count) ts ds fs ws) ms (records_from (n - i) tape (i * 8))) % 2 ^ 64)
-  turn_memory h head o ts ds fs ws ts' ds' fs' ws' ms ms' node place count i v v' k eh K R l eo er ev =
-      let c : Core = core (renewed h node place count) ts ds fs ws in
-      let d : Decoded = decode_at tape (i * 8) in
-      let L : Leaves (renewed h node place count) o ts' ds' fs' ws' (record_on two_words c d) = subst (λ (g : Head). Leaves g o ts' ds' fs' ws' (record_on two_words (core g ts ds fs ws) d)) eh eo in
-      let M : RemembersRecord c ms d ms' k = subst (λ (g : Head). RemembersRecord (core g ts ds fs ws) ms d ms' k) eh er in
-      let e : core (head_after h o) ts' ds' fs' ws' ≡ (record_on two_words c d).core = L.0 in
-      let T = turn_remembers c (core (head_after h o) ts' ds' fs' ws') ms ms' i v v' k l e M ev in (
-        subst (λ (q : Core). Remembers two_words q ms') (sym e) (subst (Remembers two_words (record_on two_words c d).core) (sym M.memory) (remembers_record two_words two_pools two_leaves c K ms R d)),
-        T.0,
-        T.1,
-      )
-
-  -- no record is left
-  pub finish_remembers : (c : Core) (ms : List ℕ) (i j v : ℕ) → n ≤ i → v < 2 ^ 64 → (memory_over two_words c ms (records_from (n - i) tape j) ≡ ms) × ((v + visits_over two_words c ms (records_from (n - i) tape j)) % 2 ^ 64 ≡ v)
-  unfolding records_from memory_over visits_over
-  finish_remembers c ms i j v l b =
-      let z : n - i ≡ 0 = omega arith in
-      let e : visits_over two_words c ms (records_from (n - i) tape j) ≡ 0 = ap (λ (m : ℕ). visits_over two_words c ms (records_from m tape j)) z in
-      (ap (λ (m : ℕ). memory_over two_words c ms (records_from m tape j)) z, stays v (visits_over two_words c ms (records_from (n - i) tape j)) b e)
-
-  pub begin_remembers : (c : Core) (ms : List ℕ) (i : ℕ)
-      → (memory_over two_words c ms (records_from (n - i) tape (i * 8)) ≡ memory_over two_words c ms (records_from (n - i) tape (8 * i)))
-      × ((0 + visits_over two_words c ms (records_from (n - i) tape (i * 8))) % 2 ^ 64 ≡ visits_over two_words c ms (records_from (n - i) tape (8 * i)) % 2 ^ 64)
-  begin_remembers c ms i =
-      let e8 : i * 8 ≡ 8 * i = omega arith in
-      let none : 0 + visits_over two_words c ms (records_from (n - i) tape (i * 8)) ≡ visits_over two_words c ms (records_from (n - i) tape (i * 8)) = omega arith in (
-        ap (λ (j : ℕ). memory_over two_words c ms (records_from (n - i) tape j)) e8,
-        ap (λ (v : ℕ). v % 2 ^ 64) (none ∙ ap (λ (j : ℕ). visits_over two_words c ms (records_from (n - i) tape j)) e8),
-      )
-
 -- the numbers are those of a sound core
 pub ready_head : (h head : Head) (ts ds : List ℕ) (fs : List Frame) (ws : List ℕ) → head ≡ h → Kept two_words (core h ts ds fs ws) → Ready (core head ts ds fs ws)
 ready_head h head ts ds fs ws e K = subst (λ (g : Head). Ready (core g ts ds fs ws)) (sym e) (kept_ready (core h ts ds fs ws) K)
 
 pub kept_head : (h head : Head) (ts ds : List ℕ) (fs : List Frame) (ws : List ℕ) → head ≡ h → Kept two_words (core h ts ds fs ws) → Kept two_words (core head ts ds fs ws)
 kept_head h head ts ds fs ws e K = subst (λ (g : Head). Kept two_words (core g ts ds fs ws)) (sym e) K
-
--- R-10: and so is the memory
-pub recalls_head : (h head : Head) (ts ds : List ℕ) (fs : List Frame) (ws ms : List ℕ) → head ≡ h → Kept two_words (core h ts ds fs ws) → Remembers two_words (core h ts ds fs ws) ms → Recalls (core head ts ds fs ws) ms
-recalls_head h head ts ds fs ws ms e K R = subst (λ (g : Head). Recalls (core g ts ds fs ws) ms) (sym e) (recalls (core h ts ds fs ws) K ms R)

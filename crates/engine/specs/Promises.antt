@@ -1,5 +1,5 @@
 -- What the promises of the engine's inner functions are said in, beside the definitions of the crate semantics. Definitions only.
-use Rattle.std.specs.Prelude.{◌≡◌, ℕ, suc, ◌<◌, ◌≤◌, Bool, true, false, cond, ◌&&◌, ◌||◌, ◌≢◌, List, [], ◌∷◌, ◌++◌, length, ◌==◌, nat_lt}
+use Rattle.std.specs.Prelude.{◌≡◌, ◌≢◌, Bool, true, false, cond, ◌||◌, ◌&&◌, List, [], ◌∷◌, ◌++◌, ℕ, suc, ◌≤◌, ◌<◌, length, eqb, ltb}
 use Rattle.words.specs.Basics.{none}
 use Rattle.packed.specs.Pool.{first_shared, rest}
 use Rattle.packed.specs.Links.{PathIn, WriteIn}
@@ -21,23 +21,18 @@ use Rattle.soundness.specs.declared.Numbers.{Numbers}
 use Rattle.soundness.specs.Soundness.{numbers_sound, frames_sound, cleared}
 use Rattle.model.specs.declared.Step.{Step}
 use Rattle.model.specs.declared.Step.TheVariants.{Spawn, Return, Steal, Sync, Read, Write, Fold}
-use Rattle.model.specs.declared.Decoded.{Decoded}
-use Rattle.model.specs.declared.Decoded.TheVariants.{Valid}
 use Rattle.semantics.specs.declared.Head.{Head}
 use Rattle.semantics.specs.declared.Refusal.{Refusal}
 use Rattle.semantics.specs.declared.Refusal.TheVariants.{Values, Workers, Places, Nodes, Tape, Work, Blocks, BlockCheck}
 use Rattle.image.specs.declared.ImageCheck.{ImageCheck}
 use Rattle.image.specs.declared.ImageCheck.TheVariants.{WrongLength, WrongCheck}
-use Rattle.semantics.specs.Entries.{State, whole_nodes, unfit_tape, numbers_of, state_of, is_sound, checked_state, record_on, RecordsResult}
+use Rattle.semantics.specs.Entries.{State, whole_nodes, unfit_tape, numbers_of, state_of, is_sound, checked_state, RecordsResult}
 use Rattle.semantics.specs.Images.{LoadResult, records_zero, nodes_zero}
 use Rattle.semantics.specs.Promises.{parts}
 use Rattle.semantics.specs.Answers.{refusal_number, answer_words}
 use Rattle.semantics.specs.Core.{Core, StepResult, judged, acting_tests, kind_tests, end_at, popped, upward, returned, done_by}
-use Rattle.semantics.specs.Visits.{marks_in, visits_at}
-use Rattle.semantics.specs.Remembering.{is_accepted, memory_by, memory_after, checked_with}
 use Rattle.semantics.specs.Ranges.{EndsAt, EndsUpward}
 use Rattle.engine.specs.declared.Out.{Out}
-use Rattle.engine.specs.declared.Visited.{Visited}
 use Rattle.engine.specs.declared.Acting.{Acting}
 use Rattle.engine.specs.declared.Fields.{Fields}
 use Rattle.soundness.specs.Layout.{two_words}
@@ -62,21 +57,6 @@ Leaves h o ts ds fs ws d = (core (head_after h o) ts ds fs ws ≡ d.core) × ((o
 -- a step of another kind than a return leaves the totals, whatever they are; d is its result from a core
 abbrev pub LeavesOthers : Head → Out → List ℕ → List Frame → List ℕ → List ℕ → List Frame → List ℕ → (Core → StepResult) → Type 0
 LeavesOthers h o ds fs ws ds' fs' ws' d = (ts : List ℕ) → Leaves h o ts ds' fs' ws' (d (core h ts ds fs ws))
-
--- R-10: the step st with the result d, in a tree of height H, leaves the memory ms' of ms, and visits v nodes
-pub record RemembersStep (H : ℕ) (ms : List ℕ) (st : Step) (d : StepResult) (ms' : List ℕ) (v : ℕ) : Type 0 where
-  pub memory : ms' ≡ cond (is_accepted d.answer) (memory_by two_words d.core ms st) ms
-  pub visits : v ≡ visits_at H (marks_in ms) (Valid st, answer_words d.answer)
-
--- what a read or a write leaves, with the memory, whatever the totals are; d is the step's result from a core
-abbrev pub LeavesVisited : (Core → Step → StepResult) → Step → Head → Visited → List ℕ → List Frame → List ℕ → List ℕ → List ℕ → List Frame → List ℕ → List ℕ → Type 0
-LeavesVisited d st h r ds fs ws ms ds' fs' ws' ms' =
-    LeavesOthers h r.out ds fs ws ds' fs' ws' (λ c. d c st) × ((ts : List ℕ) → RemembersStep h.height ms st (d (core h ts ds fs ws) st) ms' r.visits)
-
--- the same of a record on the core c
-pub record RemembersRecord (c : Core) (ms : List ℕ) (d : Decoded) (ms' : List ℕ) (v : ℕ) : Type 0 where
-  pub memory : ms' ≡ memory_after two_words c ms d
-  pub visits : v ≡ visits_at c.head.height (marks_in ms) (d, answer_words (record_on two_words c d).answer)
 
 -- the numbers stay as they are, and the answer words are a and b
 abbrev pub Answers : Head → Out → ℕ → ℕ → Type 0
@@ -128,7 +108,7 @@ abbrev pub ends_from : Core → ℕ → ℕ → StepResult
 ends_from c w p =
     let f : Frame = frame_at c.frames p in
     let ends = upward two_words f.depth (end_at two_words c p) w f.parent in
-    cond (size c.deques w == 0) ends (returned (end_at two_words c p) Continued)
+    cond (eqb (size c.deques w) 0) ends (returned (end_at two_words c p) Continued)
 
 -- what is handed on of them
 abbrev pub LeavesEnded : Out → ℕ → ℕ → ℕ → Returned → Type 0
@@ -156,23 +136,23 @@ pub record IsActing (c : Core) (w : ℕ) (a : Acting) : Type 0 where
 -- the step of a kind with these fields
 abbrev pub step_by : Fields → Step
 step_by r =
-    cond (r.kind == 1) (Spawn r.w)
-    (cond (r.kind == 2) (Return r.w)
-    (cond (r.kind == 3) (Steal r.w r.x)
-    (cond (r.kind == 4) (Sync r.w)
-    (cond (r.kind == 5) (Read r.w r.x)
-    (cond (r.kind == 6) (Write r.w r.x r.v) (Fold r.w r.x r.v))))))
+    cond (eqb r.kind 1) (Spawn r.w)
+    (cond (eqb r.kind 2) (Return r.w)
+    (cond (eqb r.kind 3) (Steal r.w r.x)
+    (cond (eqb r.kind 4) (Sync r.w)
+    (cond (eqb r.kind 5) (Read r.w r.x)
+    (cond (eqb r.kind 6) (Write r.w r.x r.v) (Fold r.w r.x r.v))))))
 
 -- refusals 1, 2, 21 and 3, of a start with n initial values, a table of so many places and a pool of so many whole nodes
 abbrev pub start_tests : ℕ → ℕ → ℕ → ℕ → List (Bool × Refusal)
 start_tests workers n places nodes =
-    (n == 0 || nat_lt 256 n, Values) ∷ (workers == 0 || nat_lt 8 workers, Workers) ∷ (places == 0 || nat_lt max_places places, Places)
-    ∷ (nat_lt nodes (tree_nodes n) || nat_lt 16384 nodes, Nodes) ∷ []
+    (eqb n 0 || ltb 256 n, Values) ∷ (eqb workers 0 || ltb 8 workers, Workers) ∷ (eqb places 0 || ltb max_places places, Places)
+    ∷ (ltb nodes (tree_nodes n) || ltb 16384 nodes, Nodes) ∷ []
 
 -- refusals 1, 2, 21, 3, 4 and 5 of a report
 abbrev pub report_tests : ℕ → List ℕ → ℕ → List ℕ → List ℕ → List ℕ → List ℕ → List (Bool × Refusal)
 report_tests workers vs places ws work tape answers =
-    start_tests workers (length vs) places (whole_nodes two_words ws) ++ ((unfit_tape tape answers, Tape) ∷ (nat_lt (length work) (whole_nodes two_words ws), Work) ∷ [])
+    start_tests workers (length vs) places (whole_nodes two_words ws) ++ ((unfit_tape tape answers, Tape) ∷ (ltb (length work) (whole_nodes two_words ws), Work) ∷ [])
 
 -- the check of numbers, deques and frames: Good, with one more than the last place where a frame lives, if they are sound
 abbrev pub tables_checked : Numbers → List ℕ → List Frame → List ℕ → FramesChecked
@@ -181,10 +161,6 @@ tables_checked n ds fs ws = cond (numbers_sound two_words n fs ws && frames_soun
 -- the answer k of the check of the state s and the pool ws, and the work slice, before and after it
 abbrev pub IsCheck : State → List ℕ → List ℕ → List ℕ → Checked → Type 0
 IsCheck s ws ks ks' k = (ks' ≡ cleared (numbers_of s).nodes ks) × (k ≡ checked_state two_words s ws ks)
-
--- R-10: the same with the memory ms
-abbrev pub IsCheckWith : State → List ℕ → List ℕ → List ℕ → List ℕ → Checked → Type 0
-IsCheckWith s ms ws ks ks' k = (ks' ≡ cleared (numbers_of s).nodes ks) × (k ≡ checked_with two_words s ms ws ks)
 
 -- the parts, the pool ws and the answer words rs are those that a tape's records leave
 pub record IsRun (o : RecordsResult) (ns ds : List ℕ) (fs : List Frame) (ws rs : List ℕ) : Type 0 where

@@ -1,22 +1,17 @@
-// Soundness, checked once a call: numbers first, then frames and deques, then the pool, then the memory.
-ghost use Rattle.std.specs.Prelude.{◌≡◌, ℕ, ◌≤◌, true, ◌||◌, List, length, ◌==◌, nat_eq, slice_index};
+// Soundness, checked once a call: numbers first, then frames and deques, then the pool.
+ghost use Rattle.std.specs.Prelude.{◌≡◌, ◌||◌, List, eqb, length, get_or, ◌≤◌};
 ghost use Rattle.words.specs.Basics.{all};
 ghost use Rattle.frames.specs.Widths.{deque_words};
 ghost use Rattle.frames.specs.declared.Frame.{Frame};
 ghost use Rattle.soundness.specs.Numbers.{number_count, total_count, numbers_in, totals_in};
 ghost use Rattle.soundness.specs.Soundness.{numbers_sound};
-ghost use Rattle.soundness.specs.declared.Checked.TheVariants.{Sound};
-ghost use Rattle.semantics.specs.Entries.{is_sound};
 ghost use Rattle.semantics.specs.Promises.{parts, Fits};
-ghost use Rattle.semantics.specs.Remembering.{right_memory, with_memory};
 ghost use Rattle.engine.specs.Promises.{tables_checked, IsCheck};
-ghost use Rattle.memory.specs.Memory.{memory_words};
 ghost use Rattle.soundness.specs.Layout.{two_words};
 
 use crate::numbers::{numbers_in, totals_zero};
 use frame_check::{FramesChecked, check_frames};
 use frames::Frame;
-use memory_check::check_memory;
 use packed::NODE_WORDS;
 use packed_check::{PoolChecked, check_pool};
 use pool_check::clear;
@@ -38,7 +33,7 @@ pub fn check_numbers(numbers: Numbers, places: usize, pool: &[u32]) -> bool
 // R-5: the totals, "zero while Main lives"; end is one more than the last place where a frame lives, or 0.
 pub fn totals_right(numbers: &[u32], end: u32) -> bool
     requires { length numbers.now ≡ number_count }
-    ensures { result ≡ (end == 0 || all total_count (λ i. nat_eq (slice_index (totals_in numbers.now) i) 0)) }
+    ensures { result ≡ (eqb end 0 || all total_count (λ i. eqb (get_or (totals_in numbers.now) i 0) 0)) }
 {
     (end == 0) | totals_zero(numbers)
 }
@@ -89,8 +84,8 @@ pub fn check_rest(
     Checked::Sound(free)
 }
 
-// Are state and pool sound, but for the memory? The work slice's first words, one for each recorded node, are zero afterwards, unless it has fewer.
-pub fn check_parts(
+// Are state and pool sound? The work slice's first words, one for each recorded node, are zero afterwards, unless it has fewer.
+pub fn check_state(
     numbers: &[u32],
     deques: &[u32],
     frames: &[Frame],
@@ -106,27 +101,4 @@ pub fn check_parts(
     }
     let tables = check_tables(n, deques, frames, pool);
     check_rest(numbers, deques, frames, pool, work, tables)
-}
-
-// R-10: the answer of check_parts with the memory looked at, when the tallies are gone from the stack. It has two callers, as check_parts has, so that the compiler keeps
-// it apart from them: what it holds does not lie below the tallies.
-pub fn check_leaves(
-    checked: Checked,
-    numbers: &[u32],
-    deques: &[u32],
-    frames: &[Frame],
-    memory: &[u32],
-    pool: &[u32],
-) -> Checked
-    requires { Fits (parts numbers.now deques.now frames.now) × (length memory.now ≡ memory_words)
-        × ((free : ℕ) → checked ≡ Sound free → is_sound two_words (parts numbers.now deques.now frames.now) pool.now ≡ true) }
-    ensures { result ≡ with_memory checked (right_memory two_words (parts numbers.now deques.now frames.now) pool.now memory.now) }
-{
-    let Checked::Sound(free) = checked else {
-        return checked;
-    };
-    if !check_memory(numbers_in(numbers), deques, frames, pool, memory) {
-        return Checked::Unsound;
-    }
-    Checked::Sound(free)
 }

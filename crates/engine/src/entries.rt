@@ -1,31 +1,28 @@
 // The start, the tape, the report, the save and the reading, on all inputs: a part of the state that has another length than it must have is refused first, by 99,
-// and nothing changes. The memory (R-10) is a part of the state: a start and a reading leave it zero.
-ghost use Rattle.std.specs.Prelude.{◌≡◌, ◌*◌, ◌&&◌, length, ◌==◌};
+// and nothing changes.
+ghost use Rattle.std.specs.Prelude.{◌≡◌, ◌&&◌, ◌*◌, eqb, length};
 ghost use Rattle.frames.specs.Widths.{deque_words};
 ghost use Rattle.soundness.specs.Numbers.{number_count};
-ghost use Rattle.semantics.specs.Promises.{parts, lent, IsStartWith, IsTapeWith, IsSave, IsLoadWith, IsReportWith};
-ghost use Rattle.semantics.specs.Remembering.{start_remembering, tape_remembering, report_remembering, save_remembering, load_remembering};
-ghost use Rattle.memory.specs.Memory.{memory_words};
+ghost use Rattle.semantics.specs.Entries.{start_on, tape_on};
+ghost use Rattle.semantics.specs.Images.{save_on, load_on};
+ghost use Rattle.semantics.specs.Promises.{parts, lent, IsStart, IsTape, IsSave, IsLoad, IsReport};
+ghost use Rattle.semantics.specs.Report.{report_on};
 ghost use Rattle.soundness.specs.Layout.{two_words};
 
-use crate::Taped;
 use crate::answers::refusal_number;
 use crate::begin::start_on;
 use crate::images::{load_on, save_on};
 use crate::reporting::report_on;
-use crate::tapes::{tape_on, taped};
+use crate::tapes::tape_on;
 use frames::{DEQUE_WORDS, Frame};
 use image::NUMBER_COUNT;
-use memory::MEMORY_WORDS;
 use semantics::Refusal;
-use words::clear_all;
 
 // Has each part of words its length?
-pub fn fit(numbers: &[u32], deques: &[u32], memory: &[u32]) -> bool
-    ensures { result ≡ (length numbers.now == number_count && length deques.now == deque_words) && (length memory.now == memory_words) }
+pub fn fit(numbers: &[u32], deques: &[u32]) -> bool
+    ensures { result ≡ eqb (length numbers.now) number_count && eqb (length deques.now) deque_words }
 {
-    ((numbers.len() == NUMBER_COUNT) & (deques.len() == DEQUE_WORDS))
-        & (memory.len() == MEMORY_WORDS)
+    (numbers.len() == NUMBER_COUNT) & (deques.len() == DEQUE_WORDS)
 }
 
 // 99
@@ -39,18 +36,16 @@ pub fn start(
     numbers: &mut [u32],
     deques: &mut [u32],
     frames: &mut [Frame],
-    memory: &mut [u32],
     workers: u32,
     values: &[u32],
     pool: &mut [u32],
 ) -> u32
-    ensures { IsStartWith (start_remembering two_words (parts numbers.old deques.old frames.old) memory.old workers values.now pool.old)
-        numbers.new deques.new frames.new memory.new pool.new result }
+    ensures { IsStart (start_on two_words (parts numbers.old deques.old frames.old) workers values.now pool.old)
+        numbers.new deques.new frames.new pool.new result }
 {
-    if !fit(numbers, deques, memory) {
+    if !fit(numbers, deques) {
         return unfit();
     }
-    clear_all(memory);
     start_on(numbers, deques, frames, workers, values, pool)
 }
 
@@ -58,24 +53,23 @@ pub fn tape(
     numbers: &mut [u32],
     deques: &mut [u32],
     frames: &mut [Frame],
-    memory: &mut [u32],
     pool: &mut [u32],
     work: &mut [u32],
     bytes: &[u8],
     answers: &mut [u32],
-) -> Taped
-    ensures { IsTapeWith (tape_remembering two_words (parts numbers.old deques.old frames.old) memory.old pool.old work.old bytes.now answers.old)
-        numbers.new deques.new frames.new memory.new pool.new work.new answers.new result.result result.visits }
+) -> u32
+    ensures { IsTape (tape_on two_words (parts numbers.old deques.old frames.old) pool.old work.old bytes.now answers.old)
+        numbers.new deques.new frames.new pool.new work.new answers.new result }
 {
-    if !fit(numbers, deques, memory) {
-        return taped(unfit(), 0);
+    if !fit(numbers, deques) {
+        return unfit();
     }
-    tape_on(numbers, deques, frames, memory, pool, work, bytes, answers)
+    tape_on(numbers, deques, frames, pool, work, bytes, answers)
 }
 
 // Have the clocks two words for each of so many places, and the report four?
 pub fn fit_report(places: usize, clocks: &[u64], report: &[u64]) -> bool
-    ensures { result ≡ (length clocks.now == 2 * places) && (length report.now == 4) }
+    ensures { result ≡ eqb (length clocks.now) (2 * places) && eqb (length report.now) 4 }
 {
     ((clocks.len() % 2 == 0) & (clocks.len() / 2 == places)) & (report.len() == 4)
 }
@@ -85,7 +79,6 @@ pub fn report(
     numbers: &mut [u32],
     deques: &mut [u32],
     frames: &mut [Frame],
-    memory: &mut [u32],
     workers: u32,
     values: &[u32],
     pool: &mut [u32],
@@ -95,19 +88,18 @@ pub fn report(
     clocks: &mut [u64],
     report: &mut [u64],
 ) -> u32
-    ensures { IsReportWith (report_remembering two_words (parts numbers.old deques.old frames.old) memory.old workers values.now pool.old bytes.now
+    ensures { IsReport (report_on two_words (parts numbers.old deques.old frames.old) workers values.now pool.old bytes.now
         (lent work.old answers.old clocks.old report.old))
-        numbers.new deques.new frames.new memory.new pool.new work.new answers.new clocks.new report.new result }
+        numbers.new deques.new frames.new pool.new work.new answers.new clocks.new report.new result }
 {
-    if !fit(numbers, deques, memory) {
+    if !fit(numbers, deques) {
         return unfit();
     }
     if !fit_report(frames.len(), clocks, report) {
         return unfit();
     }
     report_on(
-        numbers, deques, frames, memory, workers, values, pool, work, bytes, answers, clocks,
-        report,
+        numbers, deques, frames, workers, values, pool, work, bytes, answers, clocks, report,
     )
 }
 
@@ -115,35 +107,32 @@ pub fn save(
     numbers: &[u32],
     deques: &[u32],
     frames: &[Frame],
-    memory: &[u32],
     pool: &[u32],
     work: &mut [u32],
     target: &mut [u8],
 ) -> u32
-    ensures { IsSave (save_remembering two_words (parts numbers.now deques.now frames.now) memory.now pool.now work.old target.old)
+    ensures { IsSave (save_on two_words (parts numbers.now deques.now frames.now) pool.now work.old target.old)
         work.new target.new result }
 {
-    if !fit(numbers, deques, memory) {
+    if !fit(numbers, deques) {
         return unfit();
     }
-    save_on(numbers, deques, frames, memory, pool, work, target)
+    save_on(numbers, deques, frames, pool, work, target)
 }
 
 pub fn load(
     numbers: &mut [u32],
     deques: &mut [u32],
     frames: &mut [Frame],
-    memory: &mut [u32],
     pool: &mut [u32],
     work: &mut [u32],
     image: &[u8],
 ) -> u32
-    ensures { IsLoadWith (load_remembering two_words (parts numbers.old deques.old frames.old) memory.old pool.old work.old image.now)
-        numbers.new deques.new frames.new memory.new pool.new work.new result }
+    ensures { IsLoad (load_on two_words (parts numbers.old deques.old frames.old) pool.old work.old image.now)
+        numbers.new deques.new frames.new pool.new work.new result }
 {
-    if !fit(numbers, deques, memory) {
+    if !fit(numbers, deques) {
         return unfit();
     }
-    clear_all(memory);
     load_on(numbers, deques, frames, pool, work, image)
 }

@@ -1,5 +1,5 @@
 // Saving and reading an image, over parts of words that have their lengths and a table of any length: document 02's R-1, as R-6 changes it.
-ghost use Rattle.std.specs.Prelude.{◌≡◌, ◌*◌, ◌≤◌, ◌&&◌, length, if◌then◌else◌, ◌==◌, nat_le, nat_lt};
+ghost use Rattle.std.specs.Prelude.{◌≡◌, cond, ◌&&◌, ◌*◌, ◌≤◌, eqb, leb, ltb, length};
 ghost use Rattle.frames.specs.Widths.{max_places};
 ghost use Rattle.soundness.specs.Numbers.{numbers_in, number_count};
 ghost use Rattle.soundness.specs.Soundness.{cleared};
@@ -8,15 +8,13 @@ ghost use Rattle.image.specs.declared.ImageCheck.TheVariants.{Good};
 ghost use Rattle.image.specs.Image.{image_bytes, image_check, nodes_in, places_in};
 ghost use Rattle.semantics.specs.declared.Refusal.TheVariants.{Work, Target};
 ghost use Rattle.semantics.specs.Answers.{refusal_number};
-ghost use Rattle.semantics.specs.Images.{records_zero, nodes_zero, load_read, load_with};
-ghost use Rattle.semantics.specs.Remembering.{save_remembering};
-ghost use Rattle.memory.specs.Memory.{memory_words};
+ghost use Rattle.semantics.specs.Images.{records_zero, nodes_zero, save_with, load_read, load_with};
 ghost use Rattle.semantics.specs.Promises.{parts, Fits, IsSave, IsLoad};
 ghost use Rattle.engine.specs.Promises.{image_number, IsRechecked, IsLoading};
 ghost use Rattle.soundness.specs.Layout.{two_words};
 
 use crate::answers::refusal_number;
-use crate::checking::{check_leaves, check_parts, check_rest, check_tables};
+use crate::checking::{check_rest, check_state, check_tables};
 use crate::numbers::numbers_in;
 use crate::tapes::check_number;
 use frames::{Frame, MAX_PLACES, clear_frames};
@@ -29,7 +27,7 @@ use words::{clear_all, clear_first};
 // 19, "the target is too short", or 0.
 pub fn target_number(numbers: &[u32], target: &[u8]) -> u32
     requires { length numbers.now ≡ number_count }
-    ensures { result ≡ (if nat_lt (length target.now) (image_bytes two_words (numbers_in numbers.now).places (numbers_in numbers.now).nodes) then refusal_number Target else 0) }
+    ensures { result ≡ cond (ltb (length target.now) (image_bytes two_words (numbers_in numbers.now).places (numbers_in numbers.now).nodes)) (refusal_number Target) 0 }
 {
     let first = numbers_in(numbers);
     if (target.len() as u64) < image_bytes(first.places, first.nodes) {
@@ -43,17 +41,15 @@ pub fn save_on(
     numbers: &[u32],
     deques: &[u32],
     frames: &[Frame],
-    memory: &[u32],
     pool: &[u32],
     work: &mut [u32],
     target: &mut [u8],
 ) -> u32
-    requires { Fits (parts numbers.now deques.now frames.now) × (length memory.now ≡ memory_words) }
-    ensures { IsSave (save_remembering two_words (parts numbers.now deques.now frames.now) memory.now pool.now work.old target.old)
+    requires { Fits (parts numbers.now deques.now frames.now) }
+    ensures { IsSave (save_with two_words (parts numbers.now deques.now frames.now) pool.now work.old target.old)
         work.new target.new result }
 {
-    let checked = check_parts(numbers, deques, frames, pool, work);
-    let refused = check_number(check_leaves(checked, numbers, deques, frames, memory, pool));
+    let refused = check_number(check_state(numbers, deques, frames, pool, work));
     if refused != 0 {
         return refused;
     }
@@ -78,7 +74,7 @@ pub fn image_number(checked: ImageCheck) -> u32
 
 // 5 for an image of so many nodes, or 0.
 pub fn work_number(nodes: u32, work: &[u32]) -> u32
-    ensures { result ≡ (if nat_lt (length work.now) nodes then refusal_number Work else 0) }
+    ensures { result ≡ cond (ltb (length work.now) nodes) (refusal_number Work) 0 }
 {
     if (nodes as usize) > work.len() {
         return refusal_number(Refusal::Work);
@@ -89,7 +85,7 @@ pub fn work_number(nodes: u32, work: &[u32]) -> u32
 // Has the lent table just the image's places, not more than there can be, and the pool its nodes?
 pub fn takes(image: &[u8], places: usize, pool: &[u32]) -> bool
     requires { block_bytes ≤ length image.now }
-    ensures { result ≡ (places == places_in image.now) && (nat_le places max_places && nat_le (2 * nodes_in image.now) (length pool.now)) }
+    ensures { result ≡ eqb places (places_in image.now) && (leb places max_places && leb (2 * nodes_in image.now) (length pool.now)) }
 {
     let recorded = places_in(image) as usize;
     let nodes = nodes_in(image) as usize;

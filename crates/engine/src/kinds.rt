@@ -1,29 +1,25 @@
-// The seven kinds of steps, but for what a return does (returns.rt), over the numbers h and the lent words of the deques, the frame table, the pool and, for a read and a
-// write, the memory: each is refused, and changes nothing, or acts. The core is ready (it is sound), so that reads and stores test no index. For a kind that acts on a
-// worker's bottom frame, `.._at` is the step once that frame's place p and the worker's number n of frames are known.
-ghost use Rattle.std.specs.Prelude.{◌≡◌, suc, ◌-◌, ◌<◌, true, [], length};
+// The seven kinds of steps, but for what a return does (returns.rt), over the numbers h and the lent words of the deques, the frame table and the pool: each is refused, and
+// changes nothing, or acts. The core is ready (it is sound), so that reads and stores test no index. For a kind that acts on a worker's
+// bottom frame, `.._at` is the step once that frame's place p and the worker's number n of frames are known.
+ghost use Rattle.std.specs.Prelude.{◌≡◌, [], length};
 ghost use Rattle.words.specs.Basics.{plus};
-ghost use Rattle.packed.specs.Links.{IsShared};
-ghost use Rattle.packed.specs.Pool.{first_shared};
-ghost use Rattle.frames.specs.Frames.{frame_at};
 ghost use Rattle.frames.specs.Steps.{synced_number};
 ghost use Rattle.soundness.specs.Numbers.{numbers_in, totals_in, number_count};
 ghost use Rattle.model.specs.declared.Step.TheVariants.{Spawn, Return, Steal, Sync, Read, Write, Fold};
 ghost use Rattle.semantics.specs.Core.{step_on};
-ghost use Rattle.semantics.specs.Ranges.{Ready, Recalls};
-ghost use Rattle.engine.specs.Promises.{core, renewed, head_after, Leaves, LeavesOthers, Answers, kind_on, ActsAt, LeavesVisited};
+ghost use Rattle.semantics.specs.Ranges.{Ready};
+ghost use Rattle.engine.specs.Promises.{core, renewed, head_after, Leaves, LeavesOthers, Answers, kind_on, ActsAt};
 ghost use Rattle.soundness.specs.Layout.{two_words};
 
+use crate::Out;
 use crate::answers::{refusal_number, synced_number};
 use crate::refusals::{acting, steal_refusal};
 use crate::returns::return_at;
-use crate::{Out, Visited};
 use frames::{
     Frame, NONE, Synced, fold_at, frame_at, put_frame, spawn_frame, steal_frame, sync_frame,
     top_at, with_root,
 };
-use memory::{recall, remember};
-use packed::{FirstShared, find_leaf, first_shared, leaf_value, retain, set_value, write_shared};
+use packed::{first_shared, read_at, retain, set_value, write_shared};
 use semantics::{Head, Refusal};
 
 // How many reducers there are.
@@ -113,13 +109,6 @@ pub fn written(h: Head, free_node: u32, free_count: u32) -> Out
     }
 }
 
-// R-10: a step that visits so many nodes.
-pub fn visited(out: Out, visits: u32) -> Visited
-    ensures { (result.out ≡ out) × (result.visits ≡ visits) }
-{
-    Visited { out, visits }
-}
-
 pub fn spawn_at(
     h: Head,
     deques: &mut [u32],
@@ -160,61 +149,54 @@ pub fn sync_at(
     waited(h, outcome)
 }
 
-// R-10: "An accepted read of a remembered splitter visits 1 node, other accepted reads .. visit H + 1." The frame's record is needed only for a walk.
 pub fn value_at(
     h: Head,
     deques: &mut [u32],
     frames: &mut [Frame],
     pool: &mut [u32],
-    memory: &mut [u32],
     w: u32,
     n: u32,
     p: u32,
     x: u32,
-) -> Visited
-    requires { Ready (core h [] deques.old frames.old pool.old) × Recalls (core h [] deques.old frames.old pool.old) memory.old
-        × ActsAt (core h [] deques.old frames.old pool.old) w n p }
-    ensures { LeavesVisited kind_on (Read w x) h result deques.old frames.old pool.old memory.old
-        deques.new frames.new pool.new memory.new }
+) -> Out
+    requires { Ready (core h [] deques.old frames.old pool.old) × ActsAt (core h [] deques.old frames.old pool.old) w n p }
+    ensures { LeavesOthers h result deques.old frames.old pool.old deques.new frames.new pool.new
+        (λ c. kind_on c (Read w x)) }
 {
     if x >= h.numbers.splitters {
-        return visited(no_splitter(h), 0);
-    }
-    let known = recall(memory, w, x);
-    if known != 0 {
-        let held = leaf_value(pool, h.numbers.nodes, known - 1);
-        return visited(unchanged(h, 105, held), 1);
+        return no_splitter(h);
     }
     let root = frame_at(frames, p).root;
-    let leaf = find_leaf(pool, h.numbers.nodes, h.height, root, x);
-    remember(memory, w, x, leaf.node);
-    let held = leaf_value(pool, h.numbers.nodes, leaf.node);
-    visited(unchanged(h, 105, held), leaf.visits)
+    let value = read_at(pool, h.numbers.nodes, h.height, root, x);
+    unchanged(h, 105, value)
 }
 
-// A write where `found` is the first node with more than one holder on the way to splitter x: refused by 16, or the rest of the path is new.
-pub fn write_new(
+pub fn write_at(
     h: Head,
     deques: &mut [u32],
     frames: &mut [Frame],
     pool: &mut [u32],
-    memory: &mut [u32],
     w: u32,
     n: u32,
     p: u32,
     x: u32,
     v: u32,
-    root: u32,
-    found: FirstShared,
-) -> Visited
-    requires { Ready (core h [] deques.old frames.old pool.old) × Recalls (core h [] deques.old frames.old pool.old) memory.old
-        × ActsAt (core h [] deques.old frames.old pool.old) w n p × (x < h.numbers.splitters) × (root ≡ (frame_at frames.old p).root) × (found.shared ≡ true)
-        × IsShared h.height found.shared found.level found.node found.above (first_shared h.height pool.old root root x) × (found.visits ≡ suc (h.height - found.level)) }
-    ensures { LeavesVisited kind_on (Write w x v) h result deques.old frames.old pool.old memory.old
-        deques.new frames.new pool.new memory.new }
+) -> Out
+    requires { Ready (core h [] deques.old frames.old pool.old) × ActsAt (core h [] deques.old frames.old pool.old) w n p }
+    ensures { LeavesOthers h result deques.old frames.old pool.old deques.new frames.new pool.new
+        (λ c. kind_on c (Write w x v)) }
 {
+    if x >= h.numbers.splitters {
+        return no_splitter(h);
+    }
+    let root = frame_at(frames, p).root;
+    let found = first_shared(pool, h.numbers.nodes, h.height, root, x);
+    if !found.shared {
+        set_value(pool, h.numbers.nodes, found.node, v);
+        return unchanged(h, 106, h.free_count);
+    }
     if h.free_count <= found.level {
-        return visited(pool_full(h), 0);
+        return pool_full(h);
     }
     let new = write_shared(
         pool,
@@ -229,39 +211,7 @@ pub fn write_new(
     );
     let f = frame_at(frames, p);
     put_frame(frames, p, with_root(f, new.root));
-    remember(memory, w, x, new.leaf);
-    visited(written(h, new.first, new.count), found.visits + new.visits)
-}
-
-// R-10: ".. and all accepted writes visit H + 1": down to the first node with more holders, and from there along the path that is copied.
-pub fn write_at(
-    h: Head,
-    deques: &mut [u32],
-    frames: &mut [Frame],
-    pool: &mut [u32],
-    memory: &mut [u32],
-    w: u32,
-    n: u32,
-    p: u32,
-    x: u32,
-    v: u32,
-) -> Visited
-    requires { Ready (core h [] deques.old frames.old pool.old) × Recalls (core h [] deques.old frames.old pool.old) memory.old
-        × ActsAt (core h [] deques.old frames.old pool.old) w n p }
-    ensures { LeavesVisited kind_on (Write w x v) h result deques.old frames.old pool.old memory.old
-        deques.new frames.new pool.new memory.new }
-{
-    if x >= h.numbers.splitters {
-        return visited(no_splitter(h), 0);
-    }
-    let root = frame_at(frames, p).root;
-    let found = first_shared(pool, h.numbers.nodes, h.height, root, x);
-    if found.shared {
-        return write_new(h, deques, frames, pool, memory, w, n, p, x, v, root, found);
-    }
-    set_value(pool, h.numbers.nodes, found.node, v);
-    remember(memory, w, x, found.node);
-    visited(unchanged(h, 106, h.free_count), found.visits)
+    written(h, new.first, new.count)
 }
 
 // "folds its value into the reducer named in its splitter field"
@@ -341,19 +291,18 @@ pub fn step_read(
     deques: &mut [u32],
     frames: &mut [Frame],
     pool: &mut [u32],
-    memory: &mut [u32],
     w: u32,
     x: u32,
-) -> Visited
-    requires { Ready (core h [] deques.old frames.old pool.old) × Recalls (core h [] deques.old frames.old pool.old) memory.old }
-    ensures { LeavesVisited (step_on two_words) (Read w x) h result deques.old frames.old pool.old memory.old
-        deques.new frames.new pool.new memory.new }
+) -> Out
+    requires { Ready (core h [] deques.old frames.old pool.old) }
+    ensures { LeavesOthers h result deques.old frames.old pool.old deques.new frames.new pool.new
+        (λ c. step_on two_words c (Read w x)) }
 {
     let a = acting(h, deques, w);
     if a.refused {
-        return visited(refused_by(h, a.refusal), 0);
+        return refused_by(h, a.refusal);
     }
-    value_at(h, deques, frames, pool, memory, w, a.n, a.p, x)
+    value_at(h, deques, frames, pool, w, a.n, a.p, x)
 }
 
 pub fn step_write(
@@ -361,20 +310,19 @@ pub fn step_write(
     deques: &mut [u32],
     frames: &mut [Frame],
     pool: &mut [u32],
-    memory: &mut [u32],
     w: u32,
     x: u32,
     v: u32,
-) -> Visited
-    requires { Ready (core h [] deques.old frames.old pool.old) × Recalls (core h [] deques.old frames.old pool.old) memory.old }
-    ensures { LeavesVisited (step_on two_words) (Write w x v) h result deques.old frames.old pool.old memory.old
-        deques.new frames.new pool.new memory.new }
+) -> Out
+    requires { Ready (core h [] deques.old frames.old pool.old) }
+    ensures { LeavesOthers h result deques.old frames.old pool.old deques.new frames.new pool.new
+        (λ c. step_on two_words c (Write w x v)) }
 {
     let a = acting(h, deques, w);
     if a.refused {
-        return visited(refused_by(h, a.refusal), 0);
+        return refused_by(h, a.refusal);
     }
-    write_at(h, deques, frames, pool, memory, w, a.n, a.p, x, v)
+    write_at(h, deques, frames, pool, w, a.n, a.p, x, v)
 }
 
 pub fn step_fold(

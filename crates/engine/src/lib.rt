@@ -20,7 +20,6 @@ pub use entries::{load, report, save, start, tape};
 pub use checking::{check_tables, totals_right};
 pub use entries::{fit, unfit};
 pub use numbers::numbers_in;
-use semantics::Head;
 pub use tapes::check_number;
 
 // What a step leaves of the numbers that change, and its two answer words.
@@ -34,28 +33,6 @@ pub struct Out {
     pub free_count: u32,
     pub first: u32,
     pub second: u32,
-}
-
-// R-10: what a step leaves, and how many nodes it visited.
-#[derive(Drop)]
-pub struct Visited {
-    pub out: Out,
-    pub visits: u32,
-}
-
-// The numbers that a tape's records leave, and how many nodes they visited, modulo 2^64.
-#[derive(Drop)]
-pub struct Ran {
-    pub head: Head,
-    pub visits: u64,
-}
-
-// A tape's result, and how many nodes it visited, modulo 2^64.
-#[repr(C)]
-#[derive(Drop)]
-pub struct Taped {
-    pub result: u32,
-    pub visits: u64,
 }
 
 // What a turn of a report leaves of the numbers that change, and the work and the span after it.

@@ -1,5 +1,5 @@
 // The state's numbers and totals in their lent words.
-ghost use Rattle.std.specs.Prelude.{◌≡◌, length, replicate, if◌then◌else◌, nat_eq, slice_index, slice_set};
+ghost use Rattle.std.specs.Prelude.{◌≡◌, cond, eqb, length, get_or, set, replicate};
 ghost use Rattle.words.specs.Basics.{none, all};
 ghost use Rattle.soundness.specs.Numbers.{numbers_in, number_words, totals_in, number_count, total_count};
 ghost use Rattle.reducers.specs.Reducers.{view_words};
@@ -42,7 +42,7 @@ pub fn put_numbers(numbers: &mut [u32], n: Numbers)
 // The first free node and the first free place, which alone change in a run.
 pub fn put_free(numbers: &mut [u32], node: u32, place: u32)
     requires { length numbers.old ≡ number_count }
-    ensures { numbers.new ≡ slice_set (slice_set numbers.old 3 node) 4 place }
+    ensures { numbers.new ≡ set (set numbers.old 3 node) 4 place }
 {
     numbers[3] = node;
     numbers[4] = place;
@@ -62,7 +62,7 @@ pub fn put_totals(numbers: &mut [u32], view: View)
 // A frame ends: if it is Main, its view becomes the totals.
 pub fn end_totals(numbers: &mut [u32], parent: u32, view: View)
     requires { length numbers.old ≡ number_count }
-    ensures { (totals_in numbers.new ≡ (if nat_eq parent none then view_words view else totals_in numbers.old)) × (numbers_in numbers.new ≡ numbers_in numbers.old) }
+    ensures { (totals_in numbers.new ≡ cond (eqb parent none) (view_words view) (totals_in numbers.old)) × (numbers_in numbers.new ≡ numbers_in numbers.old) }
 {
     if parent == NONE {
         put_totals(numbers, view);
@@ -72,7 +72,7 @@ pub fn end_totals(numbers: &mut [u32], parent: u32, view: View)
 // Are all four zero?
 pub fn totals_zero(numbers: &[u32]) -> bool
     requires { length numbers.now ≡ number_count }
-    ensures { result ≡ all total_count (λ i. nat_eq (slice_index (totals_in numbers.now) i) 0) }
+    ensures { result ≡ all total_count (λ i. eqb (get_or (totals_in numbers.now) i 0) 0) }
 {
     (((numbers[5] == 0) & (numbers[6] == 0)) & (numbers[7] == 0)) & (numbers[8] == 0)
 }

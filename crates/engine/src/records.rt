@@ -1,22 +1,18 @@
 // A step of any kind, a record, and the tape.
-ghost use Rattle.std.specs.Prelude.{◌≡◌, ◌+◌, ◌-◌, ◌*◌, ◌/◌, ◌%◌, ◌^◌, ◌<◌, ◌≤◌, ◌&&◌, ◌≢◌, length, nat_le, slice_set};
+ghost use Rattle.std.specs.Prelude.{◌≡◌, ◌+◌, ◌-◌, ◌*◌, ◌/◌, ◌≤◌, ◌<◌, length, set, ◌≢◌};
 ghost use Rattle.soundness.specs.Numbers.{numbers_in, totals_in, number_count};
 ghost use Rattle.model.specs.Record.{decode_at};
-ghost use Rattle.model.specs.declared.Decoded.TheVariants.{Valid};
 ghost use Rattle.semantics.specs.Core.{step_on};
-ghost use Rattle.semantics.specs.Remembering.{memory_over, visits_over};
 ghost use Rattle.semantics.specs.Entries.{record_on, records_from, records_result, run_on};
-ghost use Rattle.semantics.specs.Ranges.{Kept, Ready, Remembers, Recalls};
-ghost use Rattle.engine.specs.Promises.{core, renewed, Leaves, step_by, RemembersRecord};
+ghost use Rattle.semantics.specs.Ranges.{Kept, Ready};
+ghost use Rattle.engine.specs.Promises.{core, renewed, Leaves, step_by};
 ghost use Rattle.soundness.specs.Layout.{two_words};
 
 use crate::kinds::{
     no_record, step_fold, step_read, step_return, step_spawn, step_steal, step_sync, step_write,
-    visited,
 };
-use crate::{Fields, Out, Ran, Visited};
+use crate::{Fields, Out};
 use frames::Frame;
-use memory::empty;
 use model::record::decode;
 use model::{Decoded, Step};
 use semantics::Head;
@@ -89,13 +85,6 @@ pub fn control_step(
     step_fold(h, deques, frames, pool, r.w, r.x, r.v)
 }
 
-// R-10: "its accepted spawn, return, steal or sync empties that memory": is it one of these, by the first answer word, "100 plus the kind"?
-pub fn empties(first: u32) -> bool
-    ensures { result ≡ (nat_le 101 first && nat_le first 104) }
-{
-    (101 <= first) & (first <= 104)
-}
-
 // Any step.
 pub fn take_step(
     h: Head,
@@ -103,26 +92,19 @@ pub fn take_step(
     deques: &mut [u32],
     frames: &mut [Frame],
     pool: &mut [u32],
-    memory: &mut [u32],
     r: Fields,
-) -> Visited
-    requires { (length numbers.old ≡ number_count) × Ready (core h (totals_in numbers.old) deques.old frames.old pool.old)
-        × Recalls (core h (totals_in numbers.old) deques.old frames.old pool.old) memory.old }
-    ensures { (numbers_in numbers.new ≡ numbers_in numbers.old) × Leaves h result.out (totals_in numbers.new) deques.new frames.new pool.new
-        (step_on two_words (core h (totals_in numbers.old) deques.old frames.old pool.old) (step_by r))
-        × RemembersRecord (core h (totals_in numbers.old) deques.old frames.old pool.old) memory.old (Valid (step_by r)) memory.new result.visits }
+) -> Out
+    requires { (length numbers.old ≡ number_count) × Ready (core h (totals_in numbers.old) deques.old frames.old pool.old) }
+    ensures { (numbers_in numbers.new ≡ numbers_in numbers.old) × Leaves h result (totals_in numbers.new) deques.new frames.new pool.new
+        (step_on two_words (core h (totals_in numbers.old) deques.old frames.old pool.old) (step_by r)) }
 {
     if r.kind == 5 {
-        return step_read(h, deques, frames, pool, memory, r.w, r.x);
+        return step_read(h, deques, frames, pool, r.w, r.x);
     }
     if r.kind == 6 {
-        return step_write(h, deques, frames, pool, memory, r.w, r.x, r.v);
+        return step_write(h, deques, frames, pool, r.w, r.x, r.v);
     }
-    let out = control_step(h, numbers, deques, frames, pool, r);
-    if empties(out.first) {
-        empty(memory, r.w);
-    }
-    visited(out, 0)
+    control_step(h, numbers, deques, frames, pool, r)
 }
 
 // The record at a place of the tape.
@@ -132,27 +114,24 @@ pub fn step_record(
     deques: &mut [u32],
     frames: &mut [Frame],
     pool: &mut [u32],
-    memory: &mut [u32],
     tape: &[u8],
     at: usize,
-) -> Visited
-    requires { (length numbers.old ≡ number_count) × Ready (core h (totals_in numbers.old) deques.old frames.old pool.old)
-        × Recalls (core h (totals_in numbers.old) deques.old frames.old pool.old) memory.old × (at + 8 ≤ length tape.now) }
-    ensures { (numbers_in numbers.new ≡ numbers_in numbers.old) × Leaves h result.out (totals_in numbers.new) deques.new frames.new pool.new
-        (record_on two_words (core h (totals_in numbers.old) deques.old frames.old pool.old) (decode_at tape.now at))
-        × RemembersRecord (core h (totals_in numbers.old) deques.old frames.old pool.old) memory.old (decode_at tape.now at) memory.new result.visits }
+) -> Out
+    requires { (length numbers.old ≡ number_count) × Ready (core h (totals_in numbers.old) deques.old frames.old pool.old) × (at + 8 ≤ length tape.now) }
+    ensures { (numbers_in numbers.new ≡ numbers_in numbers.old) × Leaves h result (totals_in numbers.new) deques.new frames.new pool.new
+        (record_on two_words (core h (totals_in numbers.old) deques.old frames.old pool.old) (decode_at tape.now at)) }
 {
     let decoded = decode(tape, at);
     let Decoded::Valid(step) = decoded else {
-        return visited(no_record(h), 0);
+        return no_record(h);
     };
-    take_step(h, numbers, deques, frames, pool, memory, fields_of(step))
+    take_step(h, numbers, deques, frames, pool, fields_of(step))
 }
 
 // "Each record gives two answer words"
 pub fn put_answer(answers: &mut [u32], to: usize, first: u32, second: u32)
     requires { to + 1 < length answers.old }
-    ensures { answers.new ≡ slice_set (slice_set answers.old to first) (to + 1) second }
+    ensures { answers.new ≡ set (set answers.old to first) (to + 1) second }
 {
     answers[to] = first;
     answers[to + 1] = second;
@@ -179,20 +158,6 @@ pub fn record_count(tape: &[u8]) -> usize
     tape.len() / 8
 }
 
-// "The number of nodes visited over a tape is counted, modulo 2^64"
-pub fn add_visits(visits: u64, more: u32) -> u64
-    ensures { result ≡ (visits + more) % 2 ^ 64 }
-{
-    std::num::wrapping_add_u64(visits, more as u64)
-}
-
-// What the records left.
-pub fn ran(head: Head, visits: u64) -> Ran
-    ensures { (result.head ≡ head) × (result.visits ≡ visits) }
-{
-    Ran { head, visits }
-}
-
 // The tape's records from the one at `from` up to the one at `to`, in order, from a sound core. "A refused record gives its refusal and 0, and the tape goes on."
 // A tape and a report call it, once each, so that the compiler keeps it as one function of its own.
 pub fn run_records(
@@ -201,38 +166,32 @@ pub fn run_records(
     deques: &mut [u32],
     frames: &mut [Frame],
     pool: &mut [u32],
-    memory: &mut [u32],
     tape: &[u8],
     answers: &mut [u32],
     from: usize,
     to: usize,
-) -> Ran
-    requires { (length numbers.old ≡ number_count) × Kept two_words (core h (totals_in numbers.old) deques.old frames.old pool.old)
-        × Remembers two_words (core h (totals_in numbers.old) deques.old frames.old pool.old) memory.old × (2 * (length tape.now / 8) ≤ length answers.old)
+) -> Head
+    requires { (length numbers.old ≡ number_count) × Kept two_words (core h (totals_in numbers.old) deques.old frames.old pool.old) × (2 * (length tape.now / 8) ≤ length answers.old)
         × (from ≤ to) × (to ≤ length tape.now / 8) }
     ensures { (numbers_in numbers.new ≡ numbers_in numbers.old)
-        × (records_result (core result.head (totals_in numbers.new) deques.new frames.new pool.new) answers.new
+        × (records_result (core result (totals_in numbers.new) deques.new frames.new pool.new) answers.new
         ≡ run_on two_words (records_result (core h (totals_in numbers.old) deques.old frames.old pool.old) answers.old) (2 * from) (records_from (to - from) tape.now (8 * from)))
-        × (result.head ≡ renewed h result.head.numbers.free_node result.head.numbers.free_place result.head.free_count)
-        × (memory.new ≡ memory_over two_words (core h (totals_in numbers.old) deques.old frames.old pool.old) memory.old (records_from (to - from) tape.now (8 * from)))
-        × (result.visits ≡ visits_over two_words (core h (totals_in numbers.old) deques.old frames.old pool.old) memory.old (records_from (to - from) tape.now (8 * from)) % 2 ^ 64) }
+        × (result ≡ renewed h result.numbers.free_node result.numbers.free_place result.free_count) }
 {
     let mut free_node = h.numbers.free_node;
     let mut free_place = h.numbers.free_place;
     let mut free_count = h.free_count;
-    let mut visits: u64 = 0;
     let mut i = from;
     let mut more = to - from;
     while more > 0 {
         let head = head_with(h, free_node, free_place, free_count);
-        let step = step_record(head, numbers, deques, frames, pool, memory, tape, i * 8);
-        put_answer(answers, i * 2, step.out.first, step.out.second);
-        free_node = step.out.free_node;
-        free_place = step.out.free_place;
-        free_count = step.out.free_count;
-        visits = add_visits(visits, step.visits);
+        let out = step_record(head, numbers, deques, frames, pool, tape, i * 8);
+        put_answer(answers, i * 2, out.first, out.second);
+        free_node = out.free_node;
+        free_place = out.free_place;
+        free_count = out.free_count;
         i += 1;
         more -= 1;
     }
-    ran(head_with(h, free_node, free_place, free_count), visits)
+    head_with(h, free_node, free_place, free_count)
 }

@@ -1,5 +1,5 @@
 // Refusals 8 to 12, tested in the order of document 01. Whether all workers are idle is asked only on the way to a refusal.
-ghost use Rattle.std.specs.Prelude.{◌≡◌, ◌≤◌, true, not, ◌||◌, [], length, nat_eq, nat_lt};
+ghost use Rattle.std.specs.Prelude.{◌≡◌, true, not, ◌||◌, [], ◌≤◌, eqb, ltb, length};
 ghost use Rattle.words.specs.Basics.{all};
 ghost use Rattle.frames.specs.Widths.{max_workers, deque_words};
 ghost use Rattle.frames.specs.Deques.{size};
@@ -15,7 +15,7 @@ use semantics::{Head, Refusal};
 // Has every worker an empty deque? Those that do not exist have one, so all eight are asked, and the loop's bound takes no register.
 fn all_idle(deques: &[u32]) -> bool
     requires { length deques.now ≡ deque_words }
-    ensures { result ≡ all max_workers (λ w. nat_eq (size deques.now w) 0) }
+    ensures { result ≡ all max_workers (λ w. eqb (size deques.now w) 0) }
 {
     let mut left = MAX_WORKERS;
     while left > 0 {
@@ -65,7 +65,7 @@ pub fn acting(h: Head, deques: &[u32], w: u32) -> Acting
 // Does v not exist, or has it fewer than two frames?
 fn no_victim(workers: u32, deques: &[u32], v: u32) -> bool
     requires { (length deques.now ≡ deque_words) × (workers ≤ max_workers) }
-    ensures { result ≡ (not (nat_lt v workers) || nat_lt (size deques.now v) 2) }
+    ensures { result ≡ (not (ltb v workers) || ltb (size deques.now v) 2) }
 {
     if v >= workers {
         return true;

@@ -1,13 +1,11 @@
 // R-7: "One call makes a start, runs one tape and makes the report", over parts that have their lengths. The tape runs in turns, a record and the reads, writes
 // and folds after it: these move no deque, so that their clocks are moved when the turn is done, and nothing of the clocks is on the way of a plain tape.
-ghost use Rattle.std.specs.Prelude.{◌≡◌, ℕ, ◌+◌, ◌-◌, ◌*◌, ◌/◌, ◌<◌, ◌≤◌, false, length, slice_index};
+ghost use Rattle.std.specs.Prelude.{◌≡◌, false, ℕ, ◌+◌, ◌-◌, ◌*◌, ◌/◌, ◌≤◌, ◌<◌, length, get_or};
 ghost use Rattle.soundness.specs.Numbers.{numbers_in, totals_in, number_count};
 ghost use Rattle.soundness.specs.declared.Checked.TheVariants.{Sound};
 ghost use Rattle.semantics.specs.Entries.{core_of, chain_free, checked_state, records_result, records_from, records_of, run_on, tape_with, unfit_tape};
 ghost use Rattle.semantics.specs.Promises.{parts, lent, Fits, IsReport};
-ghost use Rattle.semantics.specs.Ranges.{Kept, Remembers};
-ghost use Rattle.semantics.specs.Remembering.{memory_over, memory_checked, report_memory};
-ghost use Rattle.memory.specs.Memory.{memory_words, no_memory};
+ghost use Rattle.semantics.specs.Ranges.{Kept};
 ghost use Rattle.semantics.specs.Report.{report_done, report_with, timing_of};
 ghost use Rattle.semantics.specs.Timing.{timed_over};
 ghost use Rattle.timing.specs.Turns.{timing, kind_at};
@@ -17,7 +15,7 @@ ghost use Rattle.soundness.specs.Layout.{two_words};
 use crate::Turn;
 use crate::answers::refusal_number;
 use crate::begin::{start_on, start_refusal, whole_nodes};
-use crate::checking::check_parts;
+use crate::checking::check_state;
 use crate::numbers::{numbers_in, put_free};
 use crate::records::{head_with, record_count, run_records};
 use crate::tapes::{free_in, head_of, unfit_tape};
@@ -35,7 +33,6 @@ pub fn run_turn(
     deques: &mut [u32],
     frames: &mut [Frame],
     pool: &mut [u32],
-    memory: &mut [u32],
     tape: &[u8],
     answers: &mut [u32],
     clocks: &mut [u64],
@@ -45,20 +42,16 @@ pub fn run_turn(
 ) -> Turn
     requires { (length numbers.old ≡ number_count) × Kept two_words (core h (totals_in numbers.old) deques.old frames.old pool.old) × (2 * (length tape.now / 8) ≤ length answers.old)
         × (i < to) × (to ≤ length tape.now / 8) × ((j : ℕ) → i + 1 ≤ j → j < to → 5 ≤ kind_at tape.now j)
-        × (length clocks.old ≡ 2 * length frames.old) × ((j : ℕ) → slice_index clocks.old j ≤ i) × (t.work ≤ i) × (t.span ≤ i)
-        × Remembers two_words (core h (totals_in numbers.old) deques.old frames.old pool.old) memory.old }
+        × (length clocks.old ≡ 2 * length frames.old) × ((j : ℕ) → get_or clocks.old j 0 ≤ i) × (t.work ≤ i) × (t.span ≤ i) }
     ensures { (numbers_in numbers.new ≡ numbers_in numbers.old)
         × (records_result (core (renewed h result.free_node result.free_place result.free_count) (totals_in numbers.new) deques.new frames.new pool.new) answers.new
         ≡ run_on two_words (records_result (core h (totals_in numbers.old) deques.old frames.old pool.old) answers.old) (2 * i) (records_from (to - i) tape.now (8 * i)))
         × (timing clocks.new result.work result.span
-        ≡ timed_over two_words (core h (totals_in numbers.old) deques.old frames.old pool.old) (records_from (to - i) tape.now (8 * i)) (timing clocks.old t.work t.span))
-        × (memory.new ≡ memory_over two_words (core h (totals_in numbers.old) deques.old frames.old pool.old) memory.old (records_from (to - i) tape.now (8 * i))) }
+        ≡ timed_over two_words (core h (totals_in numbers.old) deques.old frames.old pool.old) (records_from (to - i) tape.now (8 * i)) (timing clocks.old t.work t.span)) }
 {
     let p = bottom_of(deques, tape, i);
     let r = rise_of(clocks, frames, tape, i, p);
-    let last = run_records(
-        h, numbers, deques, frames, pool, memory, tape, answers, i, to,
-    );
+    let last = run_records(h, numbers, deques, frames, pool, tape, answers, i, to);
     let first = time_first(
         clocks,
         answers[2 * i],
@@ -70,9 +63,9 @@ pub fn run_turn(
     );
     let work = time_data(clocks, deques, tape, answers, i + 1, to, first.work);
     Turn {
-        free_node: last.head.numbers.free_node,
-        free_place: last.head.numbers.free_place,
-        free_count: last.head.free_count,
+        free_node: last.numbers.free_node,
+        free_place: last.numbers.free_place,
+        free_count: last.free_count,
         work,
         span: first.span,
     }
@@ -84,20 +77,17 @@ pub fn run_timed(
     deques: &mut [u32],
     frames: &mut [Frame],
     pool: &mut [u32],
-    memory: &mut [u32],
     tape: &[u8],
     answers: &mut [u32],
     clocks: &mut [u64],
     free_count: u32,
 ) -> Tally
     requires { Fits (parts numbers.old deques.old frames.old) × Kept two_words (core_of (parts numbers.old deques.old frames.old) pool.old free_count)
-        × (2 * (length tape.now / 8) ≤ length answers.old) × (length clocks.old ≡ 2 * length frames.old) × ((j : ℕ) → slice_index clocks.old j ≤ 0)
-        × Remembers two_words (core_of (parts numbers.old deques.old frames.old) pool.old free_count) memory.old }
+        × (2 * (length tape.now / 8) ≤ length answers.old) × (length clocks.old ≡ 2 * length frames.old) × ((j : ℕ) → get_or clocks.old j 0 ≤ 0) }
     ensures { IsRun (run_on two_words (records_result (core_of (parts numbers.old deques.old frames.old) pool.old free_count) answers.old) 0 (records_of tape.now))
         numbers.new deques.new frames.new pool.new answers.new
         × (timing clocks.new result.work result.span
-        ≡ timed_over two_words (core_of (parts numbers.old deques.old frames.old) pool.old free_count) (records_of tape.now) (timing clocks.old 0 0))
-        × (memory.new ≡ memory_over two_words (core_of (parts numbers.old deques.old frames.old) pool.old free_count) memory.old (records_of tape.now)) }
+        ≡ timed_over two_words (core_of (parts numbers.old deques.old frames.old) pool.old free_count) (records_of tape.now) (timing clocks.old 0 0)) }
 {
     let h = head_of(numbers_in(numbers), free_count);
     let records = record_count(tape);
@@ -110,7 +100,7 @@ pub fn run_timed(
         let to = turn_end(tape, i + 1, records);
         let head = head_with(h, node, place, count);
         let turn = run_turn(
-            head, numbers, deques, frames, pool, memory, tape, answers, clocks, i, to, t,
+            head, numbers, deques, frames, pool, tape, answers, clocks, i, to, t,
         );
         node = turn.free_node;
         place = turn.free_place;
@@ -156,7 +146,6 @@ pub fn report_run(
     numbers: &mut [u32],
     deques: &mut [u32],
     frames: &mut [Frame],
-    memory: &mut [u32],
     pool: &mut [u32],
     work: &mut [u32],
     tape: &[u8],
@@ -166,21 +155,18 @@ pub fn report_run(
 ) -> u32
     requires { Fits (parts numbers.old deques.old frames.old)
         × (checked_state two_words (parts numbers.old deques.old frames.old) pool.old work.old ≡ Sound (chain_free two_words (parts numbers.old deques.old frames.old) pool.old))
-        × (unfit_tape tape.now answers.old ≡ false) × (length clocks.old ≡ 2 * length frames.old) × (length report.old ≡ 4) × (memory.old ≡ no_memory) }
+        × (unfit_tape tape.now answers.old ≡ false) × (length clocks.old ≡ 2 * length frames.old) × (length report.old ≡ 4) }
     ensures { IsReport (report_done (tape_with two_words (parts numbers.old deques.old frames.old) pool.old work.old tape.now answers.old)
         (timing_of two_words (parts numbers.old deques.old frames.old) pool.old tape.now clocks.old) report.old)
-        numbers.new deques.new frames.new pool.new work.new answers.new clocks.new report.new result
-        × (memory.new ≡ memory_checked two_words (checked_state two_words (parts numbers.old deques.old frames.old) pool.old work.old)
-        (parts numbers.old deques.old frames.old) pool.old no_memory (records_of tape.now)) }
+        numbers.new deques.new frames.new pool.new work.new answers.new clocks.new report.new result }
 {
-    let checked = check_parts(numbers, deques, frames, pool, work);
+    let checked = check_state(numbers, deques, frames, pool, work);
     clear_clocks(clocks);
     let t = run_timed(
         numbers,
         deques,
         frames,
         pool,
-        memory,
         tape,
         answers,
         clocks,
@@ -194,7 +180,6 @@ pub fn report_on(
     numbers: &mut [u32],
     deques: &mut [u32],
     frames: &mut [Frame],
-    memory: &mut [u32],
     workers: u32,
     values: &[u32],
     pool: &mut [u32],
@@ -204,14 +189,11 @@ pub fn report_on(
     clocks: &mut [u64],
     report: &mut [u64],
 ) -> u32
-    requires { Fits (parts numbers.old deques.old frames.old) × (length clocks.old ≡ 2 * length frames.old) × (length report.old ≡ 4) × (length memory.old ≡ memory_words) }
+    requires { Fits (parts numbers.old deques.old frames.old) × (length clocks.old ≡ 2 * length frames.old) × (length report.old ≡ 4) }
     ensures { IsReport (report_with two_words (parts numbers.old deques.old frames.old) workers values.now pool.old tape.now
         (lent work.old answers.old clocks.old report.old))
-        numbers.new deques.new frames.new pool.new work.new answers.new clocks.new report.new result
-        × (memory.new ≡ report_memory two_words (parts numbers.old deques.old frames.old) workers values.now pool.old tape.now
-        (lent work.old answers.old clocks.old report.old)) }
+        numbers.new deques.new frames.new pool.new work.new answers.new clocks.new report.new result }
 {
-    clear_all(memory);
     let refusal = report_refusal(workers, values, frames.len(), pool, work, tape, answers);
     if refusal != 0 {
         clear_all(numbers);
@@ -220,6 +202,6 @@ pub fn report_on(
     }
     start_on(numbers, deques, frames, workers, values, pool);
     report_run(
-        numbers, deques, frames, memory, pool, work, tape, answers, clocks, report,
+        numbers, deques, frames, pool, work, tape, answers, clocks, report,
     )
 }

@@ -201,9 +201,9 @@ module _ (image : List ℕ) where
   unfolding image_check
   is_wrong w b ew h eb d e = rw (tested w b ew h eb d, e)
 
-  pub is_right_lem : (w b : ℕ) → w ≡ first_in image → Readable two_words two_version w → b ≡ blocks_called two_words image → length image ≡ 512 * b → wrong_check two_words image ≡ false → Good ≡ image_check two_words image
+  pub is_right : (w b : ℕ) → w ≡ first_in image → Readable two_words two_version w → b ≡ blocks_called two_words image → length image ≡ 512 * b → wrong_check two_words image ≡ false → Good ≡ image_check two_words image
   unfolding image_check
-  is_right_lem w b ew h eb d e = rw (tested w b ew h eb d, e)
+  is_right w b ew h eb d e = rw (tested w b ew h eb d, e)
 
 -- ---- reading
 

@@ -2,7 +2,7 @@
 use mathlib.Core.Path.{ap}
 use mathlib.Core.Logic.{inl, inr}
 use mathlib.Core.List.{List, [], ◌∷◌, ◌++◌}
-use Prim.Native.Nat.{ℕ, zero, suc, ◌*◌, ◌/◌, ◌^◌, ◌≤◌, ◌<◌}
+use Prim.Native.Nat.{ℕ, zero, suc, ◌*◌, ◌/◌, ◌≤◌, ◌<◌}
 use native.Mathlib.Omega.{arith}
 use lib.ListN.{length, get_or, length-append}
 use lib.Dec.{eqb, ltb}
@@ -10,7 +10,7 @@ use Rattle.words.specs.Basics.{none, follow}
 use Rattle.words.specs.Tests.{decided, lt_of, ge_of}
 use Rattle.packed.specs.Pool.{next_free}
 use Rattle.soundness.specs.PackedTrees.{free_nodes}
-use Rattle.lines.specs.Lines.{refused_line, digit, decimal, line, answer_lines, free_line, visits_line}
+use Rattle.lines.specs.Lines.{refused_line, digit, decimal, line, answer_lines, free_line}
 use Rattle.lines.proofs.Numbers.{decimal_one, decimal_more}
 
 -- 10, 100, ..
@@ -54,10 +54,6 @@ follow_short (suc c) next a = elim (decided (eqb a none)) [
 
 pub refused_short : (k : ℕ) → k < 4294967296 → length (refused_line k) ≤ 19
 refused_short k h = omega (arith, length-append (decimal k) (10 ∷ []), word_short k (omega arith))
-
--- a number of 64 bits has at most twenty digits
-pub visits_short : (visits : ℕ) → visits < 2 ^ 64 → length (visits_line visits) ≤ 28
-visits_short visits h = omega (arith, length-append (decimal visits) (10 ∷ []), digits_short 19 visits (omega arith))
 
 pub free_short : (nodes : ℕ) (pool : List ℕ) (first : ℕ) → nodes < 4294967296 → length (free_line (length (free_nodes nodes pool first))) ≤ 19
 free_short nodes pool first n =

@@ -7,7 +7,6 @@ use lib.ListN.{length, take, drop, replicate, length-drop, length-replicate}
 use lib.Dec.{ltb}
 use lib.Seq.{take_all}
 use Rattle.words.specs.Tests.{neither, ge_of}
-use Rattle.memory.specs.Memory.{no_memory}
 use Rattle.semantics.specs.Entries.{zeros}
 use mathlib.Core.Bool.{true, false, ◌||◌}
 use Rattle.lines.specs.Output.{store_all, Stores, StoresUpTo, IsOutput}
@@ -29,9 +28,9 @@ lines_fit input workers n nodes w p q h = rw (← w, ← p, ← q, h)
 
 pub output_fit : (input old : List ℕ) (workers n nodes : ℕ) {mid new : List ℕ} {to r : ℕ} → workers ≡ workers_in input → n ≡ splitters_in input → nodes ≡ nodes_in input
     → unfit (length input) n nodes ≡ false → StoresUpTo 33 old 0 (line (decimal workers ∷ decimal n ∷ decimal nodes ∷ [])) mid to
-    → StoresUpTo 45155 mid to (fit_lines workers n nodes input) new r → IsOutput input old new r
+    → StoresUpTo 45127 mid to (fit_lines workers n nodes input) new r → IsOutput input old new r
 output_fit input old workers n nodes w p q h s t =
-    is_output {most = 45188} input old (omega arith)
+    is_output {most = 45160} input old (omega arith)
     (rw (lines_fit input workers n nodes w p q h) (up_to_then old 0 (line (decimal workers ∷ decimal n ∷ decimal nodes ∷ [])) (fit_lines workers n nodes input) s t))
 
 pub fit_numbers : (size n nodes : ℕ) → unfit size n nodes ≡ false → (n ≤ 256) × (nodes ≤ 1024) × (records_start n ≤ size) × (size - records_start n ≤ 16384)
@@ -51,7 +50,7 @@ take-replicate (suc k) (suc m) h = ap (λ (l : List ℕ). 0 ∷ l) (take-replica
 -- the slices that are lent have what the definition gives
 fit_lines_lem : (workers n nodes : ℕ) (input vs ws work records answers : List ℕ) → length vs ≡ n → ws ≡ replicate (2 * nodes) 0 → work ≡ replicate nodes 0
     → records ≡ records_in n input → answers ≡ replicate (2 * ((length input - records_start n) / 8)) 0
-    → run_lines (zeros lent_table) no_memory workers (numbers_at (length vs) input 8) ws work records answers ≡ fit_lines workers n nodes input
+    → run_lines (zeros lent_table) workers (numbers_at (length vs) input 8) ws work records answers ≡ fit_lines workers n nodes input
 unfolding fit_lines
 fit_lines_lem workers n nodes input vs ws work records answers v p w r a = rw (v, p, w, r, a, length-drop)
 
@@ -61,10 +60,10 @@ length_part k m h = sym (ap length (take-replicate k m h) ∙ length-replicate k
 -- lent as parts of arrays of zeros, and the records as a part of the input
 pub fit_stored : (workers n nodes at : ℕ) (input o : List ℕ) {o' : List ℕ} {r : ℕ} (mv mp mw ma : ℕ)
     → n ≤ mv → 2 * nodes ≤ mp → nodes ≤ mw → 2 * ((length input - records_start n) / 8) ≤ ma
-    → StoresUpTo (11 * length (take (2 * ((length input - records_start n) / 8)) (replicate {A = ℕ} ma 0)) + 99) o at
-    (run_lines (zeros lent_table) no_memory workers (numbers_at (length (take n (replicate {A = ℕ} mv 0))) input 8) (take (2 * nodes) (replicate mp 0)) (take nodes (replicate mw 0))
+    → StoresUpTo (11 * length (take (2 * ((length input - records_start n) / 8)) (replicate {A = ℕ} ma 0)) + 71) o at
+    (run_lines (zeros lent_table) workers (numbers_at (length (take n (replicate {A = ℕ} mv 0))) input 8) (take (2 * nodes) (replicate mp 0)) (take nodes (replicate mw 0))
     (take (length input - records_start n) (drop (records_start n) input)) (take (2 * ((length input - records_start n) / 8)) (replicate ma 0))) o' r
-    → StoresUpTo (11 * ma + 99) o at (fit_lines workers n nodes input) o' r
+    → StoresUpTo (11 * ma + 71) o at (fit_lines workers n nodes input) o' r
 fit_stored workers n nodes at input o mv mp mw ma v p w a s =
     let records : List ℕ = drop (records_start n) input in
     let size : ℕ = length input - records_start n in

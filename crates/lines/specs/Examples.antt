@@ -2,8 +2,7 @@
 use Rattle.std.specs.Prelude.{◌≡◌, refl, List, [], ◌∷◌, ◌++◌, ℕ}
 use Rattle.words.specs.Basics.{none}
 use Rattle.lines.specs.Lines.{decimal_by, decimal, lines_of, workers_in, splitters_in, number32_at, numbers_at, unfit, answer_lines, main_returned, accepted_lines, run_lines, fit_lines, refused_word}
-use Rattle.semantics.specs.Entries.{start_with}
-use Rattle.semantics.specs.Remembering.{start_remembering}
+use Rattle.semantics.specs.Entries.{start_on, start_with}
 
 zero_digits : decimal 0 ≡ 48 ∷ []
 unfolding decimal decimal_by
@@ -24,13 +23,12 @@ seven_bytes = refl
 
 -- "0 1 1", "refused 2": no workers
 no_workers : lines_of (0 ∷ 0 ∷ 1 ∷ 0 ∷ 1 ∷ 0 ∷ 0 ∷ 0 ∷ 7 ∷ 0 ∷ 0 ∷ 0 ∷ []) ≡ (48 ∷ 32 ∷ 49 ∷ 32 ∷ 49 ∷ 10 ∷ []) ++ (refused_word ++ 32 ∷ 50 ∷ 10 ∷ [])
-unfolding lines_of unfit workers_in splitters_in number32_at numbers_at run_lines fit_lines start_remembering start_with decimal decimal_by
+unfolding lines_of unfit workers_in splitters_in number32_at numbers_at run_lines fit_lines start_on start_with decimal decimal_by
 no_workers = refl
 
--- ---- R-5 and R-10
+-- ---- R-5
 
--- document 01's example, of its answer words, free nodes, totals and nodes visited (crate starred computes these): "document 01's example gains
--- `reduced 0 4294967295 1 0`", and of `visits` "document 01's example gives 12"
+-- document 01's example, of its answer words, free nodes and totals (crate starred computes these): "document 01's example gains `reduced 0 4294967295 1 0`"
 abbrev example_text : List ℕ
 example_text =
     -- "101 1"
@@ -55,22 +53,16 @@ example_text =
     ++ (102 ∷ 114 ∷ 101 ∷ 101 ∷ 32 ∷ 50 ∷ 48 ∷ 10 ∷ [])
     -- "reduced 0 4294967295 1 0"
     ++ (114 ∷ 101 ∷ 100 ∷ 117 ∷ 99 ∷ 101 ∷ 100 ∷ 32 ∷ 48 ∷ 32 ∷ 52 ∷ 50 ∷ 57 ∷ 52 ∷ 57 ∷ 54 ∷ 55 ∷ 50 ∷ 57 ∷ 53 ∷ 32 ∷ 49 ∷ 32 ∷ 48 ∷ 10 ∷ [])
-    -- "visits 12"
-    ++ (118 ∷ 105 ∷ 115 ∷ 105 ∷ 116 ∷ 115 ∷ 32 ∷ 49 ∷ 50 ∷ 10 ∷ [])
 
-example_lines : accepted_lines (101 ∷ 1 ∷ 103 ∷ 0 ∷ 106 ∷ 5 ∷ 105 ∷ 50 ∷ 104 ∷ 1 ∷ 10 ∷ 0 ∷ 102 ∷ 2 ∷ 105 ∷ 99 ∷ 102 ∷ 3 ∷ []) 20 (0 ∷ none ∷ 1 ∷ 0 ∷ []) 12 ≡ example_text
+example_lines : accepted_lines (101 ∷ 1 ∷ 103 ∷ 0 ∷ 106 ∷ 5 ∷ 105 ∷ 50 ∷ 104 ∷ 1 ∷ 10 ∷ 0 ∷ 102 ∷ 2 ∷ 105 ∷ 99 ∷ 102 ∷ 3 ∷ []) 20 (0 ∷ none ∷ 1 ∷ 0 ∷ []) ≡ example_text
 unfolding answer_lines main_returned decimal decimal_by
 example_lines = refl
 
--- "visits 0"
-abbrev no_visits : List ℕ
-no_visits = 118 ∷ 105 ∷ 115 ∷ 105 ∷ 116 ∷ 115 ∷ 32 ∷ 48 ∷ 10 ∷ []
-
 -- "Only then splitrun prints": not while Main lives or waits in its return, whatever the totals
-main-lives : accepted_lines (101 ∷ 3 ∷ []) 5 (7 ∷ 7 ∷ 7 ∷ 7 ∷ []) 0 ≡ (49 ∷ 48 ∷ 49 ∷ 32 ∷ 51 ∷ 10 ∷ []) ++ ((102 ∷ 114 ∷ 101 ∷ 101 ∷ 32 ∷ 53 ∷ 10 ∷ []) ++ no_visits)
+main-lives : accepted_lines (101 ∷ 3 ∷ []) 5 (7 ∷ 7 ∷ 7 ∷ 7 ∷ []) ≡ (49 ∷ 48 ∷ 49 ∷ 32 ∷ 51 ∷ 10 ∷ []) ++ (102 ∷ 114 ∷ 101 ∷ 101 ∷ 32 ∷ 53 ∷ 10 ∷ [])
 unfolding answer_lines main_returned decimal decimal_by
 main-lives = refl
 
-main_waits_lem : accepted_lines (102 ∷ 4 ∷ []) 5 (7 ∷ 7 ∷ 7 ∷ 7 ∷ []) 0 ≡ (49 ∷ 48 ∷ 50 ∷ 32 ∷ 52 ∷ 10 ∷ []) ++ ((102 ∷ 114 ∷ 101 ∷ 101 ∷ 32 ∷ 53 ∷ 10 ∷ []) ++ no_visits)
+main_waits_lem : accepted_lines (102 ∷ 4 ∷ []) 5 (7 ∷ 7 ∷ 7 ∷ 7 ∷ []) ≡ (49 ∷ 48 ∷ 50 ∷ 32 ∷ 52 ∷ 10 ∷ []) ++ (102 ∷ 114 ∷ 101 ∷ 101 ∷ 32 ∷ 53 ∷ 10 ∷ [])
 unfolding answer_lines main_returned decimal decimal_by
 main_waits_lem = refl

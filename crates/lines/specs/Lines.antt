@@ -3,9 +3,7 @@ use Rattle.std.specs.Prelude.{Bool, true, false, cond, ◌||◌, ◌&&◌, List,
 use Rattle.frames.specs.declared.Frame.{Frame}
 use Rattle.frames.specs.Frames.{free_record}
 use Rattle.model.specs.Record.{little}
-use Rattle.memory.specs.Memory.{no_memory}
-use Rattle.semantics.specs.Entries.{State, zeros, totals_of, chain_free, StartResult}
-use Rattle.semantics.specs.Remembering.{WithMemory, start_remembering, TapeRemembering, tape_remembering}
+use Rattle.semantics.specs.Entries.{State, zeros, totals_of, chain_free, StartResult, start_on, TapeResult, tape_on}
 use Rattle.soundness.specs.Layout.{two_words}
 
 -- ---- text
@@ -29,7 +27,7 @@ line [] = 10 ∷ []
 line (f ∷ []) = f ++ 10 ∷ []
 line (f ∷ g ∷ fs) = f ++ 32 ∷ line (g ∷ fs)
 
--- `unfit`, `refused`, `free`, R-5's `reduced` and R-10's `visits`
+-- `unfit`, `refused`, `free`, and R-5's `reduced`
 abbrev pub unfit_word : List ℕ
 unfit_word = 117 ∷ 110 ∷ 102 ∷ 105 ∷ 116 ∷ []
 
@@ -41,9 +39,6 @@ free_word = 102 ∷ 114 ∷ 101 ∷ 101 ∷ []
 
 abbrev pub reduced_word : List ℕ
 reduced_word = 114 ∷ 101 ∷ 100 ∷ 117 ∷ 99 ∷ 101 ∷ 100 ∷ []
-
-abbrev pub visits_word : List ℕ
-visits_word = 118 ∷ 105 ∷ 115 ∷ 105 ∷ 116 ∷ 115 ∷ []
 
 -- ---- the input
 
@@ -111,22 +106,18 @@ reduced_line ts = line (reduced_word ∷ decimal (get_or ts 0 0) ∷ decimal (ge
 abbrev pub free_line : ℕ → List ℕ
 free_line free = line (free_word ∷ decimal free ∷ [])
 
--- R-10: "splitrun prints `visits` and it as its last line", the number of nodes visited over the tape
-abbrev pub visits_line : ℕ → List ℕ
-visits_line visits = line (visits_word ∷ decimal visits ∷ [])
+-- the lines of the answer words, that line and the totals
+abbrev pub accepted_lines : List ℕ → ℕ → List ℕ → List ℕ
+accepted_lines answers free ts = answer_lines answers ++ (free_line free ++ cond (main_returned answers) (reduced_line ts) [])
 
--- the lines of the answer words, the free nodes, the totals and the nodes visited
-abbrev pub accepted_lines : List ℕ → ℕ → List ℕ → ℕ → List ℕ
-accepted_lines answers free ts visits = answer_lines answers ++ (free_line free ++ (cond (main_returned answers) (reduced_line ts) [] ++ visits_line visits))
+abbrev pub tape_lines : TapeResult → List ℕ
+tape_lines p = call_lines p.result (accepted_lines p.answers (chain_free two_words p.state p.pool) (totals_of p.state))
 
-abbrev pub tape_lines : TapeRemembering → List ℕ
-tape_lines p = call_lines p.tape.result (accepted_lines p.tape.answers (chain_free two_words p.tape.state p.tape.pool) (totals_of p.tape.state) p.visits)
-
--- what follows the first line: of the start, over the parts s and the memory ms, then of the tape
-unfoldable pub run_lines : State → List ℕ → ℕ → List ℕ → List ℕ → List ℕ → List ℕ → List ℕ → List ℕ
-run_lines s ms workers values pool work records answers =
-    let b : WithMemory StartResult = start_remembering two_words s ms workers values pool in
-    call_lines b.call.result (tape_lines (tape_remembering two_words b.call.state b.memory b.call.pool work records answers))
+-- what follows the first line: of the start, over the parts s, then of the tape
+unfoldable pub run_lines : State → ℕ → List ℕ → List ℕ → List ℕ → List ℕ → List ℕ → List ℕ
+run_lines s workers values pool work records answers =
+    let b : StartResult = start_on two_words s workers values pool in
+    call_lines b.result (tape_lines (tape_on two_words b.state b.pool work records answers))
 
 -- R-6: "splitrun lends 64 places."
 abbrev pub lent_table : List Frame
@@ -135,7 +126,7 @@ lent_table = replicate 64 (free_record 0)
 -- with a pool of as many whole nodes, a work slice that is long enough and two answer words per record; all that is lent is zero
 unfoldable pub fit_lines : ℕ → ℕ → ℕ → List ℕ → List ℕ
 fit_lines workers n nodes input =
-    run_lines (zeros lent_table) no_memory workers (numbers_at n input 8) (replicate (two_words.words * nodes) 0) (replicate nodes 0) (records_in n input) (replicate (2 * (length (records_in n input) / 8)) 0)
+    run_lines (zeros lent_table) workers (numbers_at n input 8) (replicate (two_words.words * nodes) 0) (replicate nodes 0) (records_in n input) (replicate (2 * (length (records_in n input) / 8)) 0)
 
 -- the whole output: an unfit input prints "only `unfit`"; "Else the first line is workers, n, nodes"
 unfoldable pub lines_of : List ℕ → List ℕ

@@ -3,11 +3,9 @@ ghost use Rattle.std.specs.Prelude.{◌≡◌, cond, [], ◌+◌, ◌-◌, ◌*�
 ghost use Rattle.soundness.specs.Numbers.{numbers_in, totals_in};
 ghost use Rattle.soundness.specs.Soundness.{count_of_free};
 ghost use Rattle.soundness.specs.PackedTrees.{free_nodes};
-ghost use Rattle.semantics.specs.Entries.{zeros};
-ghost use Rattle.memory.specs.Memory.{no_memory};
+ghost use Rattle.semantics.specs.Entries.{zeros, tape_on};
 ghost use Rattle.semantics.specs.Promises.{parts};
-ghost use Rattle.semantics.specs.Remembering.{tape_remembering};
-ghost use Rattle.lines.specs.Lines.{numbers_at, records_start, answer_lines, refused_line, free_line, main_returned, reduced_line, visits_line, accepted_lines, tape_lines, run_lines, lent_table, fit_lines};
+ghost use Rattle.lines.specs.Lines.{numbers_at, records_start, answer_lines, refused_line, free_line, main_returned, reduced_line, accepted_lines, tape_lines, run_lines, lent_table, fit_lines};
 ghost use Rattle.lines.specs.Output.{Stores, StoresUpTo, IsOutput};
 ghost use Rattle.soundness.specs.Layout.{two_words};
 
@@ -15,7 +13,6 @@ use crate::input::{is_unfit, nodes_in, read_values, splitters_in, workers_in};
 use crate::text::{put_bytes, put_four, put_named, put_three, put_two};
 use frames::{DEQUE_WORDS, Frame, free_place};
 use image::NUMBER_COUNT;
-use memory::MEMORY_WORDS;
 use packed::{NODE_WORDS, NONE, next_of};
 use splitter::{splitter_start, splitter_tape};
 use words::word;
@@ -104,29 +101,20 @@ fn put_free(out: &mut [u8], at: usize, numbers: &[u32], pool: &[u32]) -> usize
     put_named(out, at, b"free ", free)
 }
 
-// R-10: "splitrun prints `visits` and it as its last line"
-fn put_visits(out: &mut [u8], at: usize, visits: u64) -> usize
-    ensures { StoresUpTo 28 out.old at (visits_line visits) out.new result }
-{
-    put_named(out, at, b"visits ", visits as usize)
-}
-
-// The lines of the answer words, the free nodes, the totals and the nodes visited.
+// The lines of the answer words, "last `free` and the free nodes", and the totals.
 pub fn put_accepted(
     out: &mut [u8],
     at: usize,
     answers: &[u32],
     numbers: &[u32],
     pool: &[u32],
-    visits: u64,
 ) -> usize
-    ensures { StoresUpTo (11 * length answers.now + 99) out.old at
-        (accepted_lines answers.now (count_of_free two_words (numbers_in numbers.now) pool.now) (totals_in numbers.now) visits) out.new result }
+    ensures { StoresUpTo (11 * length answers.now + 71) out.old at
+        (accepted_lines answers.now (count_of_free two_words (numbers_in numbers.now) pool.now) (totals_in numbers.now)) out.new result }
 {
     let to = put_answers(out, at, answers);
     let next = put_free(out, to, numbers, pool);
-    let then = put_reduced(out, next, answers, numbers);
-    put_visits(out, then, visits)
+    put_reduced(out, next, answers, numbers)
 }
 
 // The lines of a tape.
@@ -134,7 +122,6 @@ pub fn run_tape(
     numbers: &mut [u32],
     deques: &mut [u32],
     frames: &mut [Frame],
-    memory: &mut [u32],
     pool: &mut [u32],
     work: &mut [u32],
     records: &[u8],
@@ -142,16 +129,14 @@ pub fn run_tape(
     out: &mut [u8],
     at: usize,
 ) -> usize
-    ensures { StoresUpTo (11 * length answers.old + 99) out.old at
-        (tape_lines (tape_remembering two_words (parts numbers.old deques.old frames.old) memory.old pool.old work.old records.now answers.old)) out.new result }
+    ensures { StoresUpTo (11 * length answers.old + 71) out.old at
+        (tape_lines (tape_on two_words (parts numbers.old deques.old frames.old) pool.old work.old records.now answers.old)) out.new result }
 {
-    let taped = splitter_tape(
-        numbers, deques, frames, memory, pool, work, records, answers,
-    );
-    if taped.result != 0 {
-        return put_refused(out, at, taped.result);
+    let refused = splitter_tape(numbers, deques, frames, pool, work, records, answers);
+    if refused != 0 {
+        return put_refused(out, at, refused);
     }
-    put_accepted(out, at, answers, numbers, pool, taped.visits)
+    put_accepted(out, at, answers, numbers, pool)
 }
 
 // The lines of a start, then of the tape.
@@ -159,7 +144,6 @@ pub fn run_calls(
     numbers: &mut [u32],
     deques: &mut [u32],
     frames: &mut [Frame],
-    memory: &mut [u32],
     workers: u32,
     values: &[u32],
     pool: &mut [u32],
@@ -169,15 +153,15 @@ pub fn run_calls(
     out: &mut [u8],
     at: usize,
 ) -> usize
-    ensures { StoresUpTo (11 * length answers.old + 99) out.old at (run_lines (parts numbers.old deques.old frames.old) memory.old workers values.now
+    ensures { StoresUpTo (11 * length answers.old + 71) out.old at (run_lines (parts numbers.old deques.old frames.old) workers values.now
         pool.old work.old records.now answers.old) out.new result }
 {
-    let refused = splitter_start(numbers, deques, frames, memory, workers, values, pool);
+    let refused = splitter_start(numbers, deques, frames, workers, values, pool);
     if refused != 0 {
         return put_refused(out, at, refused);
     }
     run_tape(
-        numbers, deques, frames, memory, pool, work, records, answers, out, at,
+        numbers, deques, frames, pool, work, records, answers, out, at,
     )
 }
 
@@ -185,7 +169,6 @@ pub fn run_calls(
 fn run_lent(
     numbers: &mut [u32],
     deques: &mut [u32],
-    memory: &mut [u32],
     workers: u32,
     values: &[u32],
     pool: &mut [u32],
@@ -195,7 +178,7 @@ fn run_lent(
     out: &mut [u8],
     at: usize,
 ) -> usize
-    ensures { StoresUpTo (11 * length answers.old + 99) out.old at (run_lines (parts numbers.old deques.old lent_table) memory.old workers values.now
+    ensures { StoresUpTo (11 * length answers.old + 71) out.old at (run_lines (parts numbers.old deques.old lent_table) workers values.now
         pool.old work.old records.now answers.old) out.new result }
 {
     let zero = free_place(0);
@@ -204,7 +187,6 @@ fn run_lent(
         numbers,
         deques,
         &mut frames,
-        memory,
         workers,
         values,
         pool,
@@ -228,17 +210,15 @@ fn run_on(
     out: &mut [u8],
     at: usize,
 ) -> usize
-    ensures { StoresUpTo (11 * length answers.old + 99) out.old at (run_lines (zeros lent_table) no_memory workers (numbers_at (length values.old) input.now 8)
+    ensures { StoresUpTo (11 * length answers.old + 71) out.old at (run_lines (zeros lent_table) workers (numbers_at (length values.old) input.now 8)
         pool.old work.old records.now answers.old) out.new result }
 {
     read_values(input, values);
     let mut numbers = [0u32; NUMBER_COUNT];
     let mut deques = [0u32; DEQUE_WORDS];
-    let mut memory = [0u32; MEMORY_WORDS];
     run_lent(
         &mut numbers,
         &mut deques,
-        &mut memory,
         workers,
         values,
         pool,
@@ -253,7 +233,7 @@ fn run_on(
 // The same, with a pool, a work slice and answer words of the right lengths, all zero.
 fn run_fit(input: &[u8], workers: u32, n: u32, nodes: u32, out: &mut [u8], at: usize) -> usize
     requires { (n ≤ 256) × (nodes ≤ 1024) × (records_start n ≤ length input.now) × (length input.now - records_start n ≤ 16384) }
-    ensures { StoresUpTo 45155 out.old at (fit_lines workers n nodes input.now) out.new result }
+    ensures { StoresUpTo 45127 out.old at (fit_lines workers n nodes input.now) out.new result }
 {
     let mut values = [0u32; 256];
     let mut pool = [0u32; 2048];

@@ -12,7 +12,7 @@ use lib.Dec.{ltb}
 use lib.ListN.{get_or}
 use Rattle.words.specs.Basics.{none, plus}
 use Rattle.sizes.specs.Sizes.{bit, width}
-use Rattle.packed.specs.Pool.{refcount, link_in, links, left, right, next_free, child, sibling, set_node, set_refcount, leaf_of, freed, release, path_node, copy_path, copy_leaf, init_level, init_inner, init_leaves, init_free}
+use Rattle.packed.specs.Pool.{refcount, link_in, links, left, right, next_free, child, sibling, set_node, set_refcount, leaf_of, freed, release, path_node, copy_path, init_level, init_inner, init_leaves, init_free}
 use Rattle.packed.specs.Theory.Halves.{link_in-node}
 
 -- the two parts of an equation of pairs
@@ -47,18 +47,6 @@ pub path_end : (l : ℕ) (ws : List ℕ) (i old x v : ℕ) → l ≤ 0 → (set_
 unfolding copy_path
 path_end zero ws i old x v h = refl
 path_end (suc l) ws i old x v h = absurd (omega arith)
-
--- its leaf
-pub new_step : (l : ℕ) (ws : List ℕ) (i old x : ℕ) → 0 < l →
-    copy_leaf (l - 1) (path_node ws i (bit (l - 1) x) (next_free ws i) (sibling ws old (bit (l - 1) x))) (next_free ws i) (child ws old (bit (l - 1) x)) x ≡ copy_leaf l ws i old x
-unfolding copy_leaf
-new_step zero ws i old x h = absurd (omega arith)
-new_step (suc l) ws i old x h = rw sub-one
-
-pub new_end : (l : ℕ) (ws : List ℕ) (i old x : ℕ) → l ≤ 0 → i ≡ copy_leaf l ws i old x
-unfolding copy_leaf
-new_end zero ws i old x h = refl
-new_end (suc l) ws i old x h = absurd (omega arith)
 
 -- ---- a release
 

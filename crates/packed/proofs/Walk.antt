@@ -1,14 +1,14 @@
 -- The way down to a splitter's leaf as the code runs it. Over plain variables.
 use mathlib.Core.Path.{◌≡◌, sym, ap, ◌∙◌, subst}
 use mathlib.Core.List.{List}
-use Prim.Native.Nat.{ℕ, zero, suc, ◌-◌, ◌<◌}
+use Prim.Native.Nat.{ℕ, zero, suc, ◌-◌, ◌<◌, ◌≤◌}
 use native.Mathlib.Omega.{arith}
 use native.Mathlib.Numerals.{sub-one}
 use Rattle.sizes.specs.Sizes.{bit}
-use Rattle.packed.specs.Pool.{link_in, child, leaf_of}
+use Rattle.packed.specs.Pool.{content, link_in, child, leaf_of, read_at}
 use Rattle.packed.specs.Links.{PathIn}
 use Rattle.packed.specs.Theory.Halves.{link_in_is}
-use Rattle.packed.proofs.Laws.{leaf_step}
+use Rattle.packed.proofs.Laws.{leaf_step, leaf_end}
 
 pub path_here : (N : ℕ) (ws : List ℕ) (l i x : ℕ) → PathIn N ws l i x → i < N
 path_here N ws zero i x p = p
@@ -28,3 +28,8 @@ module _ (N l : ℕ) (ws : List ℕ) (i x next : ℕ) (P : PathIn N ws l i x) (h
 
   pub next_leaf : {j : ℕ} → leaf_of l ws i x ≡ j → leaf_of (l - 1) ws next x ≡ j
   next_leaf f = ap (λ k. leaf_of (l - 1) ws k x) next_is ∙ leaf_step l ws i x h ∙ f
+
+-- at the leaf
+pub leaf_value : (l : ℕ) (ws : List ℕ) (i x h root : ℕ) {v : ℕ} → leaf_of l ws i x ≡ leaf_of h ws root x → l ≤ 0 → v ≡ content ws i → v ≡ read_at h ws root x
+unfolding read_at
+leaf_value l ws i x h root f b e = e ∙ ap (content ws) (leaf_end l ws i x b ∙ f)

@@ -11,10 +11,10 @@ use borrow.Author.Tests.{eq-eqb, ne_eqb, lt-ltb, le-ltb}
 use Rattle.words.specs.Tests.{true≢false}
 use Rattle.sizes.specs.Sizes.{bit}
 use Rattle.pool.specs.Links.{Link}
-use Rattle.packed.specs.Pool.{refcount, link_in, next_free, child, sibling, set_node, set_refcount, set_link, path_node, copy_path, copy_leaf, renew, first_shared, write_from, write}
+use Rattle.packed.specs.Pool.{refcount, link_in, next_free, child, sibling, set_node, set_refcount, set_link, path_node, copy_path, renew, first_shared, write_from, write}
 use Rattle.packed.specs.Links.{PathIn, CopyIn, IsShared, WriteIn, Wrote}
 use Rattle.packed.specs.Theory.Halves.{link_in_is}
-use Rattle.packed.proofs.Laws.{parts, path_step, path_end, new_step}
+use Rattle.packed.proofs.Laws.{parts, path_step, path_end}
 use Rattle.packed.proofs.Walk.{next_is, next_path}
 
 -- ---- the branches of the definitions
@@ -60,20 +60,16 @@ copy_on N (suc l) ws i old x h C = rw sub-one C
 pub copy_next : (N l : ℕ) (ws : List ℕ) (i old x : ℕ) {next : ℕ} → 0 < l → CopyIn N l ws i old x → next ≡ next_free ws i → next < N
 copy_next N l ws i old x h C e = subst (λ k. k < N) (sym e) (copy_here N (l - 1) _ _ _ x (copy_on N l ws i old x h C).3)
 
--- the new path from here on meets nodes only, makes p, and has the leaf j
-abbrev pub Copies : ℕ → ℕ → List ℕ → ℕ → ℕ → ℕ → ℕ → List ℕ × ℕ → ℕ → Type 0
-Copies N l ws i old x v p j = CopyIn N l ws i old x × (copy_path l ws i old x v ≡ p) × (copy_leaf l ws i old x ≡ j)
-
 -- the copied node may be told by its half: the last one is not read
-by_half : (N l : ℕ) (ws : List ℕ) (i old from x v : ℕ) {p : List ℕ × ℕ} {j : ℕ} → N < 4294967296 → link_in from ≡ old → Copies N l ws i old x v p j → Copies N l ws i from x v p j
-unfolding CopyIn copy_path copy_leaf
+by_half : (N l : ℕ) (ws : List ℕ) (i old from x v : ℕ) {p : List ℕ × ℕ} → N < 4294967296 → link_in from ≡ old → CopyIn N l ws i old x × (copy_path l ws i old x v ≡ p) → CopyIn N l ws i from x × (copy_path l ws i from x v ≡ p)
+unfolding CopyIn copy_path
 by_half N zero ws i old from x v n e C = C
-by_half N (suc l) ws i old from x v {p} {j} n e C = subst (λ o. Copies N (suc l) ws i o x v p j) (sym (link_in_is from old e C.0.1 (omega arith))) C
+by_half N (suc l) ws i old from x v {p} n e C = subst (λ j. CopyIn N (suc l) ws i j x × (copy_path (suc l) ws i j x v ≡ p)) (sym (link_in_is from old e C.0.1 (omega arith))) C
 
-pub copy_turn : (N l : ℕ) (ws : List ℕ) (i old x v down : ℕ) {next : ℕ} {w : List ℕ} {p : List ℕ × ℕ} {j : ℕ} → N < 4294967296 → 0 < l → Copies N l ws i old x v p j →
-    next ≡ next_free ws i → link_in down ≡ child ws old (bit (l - 1) x) → w ≡ path_node ws i (bit (l - 1) x) next (sibling ws old (bit (l - 1) x)) → Copies N (l - 1) w next down x v p j
-copy_turn N l ws i old x v down b h C n d w =
-    by_half N (l - 1) _ _ _ down x v b d (rw (w, n) ((copy_on N l ws i old x h C.0).3, path_step l ws i old x v h ∙ C.1, new_step l ws i old x h ∙ C.2))
+pub copy_turn : (N l : ℕ) (ws : List ℕ) (i old x v down : ℕ) {next : ℕ} {w : List ℕ} → N < 4294967296 → 0 < l → CopyIn N l ws i old x →
+    next ≡ next_free ws i → link_in down ≡ child ws old (bit (l - 1) x) → w ≡ path_node ws i (bit (l - 1) x) next (sibling ws old (bit (l - 1) x)) →
+    CopyIn N (l - 1) w next down x × (copy_path (l - 1) w next down x v ≡ copy_path l ws i old x v)
+copy_turn N l ws i old x v down b h C n d w = by_half N (l - 1) _ _ _ down x v b d (rw (w, n) ((copy_on N l ws i old x h C).3, path_step l ws i old x v h))
 
 pub copy_end : (l : ℕ) (ws : List ℕ) (i old x v : ℕ) {n : ℕ} {w : List ℕ} {p : List ℕ × ℕ} → l ≤ 0 → w ≡ set_node ws i 1 v → n ≡ next_free ws i → copy_path l ws i old x v ≡ p → (w ≡ p.0) × (n ≡ p.1)
 copy_end l ws i old x v h w n e = rw (w, n) (parts (path_end l ws i old x v h ∙ e))

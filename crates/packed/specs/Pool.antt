@@ -157,20 +157,6 @@ write h ws free k root x v =
     let p : ℕ × ℕ × ℕ = first_shared h ws root root x in
     write_from p.0 p.1 p.2 h ws free k root x v
 
--- R-10: the leaf that copy_path makes
-unfoldable pub copy_leaf : ℕ → List ℕ → ℕ → ℕ → ℕ → ℕ
-copy_leaf zero ws i old x = i
-copy_leaf (suc l) ws i old x =
-    copy_leaf l (path_node ws i (bit l x) (next_free ws i) (sibling ws old (bit l x))) (next_free ws i) (child ws old (bit l x)) x
-
--- the leaf of x after a write, where the rest of the path has r nodes, from node i on: the leaf i with none shared, else the new one
-abbrev pub written_from : ℕ → ℕ → List ℕ → ℕ → ℕ → ℕ
-written_from zero i ws free x = i
-written_from (suc m) i ws free x = copy_leaf m ws free i x
-
-unfoldable pub written_leaf : ℕ → List ℕ → ℕ → ℕ → ℕ → ℕ
-written_leaf h ws free root x = let p : ℕ × ℕ × ℕ = first_shared h ws root root x in written_from p.0 p.1 ws free x
-
 -- ---- the start
 
 -- c nodes of one level, from node i on; their children begin at node `below`, of which there are k

@@ -11,8 +11,6 @@ pub mod Ranges
 pub mod Release
 -- Writes: a write
 pub mod Writes
--- NewLeaf: R-10, the leaf that a write leaves
-pub mod NewLeaf
 -- Elsewhere: the same nodes in another slice
 pub mod Elsewhere
 -- Start: the two starts match

@@ -9,6 +9,4 @@ mod tree;
 pub use node::{NODE_WORDS, NONE, links_of, next_of};
 pub use refs::{Freed, release, retain};
 pub use start::init_pool;
-pub use tree::{
-    FirstShared, Leaf, Written, find_leaf, first_shared, leaf_value, set_value, write_shared,
-};
+pub use tree::{FirstShared, Written, first_shared, read_at, set_value, write_shared};

@@ -1,11 +1,11 @@
 // The walk to a splitter's leaf, and a write: from the root down, nodes with one holder are altered where they are; from the first
 // with more holders the rest of the path is new. No index is tested: the contracts ask that the nodes on the way are nodes.
-ghost use Rattle.std.specs.Prelude.{◌≡◌, true, false, cond, suc, ◌+◌, ◌-◌, ◌*◌, ◌/◌, ◌%◌, ◌<◌, ◌≤◌, length};
+ghost use Rattle.std.specs.Prelude.{◌≡◌, true, ◌+◌, ◌*◌, ◌/◌, ◌%◌, ◌<◌, ◌≤◌, length};
 ghost use Rattle.sizes.specs.Sizes.{bit};
 ghost use Rattle.pool.specs.Pool.{side};
 ghost use Rattle.pool.specs.Links.{Link};
 ghost use Rattle.packed.specs.Links.{PathIn, CopyIn, IsShared, WriteIn, Wrote};
-ghost use Rattle.packed.specs.Pool.{refcount, link_in, links, value, child, sibling, leaf_of, retain, set_value, set_link, path_node, copy_path, copy_leaf, renew, first_shared, write};
+ghost use Rattle.packed.specs.Pool.{refcount, link_in, links, child, sibling, read_at, retain, set_value, set_link, path_node, copy_path, renew, first_shared, write};
 
 use crate::node::{content_in, store_node};
 use words::sub;
@@ -27,38 +27,18 @@ fn child_in(pool: &[u32], nodes: u32, i: usize, l: u32, x: u32) -> usize
     on_way(l, x, w & 65535, w >> 16) as usize
 }
 
-// A splitter's leaf, and how many nodes the walk from the root to it visits (R-10).
-#[derive(Drop)]
-pub struct Leaf {
-    pub node: u32,
-    pub visits: u32,
-}
-
-// The leaf of splitter x. The walk meets nodes only, so no index is tested.
-pub fn find_leaf(pool: &[u32], nodes: u32, height: u32, root: u32, x: u32) -> Leaf
+// What the tree holds at splitter x. The walk meets nodes only, so no index is tested.
+pub fn read_at(pool: &[u32], nodes: u32, height: u32, root: u32, x: u32) -> u32
     requires { (2 * nodes ≤ length pool.now) × (height ≤ 32) × PathIn nodes pool.now height root x }
-    ensures { (result.node ≡ leaf_of height pool.now root x) × (result.visits ≡ suc height) }
+    ensures { result ≡ read_at height pool.now root x }
 {
     let mut l = height;
     let mut i = root as usize;
-    let mut visits = 1;
     while l > 0 {
         l -= 1;
         i = child_in(pool, nodes, i, l, x);
-        visits += 1;
     }
-    Leaf {
-        node: i as u32,
-        visits: visits,
-    }
-}
-
-// What a leaf holds.
-pub fn leaf_value(pool: &[u32], nodes: u32, leaf: u32) -> u32
-    requires { (2 * nodes ≤ length pool.now) × (leaf < nodes) }
-    ensures { result ≡ value pool.now leaf }
-{
-    content_in(pool, nodes, leaf as usize)
+    content_in(pool, nodes, i)
 }
 
 // ---- the new path
@@ -103,33 +83,15 @@ fn copy_node(pool: &mut [u32], nodes: u32, i: usize, old: usize, l: u32, x: u32,
     retain_half(pool, nodes, other_half(w, l, x));
 }
 
-// A new path: the next free node, its leaf, and how many nodes the walk down the old one visits, its first node not among them (R-10).
-#[derive(Drop)]
-struct Copied {
-    next: u32,
-    leaf: u32,
-    visits: u32,
-}
-
-// The new path from this level down, beside the siblings of the old one, in nodes of the free list.
-fn copy_path(
-    pool: &mut [u32],
-    nodes: u32,
-    level: u32,
-    free: u32,
-    old: u32,
-    x: u32,
-    v: u32,
-) -> Copied
+// The new path from this level down, beside the siblings of the old one, in nodes of the free list. Gives the next free node.
+fn copy_path(pool: &mut [u32], nodes: u32, level: u32, free: u32, old: u32, x: u32, v: u32) -> u32
     requires { (2 * nodes ≤ length pool.old) × (nodes ≤ 16384) × (level ≤ 32) × CopyIn nodes level pool.old free old x }
     ensures { (pool.new ≡ (copy_path level pool.old free old x v).0)
-        × (result.next ≡ (copy_path level pool.old free old x v).1)
-        × (result.leaf ≡ copy_leaf level pool.old free old x) × (result.visits ≡ level) }
+        × (result ≡ (copy_path level pool.old free old x v).1) }
 {
     let mut l = level;
     let mut i = free as usize;
     let mut from = old as usize;
-    let mut visits = 0;
     while l > 0 {
         l -= 1;
         let next = content_in(pool, nodes, i);
@@ -137,28 +99,22 @@ fn copy_path(
         copy_node(pool, nodes, i, from, l, x, next);
         i = next as usize;
         from = down;
-        visits += 1;
     }
     let next = content_in(pool, nodes, i);
     store_node(pool, nodes, i, 1, v);
-    Copied {
-        next: next,
-        leaf: i as u32,
-        visits: visits,
-    }
+    next
 }
 
-// The new path in the place of a node with more holders, which has one less then.
-fn renew(pool: &mut [u32], nodes: u32, level: u32, free: u32, old: u32, x: u32, v: u32) -> Copied
+// The new path in the place of a node with more holders, which has one less then. Gives the next free node.
+fn renew(pool: &mut [u32], nodes: u32, level: u32, free: u32, old: u32, x: u32, v: u32) -> u32
     requires { (2 * nodes ≤ length pool.old) × (nodes ≤ 16384) × (level ≤ 32) × (old < nodes) × CopyIn nodes level pool.old free old x }
     ensures { (pool.new ≡ (renew level pool.old free old x v).0)
-        × (result.next ≡ (renew level pool.old free old x v).1)
-        × (result.leaf ≡ copy_leaf level pool.old free old x) × (result.visits ≡ level) }
+        × (result ≡ (renew level pool.old free old x v).1) }
 {
-    let new = copy_path(pool, nodes, level, free, old, x, v);
+    let next = copy_path(pool, nodes, level, free, old, x, v);
     let at = 2 * (old as usize);
     pool[at] = sub(pool[at], 1);
-    new
+    next
 }
 
 // Stores a leaf's value.
@@ -190,22 +146,21 @@ fn holders_in(pool: &[u32], nodes: u32, i: usize) -> u32
 
 // The first node with more than one holder on the way to a splitter, its level and the node above it. If none is shared, the leaf.
 #[derive(Drop)]
-struct Found {
-    shared: bool,
-    level: u32,
-    node: u32,
-    above: u32,
+pub struct FirstShared {
+    pub shared: bool,
+    pub level: u32,
+    pub node: u32,
+    pub above: u32,
 }
 
-fn find_shared(pool: &[u32], nodes: u32, height: u32, root: u32, x: u32) -> Found
+pub fn first_shared(pool: &[u32], nodes: u32, height: u32, root: u32, x: u32) -> FirstShared
     requires { (2 * nodes ≤ length pool.now) × (height ≤ 32) × PathIn nodes pool.now height root x }
-    ensures { IsShared height result.shared result.level result.node result.above (first_shared height pool.now root root x)
-        × (result.level ≤ height) × (result.shared ≡ false → result.level ≡ 0) }
+    ensures { IsShared height result.shared result.level result.node result.above (first_shared height pool.now root root x) }
 {
     let mut above = root as usize;
     let mut node = above;
     if holders_in(pool, nodes, node) > 1 {
-        return Found {
+        return FirstShared {
             shared: true,
             level: height,
             node: node as u32,
@@ -218,7 +173,7 @@ fn find_shared(pool: &[u32], nodes: u32, height: u32, root: u32, x: u32) -> Foun
         above = node;
         node = child_in(pool, nodes, node, l, x);
         if holders_in(pool, nodes, node) > 1 {
-            return Found {
+            return FirstShared {
                 shared: true,
                 level: l,
                 node: node as u32,
@@ -226,7 +181,7 @@ fn find_shared(pool: &[u32], nodes: u32, height: u32, root: u32, x: u32) -> Foun
             };
         }
     }
-    Found {
+    FirstShared {
         shared: false,
         level: 0,
         node: node as u32,
@@ -234,39 +189,12 @@ fn find_shared(pool: &[u32], nodes: u32, height: u32, root: u32, x: u32) -> Foun
     }
 }
 
-// The same, and how many nodes the walk to it has visited (R-10): one with each level that it went down, and the root.
-#[derive(Drop)]
-pub struct FirstShared {
-    pub shared: bool,
-    pub level: u32,
-    pub node: u32,
-    pub above: u32,
-    pub visits: u32,
-}
-
-pub fn first_shared(pool: &[u32], nodes: u32, height: u32, root: u32, x: u32) -> FirstShared
-    requires { (2 * nodes ≤ length pool.now) × (height ≤ 32) × PathIn nodes pool.now height root x }
-    ensures { IsShared height result.shared result.level result.node result.above (first_shared height pool.now root root x)
-        × (result.visits ≡ suc (height - cond result.shared result.level 0)) }
-{
-    let found = find_shared(pool, nodes, height, root, x);
-    FirstShared {
-        shared: found.shared,
-        level: found.level,
-        node: found.node,
-        above: found.above,
-        visits: height - found.level + 1,
-    }
-}
-
-// What a write leaves: the free list, the frame's root and the new leaf; and how many nodes it visits below the shared one (R-10).
+// What a write leaves: the free list, and the frame's root.
 #[derive(Drop)]
 pub struct Written {
     pub first: u32,
     pub count: u32,
     pub root: u32,
-    pub leaf: u32,
-    pub visits: u32,
 }
 
 // Writes v at splitter x, where `found` is the first node with more than one holder on the way: the rest of the path is new, in nodes
@@ -285,26 +213,21 @@ pub fn write_shared(
     requires { (2 * nodes ≤ length pool.old) × (nodes ≤ 16384) × (height ≤ 32) × (found.shared ≡ true) × (found.level < count)
         × IsShared height found.shared found.level found.node found.above (first_shared height pool.old root root x)
         × WriteIn nodes height pool.old free x (first_shared height pool.old root root x) }
-    ensures { Wrote (write height pool.old free count root x v) pool.new result.first result.count result.root
-        × (result.leaf ≡ copy_leaf found.level pool.old free found.node x) × (result.visits ≡ found.level) }
+    ensures { Wrote (write height pool.old free count root x v) pool.new result.first result.count result.root }
 {
     let level = found.level;
-    let new = renew(pool, nodes, level, free, found.node, x, v);
+    let next = renew(pool, nodes, level, free, found.node, x, v);
     if level >= height {
         return Written {
-            first: new.next,
+            first: next,
             count: count - level - 1,
             root: free,
-            leaf: new.leaf,
-            visits: new.visits,
         };
     }
     set_link(pool, nodes, found.above, level, x, free);
     Written {
-        first: new.next,
+        first: next,
         count: count - level - 1,
         root: root,
-        leaf: new.leaf,
-        visits: new.visits,
     }
 }

@@ -65,20 +65,15 @@ abbrev pub exchanges_from : List ℕ → ℕ → List Decoded → List Exchange
 exchanges_from answers k [] = []
 exchanges_from answers k (d ∷ ds) = (d, (get_or answers k 0, get_or answers (suc k) 0)) ∷ exchanges_from answers (k + 2) ds
 
--- what a step's result and a tape's feed to the plain machine
-abbrev pub step_exchanges : Decoded → OutsideResult → List Exchange
-step_exchanges d o =
-    let a : ℕ × ℕ = words_in o.result in
-    let one : List Exchange = (d, a) ∷ [] in
-    cond (refused_whole a) [] one
-
-abbrev pub tape_exchanges : List ℕ → TapeResult → List Exchange
-tape_exchanges bytes o = cond (eqb o.result 0) (exchanges_from o.answers 0 (records_of bytes)) []
-
 -- what a call feeds to the plain machine, with the engine's answers
 abbrev pub exchanges_of : Layout → StateAndPool → HostCall → List Exchange
-exchanges_of L h (outside kind worker field value work) = step_exchanges (record_of kind worker field value) (outside_result L h kind worker field value work)
-exchanges_of L h (tape bytes work answers) = tape_exchanges bytes (tape_result L h bytes work answers)
+exchanges_of L h (outside kind worker field value work) =
+    let a : ℕ × ℕ = words_in (outside_result L h kind worker field value work).result in
+    let one : List Exchange = (record_of kind worker field value, a) ∷ [] in
+    cond (refused_whole a) [] one
+exchanges_of L h (tape bytes work answers) =
+    let o : TapeResult = tape_result L h bytes work answers in
+    cond (eqb o.result 0) (exchanges_from o.answers 0 (records_of bytes)) []
 
 abbrev pub records_in : List Exchange → List Decoded
 records_in es = map (λ e. e.0) es
@@ -157,11 +152,10 @@ image_at [] i = record { bytes = []; past = nothing }
 image_at (v ∷ vs) zero = v
 image_at (v ∷ vs) (suc i) = image_at vs i
 
-abbrev pub past_with : Layout → StateAndPool → Past → List Exchange → Past
-past_with L h p es = record { exchanges = p.exchanges ++ es; pools = p.pools ++ pools_at L (core_in L h) (records_in es) }
-
 abbrev pub past_after : Layout → StateAndPool → Past → HostCall → Past
-past_after L h p k = past_with L h p (exchanges_of L h k)
+past_after L h p k =
+    let es : List Exchange = exchanges_of L h k in
+    record { exchanges = p.exchanges ++ es; pools = p.pools ++ pools_at L (core_in L h) (records_in es) }
 
 abbrev pub save_result : Layout → StateAndPool → List ℕ → List ℕ → SaveResult
 save_result L h work target = save_on L h.state h.pool work target
@@ -174,17 +168,18 @@ abbrev pub load_result : Layout → Run → ℕ → List ℕ → List ℕ → Li
 load_result L r i ns ds ws work = load_on L (into_table r ns ds) ws work (image_at r.images i).bytes
 
 -- the image that an accepted save has written
-abbrev pub images_with : Layout → Run → SaveResult → List Saved
-images_with L r o =
+abbrev pub images_after : Layout → Run → List ℕ → List ℕ → List Saved
+images_after L r work target =
+    let o : SaveResult = save_result L r.now work target in
     let new : List Saved = record { bytes = take (saved_bytes L r.now.state) o.target; past = r.past } ∷ [] in
     cond (eqb o.result 0) (r.images ++ new) r.images
 
-abbrev pub images_after : Layout → Run → List ℕ → List ℕ → List Saved
-images_after L r work target = images_with L r (save_result L r.now work target)
-
--- after a reading of image i into the pool ws, with the result o
-abbrev pub run_loaded : Run → ℕ → List ℕ → LoadResult → Run
-run_loaded r i ws o =
+-- "Reading back gives the same state, and a run goes on from its saved history; what came after the save is forgotten."
+abbrev pub run_after : Layout → Run → Call → Run
+run_after L r (call k) = record { now = after_call L r.now k; past = past_after L r.now r.past k; images = r.images; stateless = r.stateless; lent = r.lent }
+run_after L r (save work target) = record { now = r.now; past = r.past; images = images_after L r work target; stateless = r.stateless; lent = r.lent }
+run_after L r (load i ns ds ws work) =
+    let o : LoadResult = load_result L r i ns ds ws work in
     record {
       now = record { state = o.state; pool = o.pool };
       past = cond (eqb o.result 0) (image_at r.images i).past r.past;
@@ -192,12 +187,6 @@ run_loaded r i ws o =
       stateless = not (eqb o.result 0);
       lent = ws;
     }
-
--- "Reading back gives the same state, and a run goes on from its saved history; what came after the save is forgotten."
-abbrev pub run_after : Layout → Run → Call → Run
-run_after L r (call k) = record { now = after_call L r.now k; past = past_after L r.now r.past k; images = r.images; stateless = r.stateless; lent = r.lent }
-run_after L r (save work target) = record { now = r.now; past = r.past; images = images_after L r work target; stateless = r.stateless; lent = r.lent }
-run_after L r (load i ns ds ws work) = run_loaded r i ws (load_result L r i ns ds ws work)
 
 abbrev pub run_of : Layout → Run → List Call → Run
 run_of L r [] = r

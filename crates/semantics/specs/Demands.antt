@@ -292,12 +292,9 @@ WorkAfterLoad L s ws work image =
 
 -- ---- demand 3
 
--- what the frames of a run from the start b did and read, by the engine's answers
-abbrev pub trace_in : Layout → Start → Run → List Entry
-trace_in L b r = trace_from (plain_start L b) r.past.exchanges
-
+-- what the frames of a run did and read, by the engine's answers
 abbrev pub trace_of : Layout → Start → List Call → List Entry
-trace_of L b calls = trace_in L b (run_from L b calls)
+trace_of L b calls = trace_from (plain_start L b) (run_from L b calls).past.exchanges
 
 -- "Main has returned once a return of the run was answered with outcome 3."
 abbrev pub MainReturned : Layout → Start → List Call → Type 0
@@ -341,25 +338,21 @@ abbrev pub total_words : List Folded → List ℕ
 total_words fs =
     (total_sum (values_into 0 fs)).value ∷ (total_min (values_into 1 fs)).value ∷ (total_affine (values_into 2 fs)).multiplier ∷ (total_affine (values_into 2 fs)).addend ∷ []
 
--- r is the run, and `trace` what its frames did and read; b₁ is the one-worker run's start, r₁ that run
-pub record OneWorkerIn (L : Layout) (trace : List Entry) (r : Run) (b₁ : Start) (r₁ : Run) : Type 0 where
+-- r is the run, and `trace` what its frames did and read; b₁ is the one-worker run's start, cs₁ are its calls
+pub record OneWorker (L : Layout) (trace : List Entry) (r : Run) (b₁ : Start) (cs₁ : List Call) : Type 0 where
   pub starts : (start_result L b₁).result ≡ 0
   -- each step of the list is fed to the machine, and none is refused
-  pub all_entered : records_in r₁.past.exchanges ≡ map Valid (one_worker_steps trace)
-  pub none_refused : all_accepted (answers_in r₁.past.exchanges)
-  pub same-frames : (p : Name) → IsFrame (trace_in L b₁ r₁) p ↔ IsFrame trace p
-  pub same_steps : (p : Name) → steps_of p (trace_in L b₁ r₁) ≡ steps_of p trace
-  pub same_reads : (p : Name) → reads_of p (trace_in L b₁ r₁) ≡ reads_of p trace
+  pub all_entered : records_in (run_from L b₁ cs₁).past.exchanges ≡ map Valid (one_worker_steps trace)
+  pub none_refused : all_accepted (answers_in (run_from L b₁ cs₁).past.exchanges)
+  pub same-frames : (p : Name) → IsFrame (trace_of L b₁ cs₁) p ↔ IsFrame trace p
+  pub same_steps : (p : Name) → steps_of p (trace_of L b₁ cs₁) ≡ steps_of p trace
+  pub same_reads : (p : Name) → reads_of p (trace_of L b₁ cs₁) ≡ reads_of p trace
   -- unless the last reading was refused
   pub all_free : r.stateless ≡ false → AllFree L r.now
-  pub all_free_alone : AllFree L r₁.now
+  pub all_free_alone : AllFree L (run_from L b₁ cs₁).now
   -- R-5: "in the order of Main's child-first list, as in the one-worker run"
   pub totals : r.stateless ≡ false → totals_of r.now.state ≡ total_words (main_folds trace)
-  pub totals_alone : totals_of r₁.now.state ≡ total_words (main_folds trace)
-
--- cs₁ are its calls
-abbrev pub OneWorker : Layout → List Entry → Run → Start → List Call → Type 0
-OneWorker L trace r b₁ cs₁ = OneWorkerIn L trace r b₁ (run_from L b₁ cs₁)
+  pub totals_alone : totals_of (run_from L b₁ cs₁).now.state ≡ total_words (main_folds trace)
 
 -- for each lent parts that fit, with a table of as many places, each pool "of as many whole nodes" and each choice of long enough work slices
 abbrev pub Demand3 : Layout → Start → List Call → State → List ℕ → (ℕ → List ℕ) → Type 0

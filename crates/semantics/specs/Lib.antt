@@ -17,9 +17,4 @@ pub mod Matching
 -- R-9
 pub mod Convert
 pub mod ConvertDemands
--- R-10
-pub mod Visits
-pub mod Remembering
-pub mod RememberingCalls
-pub mod RememberingDemands
 pub mod Theory

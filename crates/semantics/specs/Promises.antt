@@ -8,7 +8,6 @@ use Rattle.semantics.specs.Entries.{State, StartResult, OutsideResult, TapeResul
 use Rattle.semantics.specs.Images.{SaveResult, LoadResult}
 use Rattle.semantics.specs.Report.{Lent, ReportResult}
 use Rattle.semantics.specs.Convert.{ConvertResult}
-use Rattle.semantics.specs.Remembering.{WithMemory, TapeRemembering}
 
 -- the state in three lent parts
 abbrev pub parts : List ℕ → List ℕ → List Frame → State
@@ -69,31 +68,3 @@ pub record IsConvert (o : ConvertResult) (ws ks : List ℕ) (r : ℕ) : Type 0 w
   pub result : r ≡ o.result
   pub pool : ws ≡ o.pool
   pub work : ks ≡ o.work
-
--- ---- R-10: what the entries promise that have the memory ms too
-
-pub record IsStartWith (o : WithMemory StartResult) (ns ds : List ℕ) (fs : List Frame) (ms ws : List ℕ) (r : ℕ) : Type 0 where
-  pub call : IsStart o.call ns ds fs ws r
-  pub memory : ms ≡ o.memory
-
-pub record IsOutsideWith (o : WithMemory OutsideResult) (ns ds : List ℕ) (fs : List Frame) (ms ws ks : List ℕ) (r : ℕ) : Type 0 where
-  pub call : IsOutside o.call ns ds fs ws ks r
-  pub memory : ms ≡ o.memory
-
--- and how many nodes the tape visited
-pub record IsTapeWith (o : TapeRemembering) (ns ds : List ℕ) (fs : List Frame) (ms ws ks rs : List ℕ) (r v : ℕ) : Type 0 where
-  pub call : IsTape o.tape ns ds fs ws ks rs r
-  pub memory : ms ≡ o.memory
-  pub visits : v ≡ o.visits
-
-pub record IsLoadWith (o : WithMemory LoadResult) (ns ds : List ℕ) (fs : List Frame) (ms ws ks : List ℕ) (r : ℕ) : Type 0 where
-  pub call : IsLoad o.call ns ds fs ws ks r
-  pub memory : ms ≡ o.memory
-
-pub record IsReportWith (o : WithMemory ReportResult) (ns ds : List ℕ) (fs : List Frame) (ms ws ks rs cs qs : List ℕ) (r : ℕ) : Type 0 where
-  pub call : IsReport o.call ns ds fs ws ks rs cs qs r
-  pub memory : ms ≡ o.memory
-
-pub record IsConvertWith (o : WithMemory ConvertResult) (ms ws ks : List ℕ) (r : ℕ) : Type 0 where
-  pub call : IsConvert o.call ws ks r
-  pub memory : ms ≡ o.memory

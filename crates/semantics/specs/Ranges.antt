@@ -1,10 +1,10 @@
 -- What the functions below the entries ask of the core: that it is sound, and the ranges that soundness gives to code which indexes
 -- without a test. The entries ask nothing: the check shows it. Definitions only.
-use Rattle.std.specs.Prelude.{◌≡◌, ◌≢◌, ◌⊎◌, true, List, ℕ, zero, suc, ◌*◌, ◌≤◌, ◌<◌, length}
+use Rattle.std.specs.Prelude.{◌≡◌, ◌≢◌, ◌⊎◌, true, ℕ, zero, suc, ◌*◌, ◌≤◌, ◌<◌, length}
 use Rattle.words.specs.Basics.{none}
 use Rattle.sizes.specs.Sizes.{height}
 use Rattle.pool.specs.Links.{Link}
-use Rattle.packed.specs.Pool.{first_shared, rest, leaf_of, write, written_leaf}
+use Rattle.packed.specs.Pool.{first_shared, rest}
 use Rattle.packed.specs.Links.{PathIn, WriteIn}
 use Rattle.frames.specs.Widths.{max_workers, max_places, deque_places, deque_words}
 use Rattle.frames.specs.Deques.{size, place, bottom}
@@ -14,8 +14,6 @@ use Rattle.frames.specs.Ranges.{ParentOf, ParentCounts, EndsIn}
 use Rattle.soundness.specs.Numbers.{total_count}
 use Rattle.soundness.specs.Layout.{Layout, two_words}
 use Rattle.soundness.specs.Soundness.{sound, count_of_free}
-use Rattle.soundness.specs.Memory.{memory_sound}
-use Rattle.memory.specs.Memory.{max_splitters, memory_words, last_base, base, remembered}
 use Rattle.semantics.specs.Core.{Core, acting_in, popped, end_at}
 
 -- a sound core: what every step keeps
@@ -67,22 +65,3 @@ pub record Ready (c : Core) : Type 0 where
   pub path : (w x : ℕ) → w < max_workers → 0 < size c.deques w → x < c.head.numbers.splitters → PathIn c.head.numbers.nodes c.pool c.head.height (acting_in c w).root x
   pub writes : (w x : ℕ) → w < max_workers → 0 < size c.deques w → x < c.head.numbers.splitters → rest c.head.height c.pool (acting_in c w).root x ≤ c.head.free_count
       → WriteIn c.head.numbers.nodes c.head.height c.pool c.head.numbers.free_node x (first_shared c.head.height c.pool (acting_in c w).root (acting_in c w).root x)
-
--- ---- R-10: the memory
-
--- a memory that is sound beside a sound core: what every step keeps
-pub record Remembers (L : Layout) (c : Core) (ms : List ℕ) : Type 0 where
-  pub long : length ms ≡ memory_words
-  pub is_sound_lem : memory_sound L c.head.numbers c.deques c.frames c.pool ms ≡ true
-
--- what a sound core and its memory give to the code
-pub record Recalls (c : Core) (ms : List ℕ) : Type 0 where
-  pub long : length ms ≡ memory_words
-  pub bases : (w : ℕ) → w < max_workers → base ms w ≤ last_base
-  -- what worker w remembers of x is its bottom frame's leaf
-  pub right : (w x : ℕ) → w < max_workers → x < max_splitters → remembered ms w x ≢ 0 → remembered ms w x ≡ suc (leaf_of c.head.height c.pool (acting_in c w).root x)
-  pub leaf : (w x : ℕ) → w < max_workers → 0 < size c.deques w → x < c.head.numbers.splitters → leaf_of c.head.height c.pool (acting_in c w).root x < c.head.numbers.nodes
-  -- the leaf of x after an accepted write, in the words that it leaves
-  pub written : (w x v : ℕ) → w < max_workers → 0 < size c.deques w → x < c.head.numbers.splitters → rest c.head.height c.pool (acting_in c w).root x ≤ c.head.free_count
-      → let p = write c.head.height c.pool c.head.numbers.free_node c.head.free_count (acting_in c w).root x v in
-      leaf_of c.head.height p.0 p.3 x ≡ written_leaf c.head.height c.pool c.head.numbers.free_node (acting_in c w).root x

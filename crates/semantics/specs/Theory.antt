@@ -154,29 +154,3 @@ pub mod AlikeRuns
 pub mod AsIfBegun
 -- an image that the old library saved is refused
 pub mod OldImages
--- ---- R-10: the memory
--- what it asks of the pools of a layout
-pub mod Leaves
-pub mod FourLeaves
-pub mod TwoLeaves
--- a sound memory, read plainly
-pub mod MemorySound
--- what a step must leave as it was for a memory to stay sound
-pub mod MemoryStays
--- which roots and leaves each kind of step leaves: steps that leave the pool, spawns, writes and ends, the return
-pub mod RootsKept
-pub mod LeavesStay
-pub mod LeavesKept
-pub mod LeavesReturn
--- every record keeps a sound memory
-pub mod MemoryKept
--- ranges that a sound core and a sound memory give; what an accepted step has found
-pub mod RightMemory
--- what they give to the code
-pub mod Recalls
--- the nodes visited over a tape, by the rule
-pub mod VisitsRule
--- runs with the memory are runs without it
-pub mod RememberingRuns
--- demands 1 to 3 with the memory
-pub mod RememberingDemands

@@ -370,7 +370,7 @@ rest_from (suc c) k n (x ∷ xs) = (ltb k n || eqb x 0) && rest_from c (suc k) n
 abbrev pub rest_quick : List ℕ → List Frame → Bool
 rest_quick ds fs = all max_workers (λ w. let d : List ℕ = drop (deque_stride * w) ds in leb (get_or d 0 0) (length fs) && rest_from deque_places 0 (get_or d 0 0) (drop 1 d))
 
-pub all_first : (n : ℕ) (f : ℕ → Bool) → all (suc n) f ≡ f 0 && all n (λ k. f (suc k))
+all_first : (n : ℕ) (f : ℕ → Bool) → all (suc n) f ≡ f 0 && all n (λ k. f (suc k))
 all_first zero f = elim (decided (f 0)) [ inl e ↦ rw e refl | inr e ↦ rw e refl ]
 all_first (suc n) f = elim (decided (f 0)) [
   | inl e ↦ ap (λ b. b && f (suc n)) (all_first n f) ∙ rw e refl

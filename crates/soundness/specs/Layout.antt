@@ -14,8 +14,7 @@ pub record Layout : Type 0 where
   pub version : ℕ
   -- n splitters, N nodes, the initial values; and the first free node
   pub start : List ℕ → ℕ → ℕ → List ℕ → List ℕ × ℕ
-  -- the height, the frame's root, the splitter: the leaf's number (R-10), and its value
-  pub leaf : ℕ → List ℕ → ℕ → ℕ → ℕ
+  -- the height, the frame's root, the splitter
   pub read : ℕ → List ℕ → ℕ → ℕ → ℕ
   pub retain : List ℕ → ℕ → List ℕ
   -- N nodes, the height, the first free node, how many are free, and the frame's root; and the free nodes afterwards
@@ -36,7 +35,6 @@ four_words =
       words = 4;
       version = 3;
       start = Four.init_pool;
-      leaf = Four.leaf_of;
       read = Four.read_at;
       retain = Four.retain;
       release = λ N. Four.release;
@@ -53,7 +51,6 @@ two_words =
       words = 2;
       version = 4;
       start = Two.init_pool;
-      leaf = Two.leaf_of;
       read = Two.read_at;
       retain = Two.retain;
       release = Two.release;

@@ -1,16 +1,19 @@
-// The entries, over the state's lent parts: its numbers, its deques, its frame table and its memory. Numbers, deques or a memory of another length than they
-// must have are refused first, by a number of their own, and nothing changes.
+// The entries, over the state's lent parts: its numbers, its deques and its frame table. Numbers or deques of another length than they must have are
+// refused first, by a number of their own, and nothing changes.
 ghost use Rattle.std.specs.Prelude.{◌≡◌, ◌%◌, ◌^◌, min};
 ghost use Rattle.sizes.specs.Sizes.{tree_nodes};
 ghost use Rattle.model.specs.Record.{record_of, decode_at};
+ghost use Rattle.semantics.specs.Entries.{start_on, outside_on, tape_on};
 ghost use Rattle.image.specs.Image.{image_bytes};
-ghost use Rattle.semantics.specs.Promises.{parts, lent, IsStartWith, IsOutsideWith, IsTapeWith, IsSave, IsLoadWith, IsReportWith, IsConvertWith};
-ghost use Rattle.semantics.specs.Remembering.{start_remembering, outside_remembering, tape_remembering, report_remembering, save_remembering, load_remembering, convert_remembering};
+ghost use Rattle.semantics.specs.Convert.{convert_on};
+ghost use Rattle.semantics.specs.Images.{save_on, load_on};
+ghost use Rattle.semantics.specs.Promises.{parts, lent, IsStart, IsOutside, IsTape, IsSave, IsLoad, IsReport, IsConvert};
+ghost use Rattle.semantics.specs.Report.{report_on};
 ghost use Rattle.splitter.specs.OneRecord.{bytes_of, result_words};
 ghost use Rattle.soundness.specs.Layout.{two_words};
 
 use conversion::convert;
-use engine::{Taped, load, save, start, tape};
+use engine::{load, save, start, tape};
 use frames::Frame;
 
 #[unsafe(no_mangle)]
@@ -18,15 +21,14 @@ pub extern "C" fn splitter_start(
     numbers: &mut [u32],
     deques: &mut [u32],
     frames: &mut [Frame],
-    memory: &mut [u32],
     workers: u32,
     values: &[u32],
     pool: &mut [u32],
 ) -> u32
-    ensures { IsStartWith (start_remembering two_words (parts numbers.old deques.old frames.old) memory.old workers values.now pool.old)
-        numbers.new deques.new frames.new memory.new pool.new result }
+    ensures { IsStart (start_on two_words (parts numbers.old deques.old frames.old) workers values.now pool.old)
+        numbers.new deques.new frames.new pool.new result }
 {
-    start(numbers, deques, frames, memory, workers, values, pool)
+    start(numbers, deques, frames, workers, values, pool)
 }
 
 // The lesser of the two.
@@ -87,7 +89,6 @@ pub extern "C" fn splitter_step(
     numbers: &mut [u32],
     deques: &mut [u32],
     frames: &mut [Frame],
-    memory: &mut [u32],
     pool: &mut [u32],
     work: &mut [u32],
     kind: u32,
@@ -95,40 +96,29 @@ pub extern "C" fn splitter_step(
     field: u32,
     value: u32,
 ) -> u64
-    ensures { IsOutsideWith (outside_remembering two_words (parts numbers.old deques.old frames.old) memory.old pool.old work.old (record_of kind worker field value))
-        numbers.new deques.new frames.new memory.new pool.new work.new result }
+    ensures { IsOutside (outside_on two_words (parts numbers.old deques.old frames.old) pool.old work.old (record_of kind worker field value))
+        numbers.new deques.new frames.new pool.new work.new result }
 {
     let bytes = record_of(kind, worker, field, value);
     let mut answers = [0u32; 2];
-    let taped = tape(
-        numbers,
-        deques,
-        frames,
-        memory,
-        pool,
-        work,
-        &bytes,
-        &mut answers,
-    );
-    result_words(taped.result, answers[0], answers[1])
+    let refused = tape(numbers, deques, frames, pool, work, &bytes, &mut answers);
+    result_words(refused, answers[0], answers[1])
 }
 
-// What the tape answers, and how many nodes it visited.
 #[unsafe(no_mangle)]
 pub extern "C" fn splitter_tape(
     numbers: &mut [u32],
     deques: &mut [u32],
     frames: &mut [Frame],
-    memory: &mut [u32],
     pool: &mut [u32],
     work: &mut [u32],
     bytes: &[u8],
     answers: &mut [u32],
-) -> Taped
-    ensures { IsTapeWith (tape_remembering two_words (parts numbers.old deques.old frames.old) memory.old pool.old work.old bytes.now answers.old)
-        numbers.new deques.new frames.new memory.new pool.new work.new answers.new result.result result.visits }
+) -> u32
+    ensures { IsTape (tape_on two_words (parts numbers.old deques.old frames.old) pool.old work.old bytes.now answers.old)
+        numbers.new deques.new frames.new pool.new work.new answers.new result }
 {
-    tape(numbers, deques, frames, memory, pool, work, bytes, answers)
+    tape(numbers, deques, frames, pool, work, bytes, answers)
 }
 
 // R-7: a start, a tape and the report of its work and span.
@@ -137,7 +127,6 @@ pub extern "C" fn splitter_report(
     numbers: &mut [u32],
     deques: &mut [u32],
     frames: &mut [Frame],
-    memory: &mut [u32],
     workers: u32,
     values: &[u32],
     pool: &mut [u32],
@@ -147,13 +136,12 @@ pub extern "C" fn splitter_report(
     clocks: &mut [u64],
     report: &mut [u64],
 ) -> u32
-    ensures { IsReportWith (report_remembering two_words (parts numbers.old deques.old frames.old) memory.old workers values.now pool.old bytes.now
+    ensures { IsReport (report_on two_words (parts numbers.old deques.old frames.old) workers values.now pool.old bytes.now
         (lent work.old answers.old clocks.old report.old))
-        numbers.new deques.new frames.new memory.new pool.new work.new answers.new clocks.new report.new result }
+        numbers.new deques.new frames.new pool.new work.new answers.new clocks.new report.new result }
 {
     engine::report(
-        numbers, deques, frames, memory, workers, values, pool, work, bytes, answers, clocks,
-        report,
+        numbers, deques, frames, workers, values, pool, work, bytes, answers, clocks, report,
     )
 }
 
@@ -163,15 +151,14 @@ pub extern "C" fn splitter_save(
     numbers: &[u32],
     deques: &[u32],
     frames: &[Frame],
-    memory: &[u32],
     pool: &[u32],
     work: &mut [u32],
     target: &mut [u8],
 ) -> u32
-    ensures { IsSave (save_remembering two_words (parts numbers.now deques.now frames.now) memory.now pool.now work.old target.old)
+    ensures { IsSave (save_on two_words (parts numbers.now deques.now frames.now) pool.now work.old target.old)
         work.new target.new result }
 {
-    save(numbers, deques, frames, memory, pool, work, target)
+    save(numbers, deques, frames, pool, work, target)
 }
 
 // R-1: an image back into a state and a pool.
@@ -180,15 +167,14 @@ pub extern "C" fn splitter_load(
     numbers: &mut [u32],
     deques: &mut [u32],
     frames: &mut [Frame],
-    memory: &mut [u32],
     pool: &mut [u32],
     work: &mut [u32],
     image: &[u8],
 ) -> u32
-    ensures { IsLoadWith (load_remembering two_words (parts numbers.old deques.old frames.old) memory.old pool.old work.old image.now)
-        numbers.new deques.new frames.new memory.new pool.new work.new result }
+    ensures { IsLoad (load_on two_words (parts numbers.old deques.old frames.old) pool.old work.old image.now)
+        numbers.new deques.new frames.new pool.new work.new result }
 {
-    load(numbers, deques, frames, memory, pool, work, image)
+    load(numbers, deques, frames, pool, work, image)
 }
 
 // R-9: a pool of nodes of four words becomes one of nodes of two words, in the middle of a search.
@@ -197,14 +183,13 @@ pub extern "C" fn splitter_convert(
     numbers: &[u32],
     deques: &[u32],
     frames: &[Frame],
-    memory: &mut [u32],
     pool: &mut [u32],
     work: &mut [u32],
 ) -> u32
-    ensures { IsConvertWith (convert_remembering (parts numbers.now deques.now frames.now) memory.old pool.old work.old)
-        memory.new pool.new work.new result }
+    ensures { IsConvert (convert_on (parts numbers.now deques.now frames.now) pool.old work.old)
+        pool.new work.new result }
 {
-    convert(numbers, deques, frames, memory, pool, work)
+    convert(numbers, deques, frames, pool, work)
 }
 
 // The bytes of an image of so many places and nodes.

@@ -17,5 +17,3 @@ pub mod Reports
 pub mod TwoWords
 -- R-9: the change-over
 pub mod Changeover
--- R-10: nodes visited
-pub mod Remembered

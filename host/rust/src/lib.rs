@@ -80,22 +80,6 @@
 //! # Ok::<(), splitter::Refusal>(())
 //! ```
 //!
-//! A worker remembers the leaves that it has read or written in a frame: a repeated read visits one node. A tape tells how
-//! many nodes were visited:
-//!
-//! ```
-//! use splitter::{Engine, Frame, State, Step, NODE_WORDS};
-//!
-//! let (mut state, mut table) = (State::ZERO, [Frame::ZERO; 64]);
-//! let (mut pool, mut work) = ([0; 20 * NODE_WORDS], [0; 20]);
-//! let mut engine = Engine { state: &mut state, frames: &mut table, pool: &mut pool, work: &mut work };
-//! engine.start(1, &[10, 20, 30, 40, 50])?;
-//! let tape = [Step::Read { worker: 0, splitter: 4 }; 3].map(Step::to_bytes).concat();
-//! let mut answers = [0; 2 * 3];
-//! assert_eq!(engine.tape(&tape, &mut answers)?, 4 + 1 + 1); // the path from the root, then twice the leaf
-//! # Ok::<(), splitter::Refusal>(())
-//! ```
-//!
 //! A report of a tape tells how many cores the search can keep busy:
 //!
 //! ```
@@ -140,8 +124,8 @@
 //! # Ok::<(), splitter::Refusal>(())
 //! ```
 //!
-//! A run that the library of header 0.2 has begun, with four words to a node, goes on after a change-over. Numbers, deques
-//! and table are the same in both; the memory may hold anything:
+//! A run that the library before has begun, with four words to a node, goes on after a change-over. State and table are
+//! the same in both:
 //!
 //! ```
 //! use splitter::{Engine, Frame, State, NODE_WORDS, NODE_WORDS_OLD, NONE};
@@ -176,7 +160,7 @@ pub use step::{affine, Reducer, Step};
 /// The version of splitter.h that this binding follows; the package has the same.
 pub const VERSION_MAJOR: u32 = 0;
 /// Its minor number.
-pub const VERSION_MINOR: u32 = 5;
+pub const VERSION_MINOR: u32 = 4;
 /// Both, to compare.
 pub const VERSION: u32 = VERSION_MAJOR * 1000 + VERSION_MINOR;
 
@@ -188,8 +172,6 @@ pub const NUMBERS_WORDS: usize = 10;
 pub const DEQUE_PLACES: usize = 256;
 /// The words of the state's deques.
 pub const DEQUES_WORDS: usize = MAX_WORKERS * (1 + DEQUE_PLACES);
-/// The words of the state's memory.
-pub const MEMORY_WORDS: usize = MAX_WORKERS * MAX_SPLITTERS + MAX_WORKERS;
 /// The words of a node: its holders, then what its level tells.
 pub const NODE_WORDS: usize = 2;
 /// The words of a node of the library before, with header 0.2, which [`Engine::convert`] takes.
@@ -335,12 +317,9 @@ impl Engine<'_> {
     }
 
     /// Runs a tape of records ([`Step::to_bytes`]), with two answer words for each ([`answers`]). A
-    /// refused record does not stop the tape. Gives the nodes visited, modulo 2^64: 1 by an accepted read of a splitter
-    /// that its worker remembers, H + 1 by every other accepted read or write.
-    pub fn tape(&mut self, tape: &[u8], answers: &mut [u32]) -> Result<u64, Refusal> {
-        let taped = raw::tape(self.state.parts(), self.frames, self.pool, self.work, tape, answers);
-        call(taped.result)?;
-        Ok(taped.visits)
+    /// refused record does not stop the tape.
+    pub fn tape(&mut self, tape: &[u8], answers: &mut [u32]) -> Result<(), Refusal> {
+        call(raw::tape(self.state.parts(), self.frames, self.pool, self.work, tape, answers))
     }
 
     /// Begins a run as [`Engine::start`] does, runs a tape as [`Engine::tape`] does, and reports its work and span.
@@ -378,9 +357,8 @@ impl Engine<'_> {
 
     /// The change-over of a run that the library with header 0.2 has begun: turns its nodes, [`NODE_WORDS_OLD`] words
     /// each, into as many of [`NODE_WORDS`] in the front of the same pool, and the run goes on as if it had begun with
-    /// these. The old nodes' other words are zero then, and the memory, whatever it held; words past the old nodes never
-    /// change. It is the first call for such a run, with numbers, deques, table and pool as the old library left them;
-    /// splitter.h says more. Refused, nothing has
+    /// these. The old nodes' other words are zero then; words past the old nodes never change. It is the first call for
+    /// such a run, with state, table and pool as the old library left them; splitter.h says more. Refused, nothing has
     /// changed but the work slice.
     pub fn convert(&mut self) -> Result<(), Refusal> {
         call(raw::convert(self.state.parts(), self.frames, self.pool, self.work))

@@ -12,7 +12,7 @@ use crate::Frame;
 pub type Len = u64;
 
 mod c {
-    use super::{Frame, Len, Taped};
+    use super::{Frame, Len};
 
     extern "C" {
         pub fn splitter_start(
@@ -22,8 +22,6 @@ mod c {
             deques_len: Len,
             frames: *mut Frame,
             places: Len,
-            memory: *mut u32,
-            memory_len: Len,
             workers: u32,
             values: *const u32,
             values_len: Len,
@@ -38,8 +36,6 @@ mod c {
             deques_len: Len,
             frames: *mut Frame,
             places: Len,
-            memory: *mut u32,
-            memory_len: Len,
             pool: *mut u32,
             pool_len: Len,
             work: *mut u32,
@@ -57,8 +53,6 @@ mod c {
             deques_len: Len,
             frames: *mut Frame,
             places: Len,
-            memory: *mut u32,
-            memory_len: Len,
             pool: *mut u32,
             pool_len: Len,
             work: *mut u32,
@@ -67,7 +61,7 @@ mod c {
             tape_len: Len,
             answers: *mut u32,
             answers_len: Len,
-        ) -> Taped;
+        ) -> u32;
 
         pub fn splitter_report(
             numbers: *mut u32,
@@ -76,8 +70,6 @@ mod c {
             deques_len: Len,
             frames: *mut Frame,
             places: Len,
-            memory: *mut u32,
-            memory_len: Len,
             workers: u32,
             values: *const u32,
             values_len: Len,
@@ -102,8 +94,6 @@ mod c {
             deques_len: Len,
             frames: *const Frame,
             places: Len,
-            memory: *const u32,
-            memory_len: Len,
             pool: *const u32,
             pool_len: Len,
             work: *mut u32,
@@ -119,8 +109,6 @@ mod c {
             deques_len: Len,
             frames: *mut Frame,
             places: Len,
-            memory: *mut u32,
-            memory_len: Len,
             pool: *mut u32,
             pool_len: Len,
             work: *mut u32,
@@ -136,8 +124,6 @@ mod c {
             deques_len: Len,
             frames: *const Frame,
             places: Len,
-            memory: *mut u32,
-            memory_len: Len,
             pool: *mut u32,
             pool_len: Len,
             work: *mut u32,
@@ -156,22 +142,11 @@ fn len<T>(slice: &[T]) -> Len {
     slice.len() as Len
 }
 
-/// The state's three parts, as they are lent. One of another length than
+/// The state's two parts, as they are lent. One of another length than
 /// [`State`](crate::State) has is refused by 99.
 pub struct Parts<'a> {
     pub numbers: &'a mut [u32],
     pub deques: &'a mut [u32],
-    pub memory: &'a mut [u32],
-}
-
-/// What a tape gives: splitter.h's `splitter_tape_result`.
-#[derive(Clone, Copy, Debug, PartialEq, Eq)]
-#[repr(C)]
-pub struct Taped {
-    /// 0, or a refusal.
-    pub result: u32,
-    /// The nodes that its accepted reads and writes have visited, modulo 2^64; 0 if it was refused.
-    pub visits: u64,
 }
 
 /// 0, or a refusal.
@@ -185,8 +160,6 @@ pub fn start(state: Parts, frames: &mut [Frame], workers: u32, values: &[u32], p
             len(state.deques),
             frames.as_mut_ptr(),
             len(frames),
-            state.memory.as_mut_ptr(),
-            len(state.memory),
             workers,
             values.as_ptr(),
             len(values),
@@ -208,8 +181,6 @@ pub fn step(state: Parts, frames: &mut [Frame], pool: &mut [u32], work: &mut [u3
             len(state.deques),
             frames.as_mut_ptr(),
             len(frames),
-            state.memory.as_mut_ptr(),
-            len(state.memory),
             pool.as_mut_ptr(),
             len(pool),
             work.as_mut_ptr(),
@@ -223,7 +194,7 @@ pub fn step(state: Parts, frames: &mut [Frame], pool: &mut [u32], work: &mut [u3
     [both as u32, (both >> 32) as u32]
 }
 
-/// 0 and the visits, with two answer words for each record, or a refusal.
+/// 0, with two answer words for each record, or a refusal.
 pub fn tape(
     state: Parts,
     frames: &mut [Frame],
@@ -231,7 +202,7 @@ pub fn tape(
     work: &mut [u32],
     tape: &[u8],
     answers: &mut [u32],
-) -> Taped {
+) -> u32 {
     // SAFETY: each pointer and length is a borrowed slice's.
     unsafe {
         c::splitter_tape(
@@ -241,8 +212,6 @@ pub fn tape(
             len(state.deques),
             frames.as_mut_ptr(),
             len(frames),
-            state.memory.as_mut_ptr(),
-            len(state.memory),
             pool.as_mut_ptr(),
             len(pool),
             work.as_mut_ptr(),
@@ -282,8 +251,6 @@ pub fn report(state: Parts, frames: &mut [Frame], pool: &mut [u32], work: &mut [
             len(state.deques),
             frames.as_mut_ptr(),
             len(frames),
-            state.memory.as_mut_ptr(),
-            len(state.memory),
             asked.workers,
             asked.values.as_ptr(),
             len(asked.values),
@@ -314,8 +281,6 @@ pub fn save(state: Parts, frames: &[Frame], pool: &[u32], work: &mut [u32], targ
             len(state.deques),
             frames.as_ptr(),
             len(frames),
-            state.memory.as_ptr(),
-            len(state.memory),
             pool.as_ptr(),
             len(pool),
             work.as_mut_ptr(),
@@ -337,8 +302,6 @@ pub fn load(state: Parts, frames: &mut [Frame], pool: &mut [u32], work: &mut [u3
             len(state.deques),
             frames.as_mut_ptr(),
             len(frames),
-            state.memory.as_mut_ptr(),
-            len(state.memory),
             pool.as_mut_ptr(),
             len(pool),
             work.as_mut_ptr(),
@@ -349,7 +312,7 @@ pub fn load(state: Parts, frames: &mut [Frame], pool: &mut [u32], work: &mut [u3
     }
 }
 
-/// 0, with present nodes in the front of the pool instead of old ones and an empty memory, or a refusal.
+/// 0, with present nodes in the front of the pool instead of old ones, or a refusal.
 pub fn convert(state: Parts, frames: &[Frame], pool: &mut [u32], work: &mut [u32]) -> u32 {
     // SAFETY: each pointer and length is a borrowed slice's.
     unsafe {
@@ -360,8 +323,6 @@ pub fn convert(state: Parts, frames: &[Frame], pool: &mut [u32], work: &mut [u32
             len(state.deques),
             frames.as_ptr(),
             len(frames),
-            state.memory.as_mut_ptr(),
-            len(state.memory),
             pool.as_mut_ptr(),
             len(pool),
             work.as_mut_ptr(),

@@ -1,5 +1,5 @@
 use crate::raw::Parts;
-use crate::{Frame, DEQUES_WORDS, DEQUE_PLACES, MEMORY_WORDS, NUMBERS_WORDS};
+use crate::{Frame, DEQUES_WORDS, DEQUE_PLACES, NUMBERS_WORDS};
 
 /// The words of a worker in the deques: its deque's length, then its places.
 const DEQUE_WORDS: usize = 1 + DEQUE_PLACES;
@@ -24,15 +24,11 @@ pub struct State {
     pub numbers: [u32; NUMBERS_WORDS],
     /// For each of 8 workers its deque's length, then [`DEQUE_PLACES`] places for its frames from the top.
     pub deques: [u32; DEQUES_WORDS],
-    /// The leaves that each worker remembers, so that a repeated read visits one node: for each of 8 workers a word for each
-    /// of [`MAX_SPLITTERS`](crate::MAX_SPLITTERS) splitters, then a base for each worker. No answer depends on it, and images do
-    /// not have it.
-    pub memory: [u32; MEMORY_WORDS],
 }
 
 impl State {
     /// Zeros: what there is before a start, after a refused one and after a refused reading.
-    pub const ZERO: State = State { numbers: [0; NUMBERS_WORDS], deques: [0; DEQUES_WORDS], memory: [0; MEMORY_WORDS] };
+    pub const ZERO: State = State { numbers: [0; NUMBERS_WORDS], deques: [0; DEQUES_WORDS] };
 
     /// The workers of the run. This and the other queries read the state's words and call nothing. Of a state
     /// that is not sound each gives some number; of [`State::ZERO`] all give 0, `None` or false.
@@ -88,7 +84,7 @@ impl State {
 
     /// The parts to lend.
     pub fn parts(&mut self) -> Parts<'_> {
-        Parts { numbers: &mut self.numbers, deques: &mut self.deques, memory: &mut self.memory }
+        Parts { numbers: &mut self.numbers, deques: &mut self.deques }
     }
 }
 

@@ -5,7 +5,7 @@ use splitter::{
     Synced, Totals,
 };
 use splitter::{clocks_words, image_array_bytes, image_bytes, BLOCK_BYTES, BLOCK_WORDS, IMAGE_VERSION, NONE};
-use splitter::{DEQUES_WORDS, DEQUE_PLACES, MEMORY_WORDS, NODE_WORDS, NODE_WORDS_OLD, NO_LINK, NUMBERS_WORDS};
+use splitter::{DEQUES_WORDS, DEQUE_PLACES, NODE_WORDS, NODE_WORDS_OLD, NO_LINK, NUMBERS_WORDS};
 use splitter::{MAX_NODES, MAX_PLACES, MAX_SPLITTERS, MAX_WORKERS, REDUCERS};
 use splitter::{VERSION, VERSION_MAJOR, VERSION_MINOR};
 use std::mem::{offset_of, size_of};
@@ -87,7 +87,6 @@ fn the_header_has_the_same_sizes() {
     for (name, size) in [
         ("NUMBERS_WORDS", NUMBERS_WORDS),
         ("DEQUES_WORDS", DEQUES_WORDS),
-        ("MEMORY_WORDS", MEMORY_WORDS),
         ("DEQUE_PLACES", DEQUE_PLACES),
         ("FRAME_RECORD_WORDS", Frame::WORDS),
         ("NODE_WORDS", NODE_WORDS),
@@ -116,7 +115,7 @@ fn the_package_has_the_same_version() {
     assert_eq!(env!("CARGO_PKG_VERSION_MAJOR"), VERSION_MAJOR.to_string());
     assert_eq!(env!("CARGO_PKG_VERSION_MINOR"), VERSION_MINOR.to_string());
     assert!(HEADER.contains("#define SPLITTER_VERSION (SPLITTER_VERSION_MAJOR * 1000u + SPLITTER_VERSION_MINOR)"));
-    assert_eq!(VERSION, 5);
+    assert_eq!(VERSION, 4);
 }
 
 /// As in the header, the parts lie one after the other.
@@ -124,17 +123,7 @@ fn the_package_has_the_same_version() {
 fn the_state_is_laid_out_as_in_c() {
     assert_eq!(offset_of!(State, numbers), 0);
     assert_eq!(offset_of!(State, deques), 4 * NUMBERS_WORDS);
-    assert_eq!(offset_of!(State, memory), 4 * (NUMBERS_WORDS + DEQUES_WORDS));
-    assert_eq!(size_of::<State>(), 4 * (NUMBERS_WORDS + DEQUES_WORDS + MEMORY_WORDS));
-    assert_eq!(size_of::<State>(), 16_488);
-}
-
-/// What a tape gives, as the header has it.
-#[test]
-fn a_tapes_result_is_laid_out_as_in_c() {
-    assert_eq!(header_fields("splitter_tape_result", "uint32_t"), ["result"]);
-    assert_eq!(header_fields("splitter_tape_result", "uint64_t"), ["visits"]);
-    assert_eq!((offset_of!(raw::Taped, result), offset_of!(raw::Taped, visits)), (0, 8));
+    assert_eq!(size_of::<State>(), 4 * (NUMBERS_WORDS + DEQUES_WORDS));
 }
 
 /// The fields of a struct, all of one type, in the header's order.
@@ -228,34 +217,8 @@ fn with_example(test: impl FnOnce(&mut Engine)) {
 fn the_example_as_a_tape() {
     with_example(|engine| {
         let mut words = [0; 2 * EXAMPLE.len()];
-        let visits = engine.tape(&example_tape(), &mut words).expect("a tape of whole records");
+        engine.tape(&example_tape(), &mut words).expect("a tape of whole records");
         assert!(answers(&words).eq(EXAMPLE.map(|(_, answer)| answer)));
-        assert_eq!(visits, 12);
-    });
-}
-
-/// A read again visits the leaf alone, whoever entered the first; a spawn, another state and a reading empty the memory.
-#[test]
-fn remembered_leaves() {
-    with_example(|engine| {
-        let read = Step::Read { worker: 0, splitter: 4 }.to_bytes();
-        let visits = |engine: &mut Engine| engine.tape(&read, &mut [0; 2]);
-        assert_eq!(engine.read(0, 4), Ok(50));
-        assert_eq!(engine.state.memory[..5], [0, 0, 0, 0, 11]);
-        assert_eq!(visits(engine), Ok(1));
-        assert_eq!(engine.write(0, 4, 99), Ok(9));
-        assert_eq!(visits(engine), Ok(1));
-        assert_eq!(engine.spawn(0), Ok(1));
-        assert_eq!([visits(engine), visits(engine)], [Ok(4), Ok(1)]);
-        let mut image = [0; image_array_bytes(PLACES, 20)];
-        engine.save(&mut image).expect("a save");
-        engine.load(&image).expect("its image");
-        assert_eq!(engine.state.memory, State::ZERO.memory);
-        assert_eq!(visits(engine), Ok(4));
-        engine.state.memory[0] = 11;
-        assert_eq!(visits(engine), Err(Refusal::Unsound));
-        engine.state.memory = State::ZERO.memory;
-        assert_eq!(visits(engine), Ok(4));
     });
 }
 
@@ -321,8 +284,7 @@ fn queries_take_any_words() {
     assert_eq!((State::ZERO.bottom_depth(&[Frame::ZERO], 0), State::ZERO.main_returned()), (None, false));
     assert_eq!(State::ZERO.totals(), None);
     for word in [1, 7, 63, 64, 65, 255, 256, 257, 519, 1 << 31, u32::MAX] {
-        let state =
-            State { numbers: [word; NUMBERS_WORDS], deques: [word; DEQUES_WORDS], memory: [word; MEMORY_WORDS] };
+        let state = State { numbers: [word; NUMBERS_WORDS], deques: [word; DEQUES_WORDS] };
         let frames = [Frame::from_words([word; Frame::WORDS]); PLACES];
         assert_eq!((state.workers(), state.places(), state.main_returned()), (word, word, false));
         assert_eq!(state.totals(), None);
@@ -528,11 +490,6 @@ fn image_of(engine: &Engine, first: u32, numbers: usize, frame_words: usize, nod
     blocks(&words)
 }
 
-/// The state with nothing remembered: what an image has of it, and a change-over leaves.
-fn forgetting(state: &State) -> State {
-    State { memory: State::ZERO.memory, ..state.clone() }
-}
-
 /// Document 02's R-8: a save adds 1,024 to the first word, and a reading takes no other form: not those from
 /// before, with four words to a node, five numbers and six or seven words to a frame record, nine or ten numbers.
 #[test]
@@ -544,7 +501,7 @@ fn the_form_of_an_image() {
             engine.save(&mut image).expect("room for the image");
             let expected = image_of(engine, IMAGE_VERSION + 2, NUMBERS_WORDS, Frame::WORDS, engine.pool);
             assert_eq!(image[..], expected);
-            let (state, frames, pool) = (forgetting(engine.state), engine.frames.to_vec(), engine.pool.to_vec());
+            let (state, frames, pool) = (engine.state.clone(), engine.frames.to_vec(), engine.pool.to_vec());
             engine.frames.fill(GARBAGE);
             engine.pool.fill(7);
             engine.load(&image).expect("an image as it was saved");
@@ -595,8 +552,7 @@ fn the_example_changed_over_at_each_step() {
             for (step, answer) in &EXAMPLE[..at] {
                 assert_eq!(engine.step(*step), *answer);
             }
-            let (state, frames, nodes) = (forgetting(engine.state), engine.frames.to_vec(), engine.pool.to_vec());
-            engine.state.memory[MEMORY_WORDS - at..].fill(NONE); // whatever it held
+            let (state, frames, nodes) = (engine.state.clone(), engine.frames.to_vec(), engine.pool.to_vec());
             let mut pool = old_nodes(engine);
             pool.extend([7; 5]);
             let mut work = [9; 21];

@@ -36,10 +36,6 @@ pub struct Run {
     refused: usize,
     free: u32,
     reduced: Option<Words>,
-    visits: u64,
-    /// "The sum this rule gives from the records, their answers and the memory
-    /// handed in": after a start none.
-    visits_by_rule: u64,
 }
 
 /// "Main has returned once a return of the run was answered with outcome 3."
@@ -67,8 +63,6 @@ impl Run {
             refused: 0,
             free: printed.free,
             reduced: printed.reduced,
-            visits: printed.visits,
-            visits_by_rule: 0,
         };
         for (place, record) in record::records(&input.tape).enumerate() {
             let answer = printed.answers.get(place);
@@ -88,7 +82,6 @@ impl Run {
                 _ => run.refused += 1,
             }
         }
-        run.visits_by_rule = machine.memory().visits();
         Ok(run)
     }
 
@@ -239,8 +232,7 @@ pub fn check(nodes: u32, run: &Run, one_worker: &Run) -> Result<(), String> {
             run.free, one_worker.free
         ));
     }
-    check_visits(run)?;
-    check_visits(one_worker)
+    Ok(())
 }
 
 fn check_reads(run: &Reads, one_worker: &Reads) -> Result<(), String> {
@@ -287,8 +279,8 @@ fn check_totals(run: &Run, one_worker: &Run) -> Result<(), String> {
 }
 
 /// The same frames' steps under another schedule: the frames have the same
-/// names and have read the same, the totals are the same, every node is free,
-/// and the visits are those of this schedule.
+/// names and have read the same, the totals are the same, and every node is
+/// free.
 pub fn check_rescheduled(nodes: u32, run: &Run, other: &Run) -> Result<(), String> {
     check_reads(&run.reads(), &other.reads())?;
     if other.free != nodes {
@@ -298,17 +290,6 @@ pub fn check_rescheduled(nodes: u32, run: &Run, other: &Run) -> Result<(), Strin
         return Err(format!(
             "the totals are {:?}, under the first schedule {:?}",
             other.reduced, run.reduced
-        ));
-    }
-    check_visits(other)
-}
-
-/// R-10: the visits "must equal the sum this rule gives".
-fn check_visits(run: &Run) -> Result<(), String> {
-    if run.visits != run.visits_by_rule {
-        return Err(format!(
-            "{} visits, by the rule {}",
-            run.visits, run.visits_by_rule
         ));
     }
     Ok(())
@@ -340,24 +321,19 @@ struct Printed {
     answers: Vec<(u32, u32)>,
     free: u32,
     reduced: Option<Words>,
-    visits: u64,
 }
 
 impl Printed {
     fn parse(output: &str) -> Result<Printed, String> {
         let lines: Vec<&str> = output.lines().collect();
-        let bad_line = || "a line that is not an answer".to_string();
-        let [lines @ .., visits] = lines.as_slice() else {
-            return Err("no line".to_string());
-        };
-        let visits = visits.strip_prefix("visits ").and_then(|n| n.parse().ok());
-        let (lines, reduced) = match lines {
+        let (lines, reduced) = match lines.as_slice() {
             [before @ .., last] if last.starts_with("reduced") => (before, Some(*last)),
             all => (all, None),
         };
         let [_first, records @ .., free] = lines else {
             return Err("fewer than two lines".to_string());
         };
+        let bad_line = || "a line that is not an answer".to_string();
         let answers: Option<Vec<_>> = records.iter().map(|line| answer(line)).collect();
         let free = free.strip_prefix("free ").and_then(|n| n.parse().ok());
         Ok(Printed {
@@ -367,7 +343,6 @@ impl Printed {
                 Some(line) => Some(totals(line).ok_or_else(bad_line)?),
                 None => None,
             },
-            visits: visits.ok_or_else(bad_line)?,
         })
     }
 }
@@ -442,7 +417,7 @@ mod tests {
         assert_eq!(
             splitrun::output(&one_worker.to_bytes(), Counting::Recounted),
             "1 5 20\n101 1\n105 50\n102 0\n106 9\n104 0\n105 99\n102 3\nfree 20\n\
-             reduced 0 4294967295 1 0\nvisits 12\n"
+             reduced 0 4294967295 1 0\n"
         );
         assert_eq!(check_changed("", ""), Ok(()));
     }
@@ -457,8 +432,6 @@ mod tests {
         assert!(lost.starts_with("of 20 nodes"), "{lost}");
         let totals = check_changed(" 1 0\n", " 1 1\n").expect_err("other totals");
         assert!(totals.starts_with("its one-worker run has"), "{totals}");
-        let visits = check_changed("visits 12", "visits 13").expect_err("other visits");
-        assert_eq!(visits, "13 visits, by the rule 12");
     }
 
     /// Returns that wait are last steps, and no return waits with one worker.
@@ -471,7 +444,7 @@ mod tests {
         assert_eq!(
             splitrun::output(&one_worker.to_bytes(), Counting::Recounted),
             "1 5 20\n101 1\n101 2\n102 0\n102 0\n101 1\n101 2\n102 0\n102 0\n102 3\nfree 20\n\
-             reduced 0 4294967295 1 0\nvisits 0\n"
+             reduced 0 4294967295 1 0\n"
         );
         assert_eq!(check_changed_in(waiting_example(), "", ""), Ok(()));
         let waits = check_changed_in(waiting_example(), "102 0", "102 4");

@@ -1,10 +1,9 @@
-//! The edges of document 01, as of document 02 change them,
+//! The edges of document 01, as of document 02 change them,
 //! starred or not, and the edges of its refusals and lines. Every expected
 //! line is written by hand from the documents.
 
 mod lengths;
 mod reducers;
-mod remembered;
 mod shared;
 mod waiting;
 
@@ -37,7 +36,6 @@ pub fn all() -> Vec<Edge> {
     edges.extend(shared::shared());
     edges.extend(waiting::waiting());
     edges.extend(reducers::reducers());
-    edges.extend(remembered::remembered());
     edges
 }
 
@@ -113,13 +111,11 @@ fn bytes(workers: u16, nodes: u32, values: &[u32], tape: &[u8]) -> Vec<u8> {
     input.to_bytes()
 }
 
-/// what a run that folds nothing prints after `free`, once Main has
-/// returned.
+/// what a run that folds nothing prints last, once Main has returned.
 const IDENTITIES: &str = "reduced 0 4294967295 1 0";
 
 /// A run that folds nothing and is not refused whole: its first line, its
-/// answered records and `free`. If Main has returned, the identities follow;
-/// last the visits.
+/// answered records and `free`. If Main has returned, the identities follow.
 fn run(
     name: impl Into<String>,
     start: (u16, u32, &[u32]),
@@ -133,22 +129,9 @@ fn run(
     run_to(name, start, first, answered, last)
 }
 
-/// A run that is not refused whole: its first line, its answered records, its
-/// last lines and the visits, which follow from the answers.
+/// A run that is not refused whole: its first line, its answered records and
+/// its last lines.
 fn run_to(
-    name: impl Into<String>,
-    (workers, nodes, values): (u16, u32, &[u32]),
-    first: &str,
-    answered: &[Answered],
-    last: &[&str],
-) -> Edge {
-    let visits = visits(values.len(), answered);
-    let last = [last, &[&visits]].concat();
-    run_to_visits(name, (workers, nodes, values), first, answered, &last)
-}
-
-/// The same, the visits being one of the last lines.
-fn run_to_visits(
     name: impl Into<String>,
     (workers, nodes, values): (u16, u32, &[u32]),
     first: &str,
@@ -160,28 +143,6 @@ fn run_to_visits(
     lines.extend(answered.iter().map(|(_, line)| *line));
     lines.extend(last);
     edge(name, bytes(workers, nodes, values, &tape), &lines)
-}
-
-/// R-10's last line, by the rule from the answers: pairs of a worker and a
-/// splitter are remembered.
-fn visits(n: usize, answered: &[Answered]) -> String {
-    let path = 1 + (0..9).find(|height| 1 << height >= n).unwrap_or(0);
-    let mut visits = 0;
-    let mut remembered: Vec<(u8, u8, u8)> = Vec::new();
-    for ([_, worker, low, high, ..], line) in answered {
-        let pair = (*worker, *low, *high);
-        let known = remembered.contains(&pair);
-        match line.split(' ').next() {
-            Some("105") if known => visits += 1,
-            Some("105" | "106") => {
-                visits += path;
-                remembered.push(pair);
-            }
-            Some("101" | "102" | "103" | "104") => remembered.retain(|(of, ..)| of != worker),
-            _ => {}
-        }
-    }
-    format!("visits {visits}")
 }
 
 fn starred() -> Vec<Edge> {

@@ -1,4 +1,4 @@
-//! The copying program of document 01, with of document 02, and
+//! The copying program of document 01, with of document 02, and
 //! the differential test of splitrun against it. Everything here is written
 //! from the documents' text alone.
 
@@ -8,7 +8,6 @@ pub mod families;
 pub mod generate;
 pub mod history;
 pub mod machine;
-pub mod memory;
 pub mod name;
 pub mod orders;
 pub mod program;
@@ -16,7 +15,6 @@ pub mod random;
 pub mod record;
 pub mod reducer;
 pub mod refusal;
-pub mod remembering;
 pub mod schedules;
 pub mod shape;
 pub mod sharing;

@@ -1,11 +1,9 @@
-//! Document 01's plain machine, with R-2, R-3, R-5, R-6 and R-10 of document 02: each live
+//! Document 01's plain machine, with R-2, R-3, R-5 and R-6 of document 02: each live
 //! frame has its own full list of values and its whole history, and nodes in
 //! use are counted from those. Each has its name and its view of the reducers;
-//! whose view comes next is told by the names. Beside it stands what the workers
-//! remember.
+//! whose view comes next is told by the names.
 
 use super::history::{self, History, WriteId};
-use super::memory::Memory;
 use super::name::{self, Name};
 use super::record::Step;
 use super::reducer::{View, REDUCERS};
@@ -60,8 +58,6 @@ pub struct Machine {
     writes_made: WriteId,
     /// R-5: Main's view at its end, none while Main lives.
     totals: Option<View>,
-    /// R-10. It tells no answer.
-    memory: Memory,
     counting: Counting,
 }
 
@@ -112,7 +108,6 @@ impl Machine {
             frames_made: 1,
             writes_made: 0,
             totals: None,
-            memory: Memory::of_start(workers, splitters),
             counting,
         })
     }
@@ -121,9 +116,7 @@ impl Machine {
     /// nothing."
     pub fn step(&mut self, step: Step) -> Result<u32, Refusal> {
         self.check(step)?;
-        let number = self.take(step);
-        self.memory.take(step);
-        Ok(number)
+        Ok(self.take(step))
     }
 
     /// Refusals 8 to 16, in checking order. 14 no longer occurs (R-3), and 20
@@ -366,11 +359,6 @@ impl Machine {
     /// R-5: the four totals, "once Main has returned".
     pub fn totals(&self) -> Option<View> {
         self.totals
-    }
-
-    /// R-10: what the workers remember, and the nodes visited since the start.
-    pub fn memory(&self) -> &Memory {
-        &self.memory
     }
 
     /// "Its free nodes are the pool's less those in use."

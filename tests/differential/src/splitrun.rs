@@ -97,20 +97,18 @@ pub fn watched_output(bytes: &[u8], counting: Counting, watch: Watch) -> String 
 struct End {
     free: usize,
     totals: Option<View>,
-    visits: u64,
 }
 
 /// "Last `free` and the free nodes." R-5: once Main has returned, "only then
 /// splitrun prints, as a line after `free`, `reduced`, the sum, the minimum,
-/// the multiplier and the addend". R-10: "splitrun prints `visits` and it as its
-/// last line".
+/// the multiplier and the addend".
 fn print_end(lines: &mut String, end: End) -> std::fmt::Result {
     writeln!(lines, "free {}", end.free)?;
     if let Some(totals) = end.totals {
         let [sum, minimum, multiplier, addend] = totals.words();
         writeln!(lines, "reduced {sum} {minimum} {multiplier} {addend}")?;
     }
-    writeln!(lines, "visits {}", end.visits)
+    Ok(())
 }
 
 fn n(input: &Input) -> u32 {
@@ -139,7 +137,6 @@ fn run(
     Ok(End {
         free: machine.free_nodes(),
         totals: machine.totals(),
-        visits: machine.memory().visits(),
     })
 }
 
@@ -201,7 +198,7 @@ mod tests {
             tape: steps.into_iter().flat_map(Step::encode).collect(),
         };
         let expected = "2 5 20\n101 1\n103 0\n106 5\n105 50\n104 1\n10 0\n102 2\n\
-                        105 99\n102 3\nfree 20\nreduced 0 4294967295 1 0\nvisits 12\n";
+                        105 99\n102 3\nfree 20\nreduced 0 4294967295 1 0\n";
         assert_eq!(output(&input.to_bytes(), Counting::Recounted), expected);
     }
 }

@@ -1,18 +1,15 @@
 //! How often each accepted kind, outcome and refusal occurred, and each case
-//! of a write, of a chain of ends, of a view that is handed on and of what is
-//! remembered.
+//! of a write, of a chain of ends and of a view that is handed on.
 
 use crate::families::Families;
 use crate::machine::Machine;
 use crate::record::Record;
-use crate::remembering::Remembering;
 use crate::sharing::Sharing;
-use crate::splitrun::Input;
 use crate::waiting::Waiting;
 use std::collections::BTreeMap;
 
 /// Each line that splitrun can show, by the words that tell it apart.
-const EVENTS: [(&str, &str); 29] = [
+const EVENTS: [(&str, &str); 28] = [
     ("101", "spawn"),
     ("102 0", "return, outcome 0"),
     ("102 1", "return, outcome 1"),
@@ -26,7 +23,6 @@ const EVENTS: [(&str, &str); 29] = [
     ("106", "write"),
     ("107 0", "fold"),
     ("reduced", "reduced"),
-    ("visits", "visits"),
     ("unfit", "unfit"),
     ("refused 1", "refusal 1"),
     ("refused 2", "refusal 2"),
@@ -50,20 +46,15 @@ pub struct Tally {
     pub sharing: Sharing,
     pub waiting: Waiting,
     pub families: Families,
-    pub remembering: Remembering,
 }
 
 impl Tally {
-    /// Counts the lines of one input's output, its first line and `free` left
-    /// out, and the cases of what is remembered.
-    pub fn add(&mut self, input: &[u8], output: &str) {
+    /// Counts the lines of one output, its first line and `free` left out.
+    pub fn add(&mut self, output: &str) {
         let first_is_event = output == "unfit\n";
         let skipped = if first_is_event { 0 } else { 1 };
         for line in output.lines().skip(skipped) {
             *self.counts.entry(event(line)).or_default() += 1;
-        }
-        if let Some(input) = Input::parse(input) {
-            self.remembering.see(&input, output);
         }
     }
 
@@ -84,7 +75,6 @@ impl Tally {
             self.sharing.cases(),
             self.waiting.cases(),
             self.families.cases(),
-            self.remembering.cases(),
         ];
         events.chain(cases.concat()).collect()
     }
@@ -93,9 +83,7 @@ impl Tally {
 /// Numbers other than outcomes are left out of the event.
 fn event(line: &str) -> String {
     match line.split_once(' ') {
-        Some((word @ ("101" | "103" | "105" | "106" | "reduced" | "visits"), _)) => {
-            word.to_string()
-        }
+        Some((word @ ("101" | "103" | "105" | "106" | "reduced"), _)) => word.to_string(),
         _ => line.to_string(),
     }
 }

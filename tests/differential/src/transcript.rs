@@ -51,8 +51,7 @@ pub fn in_words(input: &[u8]) -> Vec<String> {
         return words;
     }
     words.extend(record::records(&input.tape).map(record_in_words));
-    let last = "the totals, if Main has returned; the visits";
-    words.extend(["the end", last].map(String::from));
+    words.extend(["the end", "the totals, if Main has returned"].map(String::from));
     words
 }
 

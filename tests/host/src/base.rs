@@ -2,9 +2,8 @@
 
 use crate::corrupt::Pair;
 use crate::layouts;
-use crate::plain::{self, Frame, Layout, Memory, OldNode, State, READ, SPAWN};
+use crate::plain::{self, Frame, Layout, OldNode, State, SPAWN};
 use crate::random::Random;
-use crate::remembering;
 use crate::sketch::Sketch;
 use crate::steps::{self, Driver, StepWords};
 
@@ -75,26 +74,7 @@ pub fn played_in(places: usize, splitters: usize, nodes: u32, random: &Random) -
         4..8 => sketch(&mut pair, random, |sketch| sketch.family()),
         _ => {}
     }
-    remember(&mut pair, random);
     pair
-}
-
-/// In two pairs of five nothing is remembered; in the others what the run left, in some of them many leaves more. Some rows have other bases.
-fn remember(pair: &mut Pair, random: &Random) {
-    let many = pair.state.splitters as usize * random.below(12);
-    match random.below(5) {
-        0 | 1 => pair.state.memory = Memory::EMPTY,
-        2 => take(pair, random.below(8), |state| {
-            steps::plausible(state, READ, random)
-        }),
-        3 => take(pair, many.min(400), |state| {
-            steps::plausible(state, READ, random)
-        }),
-        _ => {}
-    }
-    if random.one_in(2) {
-        remembering::move_rows(&mut pair.state.memory, random);
-    }
 }
 
 /// After a start.

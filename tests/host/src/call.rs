@@ -7,7 +7,7 @@ use crate::plain::{self, Layout, Node, OldNode, FRAME_WORDS};
 use splitter::{raw, Frame};
 use std::fmt;
 
-/// The interface's own refusal: numbers, deques or memory, or a report's clocks or words, have another length than they must have.
+/// The interface's own refusal: numbers or deques, or a report's clocks or words, have another length than they must have.
 pub const BAD_STATE: u32 = 99;
 /// The clock words for each place, and the words of a report.
 pub const CLOCK_WORDS: usize = 2;
@@ -58,8 +58,6 @@ pub struct Call {
 #[derive(Clone, PartialEq)]
 pub struct Outcome {
     pub result: [u32; 2],
-    /// A tape's.
-    pub visits: u64,
     pub state: Parts,
     pub pool: Vec<u32>,
     pub work: Vec<u32>,
@@ -76,7 +74,6 @@ impl Call {
     pub fn untouched(&self, result: [u32; 2]) -> Outcome {
         Outcome {
             result,
-            visits: 0,
             state: self.state.clone(),
             pool: self.pool.clone(),
             work: self.work.clone(),
@@ -151,8 +148,7 @@ impl Call {
             }
             Entry::Tape { bytes, .. } => {
                 let answers = &mut after.answers;
-                let taped = plain::tape_of::<N>(&mut state, pool, work, bytes, answers);
-                (after.result[0], after.visits) = (taped.result, taped.visits);
+                after.result[0] = plain::tape_of::<N>(&mut state, pool, work, bytes, answers);
             }
             Entry::Report(asked) => {
                 let report = after.report.as_mut_slice().try_into().ok();
@@ -179,7 +175,7 @@ impl Call {
                 after.result[0] = image::load(&mut after.state, pool, work, image);
                 return after;
             }
-            Entry::Convert => after.result[0] = plain::convert(&mut state, pool, work),
+            Entry::Convert => after.result[0] = plain::convert(&state, pool, work),
         }
         after.state = Parts::of(&state);
         after
@@ -189,7 +185,6 @@ impl Call {
     pub fn by_library(&self, guard: usize) -> Option<Outcome> {
         let lend = |words: &[u32]| Lent::new(words, guard, 0x5AFE_C0DE);
         let (mut numbers, mut deques) = (lend(&self.state.numbers), lend(&self.state.deques));
-        let mut memory = lend(&self.state.memory);
         let guard_frame = Frame::from_words([0x5AFE_C0DE; FRAME_WORDS]);
         let mut frames = Lent::new(&records(&self.state.frames), guard, guard_frame);
         let mut pool = lend(&self.pool);
@@ -199,11 +194,10 @@ impl Call {
         let mut bytes = Lent::new(self.bytes(), guard, 0xC5);
         let lend = |words: &[u64]| Lent::new(words, guard, 0x5AFE_C0DE_5AFE_C0DE);
         let (mut clocks, mut report) = (lend(self.clocks()), lend(self.report()));
-        let (result, visits) = self.enter(
+        let result = self.enter(
             raw::Parts {
                 numbers: numbers.slice(),
                 deques: deques.slice(),
-                memory: memory.slice(),
             },
             frames.slice(),
             [pool.slice(), work.slice(), answers.slice()],
@@ -213,7 +207,6 @@ impl Call {
         );
         Some(Outcome {
             result,
-            visits,
             state: Parts {
                 numbers: numbers.back()?,
                 deques: deques.back()?,
@@ -222,7 +215,6 @@ impl Call {
                     .into_iter()
                     .flat_map(Frame::to_words)
                     .collect(),
-                memory: memory.back()?,
             },
             pool: pool.back()?,
             work: work.back()?,
@@ -234,7 +226,7 @@ impl Call {
         })
     }
 
-    /// The library's function, over what is lent; its result, and a tape's visits.
+    /// The library's function, over what is lent; its result.
     fn enter(
         &self,
         state: raw::Parts,
@@ -243,14 +235,11 @@ impl Call {
         values: &[u32],
         bytes: &mut [u8],
         [clocks, report]: [&mut [u64]; 2],
-    ) -> ([u32; 2], u64) {
-        let result = match &self.entry {
+    ) -> [u32; 2] {
+        match &self.entry {
             Entry::Start { workers, .. } => [raw::start(state, frames, *workers, values, pool), 0],
             Entry::Step(step) => raw::step(state, frames, pool, work, *step),
-            Entry::Tape { .. } => {
-                let taped = raw::tape(state, frames, pool, work, bytes, answers);
-                return ([taped.result, 0], taped.visits);
-            }
+            Entry::Tape { .. } => [raw::tape(state, frames, pool, work, bytes, answers), 0],
             &Entry::Report(Reporting { workers, .. }) => {
                 let asked = raw::Asked {
                     workers,
@@ -267,8 +256,7 @@ impl Call {
             Entry::Save { .. } => [raw::save(state, frames, pool, work, bytes), 0],
             Entry::Load { .. } => [raw::load(state, frames, pool, work, bytes), 0],
             Entry::Convert => [raw::convert(state, frames, pool, work), 0],
-        };
-        (result, 0)
+        }
     }
 }
 
@@ -281,12 +269,11 @@ fn records(words: &[u32]) -> Vec<Frame> {
 impl Outcome {
     /// The first word or byte in which this outcome, the library's, differs from the other.
     pub fn difference(&self, other: &Outcome) -> Option<String> {
-        let slices: [(&str, &[u32], &[u32]); 9] = [
+        let slices: [(&str, &[u32], &[u32]); 8] = [
             ("result", &self.result, &other.result),
             ("numbers", &self.state.numbers, &other.state.numbers),
             ("deques", &self.state.deques, &other.state.deques),
             ("frames", &self.state.frames, &other.state.frames),
-            ("memory", &self.state.memory, &other.state.memory),
             ("pool", &self.pool, &other.pool),
             ("work", &self.work, &other.work),
             ("answers", &self.answers, &other.answers),
@@ -298,7 +285,6 @@ impl Outcome {
             .or_else(|| first_difference("bytes", &self.bytes, &other.bytes))
             .or_else(|| first_difference("clocks", &self.clocks, &other.clocks))
             .or_else(|| first_difference("report", &self.report, &other.report))
-            .or_else(|| first_difference("visits", &[self.visits], &[other.visits]))
     }
 }
 
@@ -346,11 +332,10 @@ impl fmt::Display for Call {
         }
         write!(
             f,
-            "; {} number, {} deque words, {} places, {} memory, {} pool, {} work words",
+            "; {} number, {} deque words, {} places, {} pool, {} work words",
             self.state.numbers.len(),
             self.state.deques.len(),
             self.state.places(),
-            self.state.memory.len(),
             self.pool.len(),
             self.work.len()
         )

@@ -4,14 +4,14 @@
 
 use crate::base;
 use crate::call::{Call, Entry, Outcome, BAD_STATE};
-use crate::corrupt::words::BUT_MEMORY;
+use crate::corrupt::words::TURNS;
 use crate::corrupt::{self, Expected, Kind, Pair};
 use crate::layouts::{self, Older};
 use crate::parts::Parts;
-use crate::plain::{self, Node, OldNode, Refusal, State, NODE_WORDS, OLD_NODE_WORDS, RECORD_BYTES};
+use crate::plain::{self, OldNode, Refusal, State, NODE_WORDS, OLD_NODE_WORDS, RECORD_BYTES};
 use crate::random::Random;
 use crate::runs;
-use crate::sentences::{self, ON_MEMORY, SENTENCES};
+use crate::sentences::{self, SENTENCES};
 use crate::session::{Failure, Session};
 use crate::sketch::Sketch;
 use crate::soundness::{expect, Judged};
@@ -99,8 +99,8 @@ impl Counts {
         if let Some(result) = RESULTS.iter().find(|result| few(result)) {
             return Some(format!("few change-overs that answer {result}"));
         }
-        // in four words no node can be on two levels with a tree of the shape on both; and there is no memory
-        let alone = SENTENCES[..ON_MEMORY].iter().zip(self.alone);
+        // in four words no node can be on two levels with a tree of the shape on both
+        let alone = SENTENCES.iter().zip(self.alone);
         let never = |(sentence, times): &(&sentences::Sentence, u64)| {
             *times == 0 && sentence.text != "no node is reached on two levels"
         };
@@ -142,21 +142,11 @@ fn asking(state: &State, mut pool: Vec<u32>, random: &Random) -> Call {
     pool.extend(random.words(random.pick(&[0, 1, 2, 3, random.below(40)])));
     let work = state.nodes as usize + random.below(6);
     Call {
-        state: with_any_memory(Parts::of(state), random),
+        state: Parts::of(state),
         pool,
         work: random.words(work),
         entry: Entry::Convert,
     }
-}
-
-/// States of the old library have no memory: what is lent for it holds anything.
-fn with_any_memory(mut state: Parts, random: &Random) -> Parts {
-    match random.below(3) {
-        0 => state.memory.fill(0),
-        1 => state.memory = random.words(state.memory.len()),
-        _ => {}
-    }
-    state
 }
 
 /// "turn it into two-word nodes in the front of the same slice, the old nodes' remaining words zero"; "Words past the old nodes never
@@ -173,8 +163,7 @@ fn expect_accepted(
     let nodes = state.nodes as usize;
     let [front, end] = [NODE_WORDS, OLD_NODE_WORDS].map(|words| words * nodes);
     expect(after.result[0] == 0, "a change-over was refused")?;
-    let left = after.state == call.state.without_memory();
-    expect(left, "the state has changed, or its memory is not zero")?;
+    expect(after.state == call.state, "the state has changed")?;
     let unpacked = layouts::unpack(state, &after.pool).ok_or("a new pool is not unpacked")?;
     let as_before = unpacked == call.pool[..end];
     expect(as_before, "unpacked, the new pool is not the old one")?;
@@ -191,7 +180,7 @@ fn expect_accepted(
     counts.nodes += u64::from(state.nodes);
     counts.returned += u64::from(!state.main_lives());
     let mut work = vec![0; nodes];
-    let taken = plain::sound_but_memory_of::<Node>(state, &call.pool, &mut work).is_some();
+    let taken = plain::sound(state, &call.pool, &mut work).is_some();
     counts.taken_for_two += u64::from(taken);
     again(call, after, session)
 }
@@ -215,14 +204,13 @@ fn count(call: &Call, after: &Outcome, session: &mut Session) {
 /// A second change-over is refused, or changes nothing.
 fn again(call: &Call, after: &Outcome, session: &mut Session) -> Result<(), Failure> {
     let second = Call {
-        state: after.state.clone(),
         pool: after.pool.clone(),
         ..call.clone()
     };
     let left = session.both(&second)?;
     expect(
-        left.pool == after.pool && left.state == after.state,
-        "a second change-over changed something",
+        left.pool == after.pool,
+        "a second change-over changed the pool",
     )?;
     match left.result[0] {
         UNSOUND => session.changeovers.again_refused += 1,
@@ -245,8 +233,7 @@ fn go_on(
     if random.one_in(2) {
         pool.truncate(NODE_WORDS * state.nodes as usize + random.below(3));
     }
-    let left = after.state.state().unwrap_or_else(|| state.clone());
-    let mut sketch = Sketch::new(left, pool.clone(), random);
+    let mut sketch = Sketch::new(state.clone(), pool.clone(), random);
     let mut driver = Driver::new(20, 30);
     for _ in 0..random.below(30) {
         sketch.push(driver.next(&sketch.state, random));
@@ -298,12 +285,12 @@ pub fn group(seed: u64, pairs: usize, session: &mut Session) -> Result<(), Failu
     let mut judged = 0;
     while judged < pairs.min(PER_SEED) {
         let mut pair = base.clone();
-        pair.turn = (seed as usize % BUT_MEMORY * PER_SEED + judged) % BUT_MEMORY;
+        pair.turn = (seed as usize % TURNS * PER_SEED + judged) % TURNS;
         while random.one_in(2) {
             corrupt::keep_sound(&mut pair, &random);
         }
         let kind = corrupt::choose_of(&kinds, &random);
-        if kinds[kind].apply(&mut pair, &random).is_some() {
+        if (kinds[kind].change)(&mut pair, &random).is_some() {
             judge(&pair, kind, kinds[kind].expected, &random, session)
                 .map_err(|failure| format!("{}, {failure}", kinds[kind].name))?;
             judged += 1;
@@ -329,7 +316,7 @@ fn judge(
     session: &mut Session,
 ) -> Result<(), Failure> {
     let mut call = Call {
-        state: with_any_memory(Parts::of(&pair.state), random),
+        state: Parts::of(&pair.state),
         pool: pair.pool.clone(),
         work: random.words(work_for(pair) + random.below(4)),
         entry: Entry::Convert,

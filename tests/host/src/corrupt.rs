@@ -2,14 +2,11 @@
 
 mod four_words;
 mod frames;
-mod memory;
 mod numbers;
 mod siblings;
 mod tables;
 mod trees;
 pub mod words;
-
-pub use memory::move_row;
 
 use crate::plain::{self, Layout, Node, OldNode, State, HOLDERS, NONE};
 use crate::random::Random;
@@ -42,24 +39,12 @@ pub enum Expected {
 /// Makes one change; None if the pair offers no place for it, and then nothing must be judged.
 type Change<N> = fn(&mut Pair<N>, &Random) -> Option<()>;
 
-#[derive(Clone, Copy)]
 pub struct Kind<N = Node> {
     pub name: &'static str,
     pub expected: Expected,
     /// How often the kind is chosen, compared with the others.
     pub share: usize,
-    change: Change<N>,
-}
-
-impl<N: Layout> Kind<N> {
-    /// Makes the change. One that keeps all else sound has the remembered leaves put right after it.
-    pub fn apply(&self, pair: &mut Pair<N>, random: &Random) -> Option<()> {
-        (self.change)(pair, random)?;
-        if self.expected == Sound {
-            pair.mend_memory();
-        }
-        Some(())
-    }
+    pub change: Change<N>,
 }
 
 const fn kind<N>(
@@ -76,67 +61,7 @@ const fn kind<N>(
     }
 }
 
-/// Those of state, table and pool, and those of the memory.
-pub const KINDS: [Kind; COMMON + OF_MEMORY.len()] = {
-    let (common, mut all) = (kinds(), [OF_MEMORY[0]; COMMON + OF_MEMORY.len()]);
-    let mut at = 0;
-    while at < all.len() {
-        all[at] = if at < COMMON {
-            common[at]
-        } else {
-            OF_MEMORY[at - COMMON]
-        };
-        at += 1;
-    }
-    all
-};
-
-/// Those of what the workers remember. An image does not have it, and a change-over does not look at it.
-pub const OF_MEMORY: [Kind; 20] = [
-    kind("remembered more", Sound, 12, memory::remembered_more),
-    kind("forgotten", Sound, 8, memory::forgotten),
-    kind("row moved", Sound, 8, memory::row_moved),
-    kind("last base", Sound, 8, memory::last_base),
-    kind("nothing remembered", Sound, 6, memory::nothing_remembered),
-    kind("base too great", Unsound, 8, memory::base_too_great),
-    kind("entry one more", Unsound, 8, memory::entry_one_more),
-    kind("entry one less", Unsound, 8, memory::entry_one_less),
-    kind(
-        "another's leaf",
-        Unsound,
-        10,
-        memory::leaf_of_another_splitter,
-    ),
-    kind(
-        "another frame's leaf",
-        Unsound,
-        12,
-        memory::leaf_of_another_frame,
-    ),
-    kind(
-        "inner remembered",
-        Unsound,
-        8,
-        memory::inner_node_remembered,
-    ),
-    kind("free remembered", Unsound, 8, memory::free_node_remembered),
-    kind("no node remembered", Unsound, 8, memory::no_node_remembered),
-    kind("idle remembers", Unsound, 8, memory::idle_remembers),
-    kind("absent remembers", Unsound, 8, memory::absent_remembers),
-    kind(
-        "no splitter's leaf",
-        Unsound,
-        8,
-        memory::no_splitter_remembered,
-    ),
-    kind("base moved", Either, 8, memory::base_moved),
-    kind("rows swapped", Either, 6, memory::rows_swapped),
-    kind("memory as it was", Either, 6, memory::left_over),
-    kind("garbage memory", Either, 6, memory::garbage),
-];
-
-/// The kinds for nodes of either layout.
-const COMMON: usize = 89;
+pub const KINDS: [Kind; 89] = kinds();
 
 /// Those that only pools of four-word nodes have.
 pub const OF_FOUR_WORDS: [Kind<OldNode>; 13] = [
@@ -176,9 +101,9 @@ pub fn kinds_of_four_words() -> Vec<Kind<OldNode>> {
 }
 
 /// The kinds for nodes of either layout.
-const fn kinds<N: Layout>() -> [Kind<N>; COMMON] {
+const fn kinds<N: Layout>() -> [Kind<N>; 89] {
     [
-        kind("state word", Either, 450, words::state_word),
+        kind("state word", Either, 200, words::state_word),
         kind("record word", Either, 80, words::record_word),
         kind("pool word", Either, 40, words::pool_word),
         kind("two words", Either, 10, words::two_words),
@@ -298,9 +223,12 @@ pub fn choose_of<N>(kinds: &[Kind<N>], random: &Random) -> usize {
 
 /// Some change that keeps a pair sound, or none at all.
 pub fn keep_sound<N: Layout>(pair: &mut Pair<N>, random: &Random) {
-    let mut keeping = kinds().to_vec();
-    keeping.retain(|kind| kind.expected == Sound);
-    random.pick(&keeping).apply(pair, random);
+    let keeping: Vec<Change<N>> = kinds()
+        .iter()
+        .filter(|kind| kind.expected == Sound)
+        .map(|kind| kind.change)
+        .collect();
+    random.pick(&keeping)(pair, random);
 }
 
 /// A node in use, and the tree that stands there: its level and its number of leaves.

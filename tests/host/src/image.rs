@@ -146,13 +146,11 @@ pub fn save(state: &Parts, pool: &[u32], work: &mut [u32], target: &mut [u8]) ->
     }
 }
 
-/// 0 with the state, but for its memory, which is empty, the table and the pool as saved, or 99, 17, 18, 5, 6. Refused by 99 nothing changes,
-/// else the state is zeros.
+/// 0 with the state, the table and the pool as saved, or 99, 17, 18, 5, 6. Refused by 99 nothing changes, else the state is zeros.
 pub fn load(state: &mut Parts, pool: &mut [u32], work: &mut [u32], image: &[u8]) -> u32 {
     if state.state().is_none() {
         return BAD_STATE;
     }
-    state.memory.fill(0);
     let refusal = take(state, pool, work, image);
     if refusal != 0 {
         state.clear();

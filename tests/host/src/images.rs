@@ -2,8 +2,8 @@
 
 use crate::base;
 use crate::call::{Call, Entry, Outcome, BAD_STATE};
-use crate::corrupt::words::BUT_MEMORY;
-use crate::corrupt::{self, Expected, Pair, KINDS, OF_MEMORY};
+use crate::corrupt::words::TURNS;
+use crate::corrupt::{self, Expected, Pair, KINDS};
 use crate::damage::{self, Source, DAMAGES, MOST_NODES, MOST_PLACES};
 use crate::image::{self, Size, SHORT_TARGET};
 use crate::parts::Parts;
@@ -232,7 +232,7 @@ fn spoil_save(call: &mut Call, pair: &Pair, random: &Random) -> Option<u32> {
     if random.one_in(3) {
         let mut pair = pair.clone();
         let kind = corrupt::choose(random);
-        if KINDS[kind].apply(&mut pair, random).is_some() {
+        if (KINDS[kind].change)(&mut pair, random).is_some() {
             (call.state, call.pool) = (Parts::of(&pair.state), pair.pool);
             let short = (call.bytes().len() as u64) < image::bytes(size_of(&pair.state));
             meant = match KINDS[kind].expected {
@@ -276,11 +276,10 @@ fn loading(image: Vec<u8>, random: &Random) -> Call {
     }
 }
 
-/// "Reading back gives the same state", the same table too, and words past the nodes are as they were; R-10: "the same state but for" the memory.
+/// "Reading back gives the same state", the same table too, and words past the nodes are as they were.
 fn expect_read(pair: &Pair, call: &Call, after: &Outcome) -> Result<(), Failure> {
     expect(after.result[0] == 0, "a good image was refused")?;
-    let saved = Parts::of(&pair.state).without_memory();
-    expect(after.state == saved, "another state")?;
+    expect(after.state == Parts::of(&pair.state), "another state")?;
     let (nodes, past) = after.pool.split_at(pair.pool.len());
     expect(nodes == pair.pool, "another pool")?;
     let as_before = past == &call.pool[pair.pool.len()..];
@@ -314,11 +313,9 @@ fn go_on(
         ..tape.clone()
     };
     let (saved, length) = (before.by_plain(), pair.pool.len());
-    // of what is remembered, more may be after the run's own steps than after the reading's
     let alike = saved.result == after.result
         && saved.answers == after.answers
-        && saved.state.without_memory() == after.state.without_memory()
-        && saved.visits <= after.visits
+        && saved.state == after.state
         && saved.pool == after.pool[..length];
     expect(alike, "the run goes on otherwise than from its save")?;
     session.both(&Call {
@@ -417,9 +414,9 @@ const NOT_IN_THE_IMAGE: [&str; 4] = [
 /// The image of a corrupted pair.
 fn corrupted(pair: &Pair, random: &Random) -> Option<Made> {
     let mut pair = pair.clone();
-    pair.turn = random.below(BUT_MEMORY);
+    pair.turn = random.below(TURNS);
     let kind = corrupt::choose(random);
-    KINDS[kind].apply(&mut pair, random)?;
+    (KINDS[kind].change)(&mut pair, random)?;
     let outside = NOT_IN_THE_IMAGE.contains(&KINDS[kind].name);
     Some(Made {
         image: damage::image_of(&pair),
@@ -427,7 +424,6 @@ fn corrupted(pair: &Pair, random: &Random) -> Option<Made> {
         kind: Some(kind),
         answers: match KINDS[kind].expected {
             _ if pair.state.places as usize > MOST_PLACES => &[17], // it has the table's places
-            _ if kind >= KINDS.len() - OF_MEMORY.len() => &[0],     // it has no memory
             Expected::Sound => &[0],
             Expected::Unsound if !outside => &[6],
             _ => &[],

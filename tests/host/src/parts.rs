@@ -1,4 +1,4 @@
-//! The state and the frame table as they are lent: numbers, deques and memory, which may have a wrong length, and a table of any length.
+//! The state and the frame table as they are lent: numbers and deques, which may have a wrong length, and a table of any length.
 
 use crate::plain::{self, State, Words, FRAME_WORDS};
 use crate::random::Random;
@@ -9,15 +9,10 @@ pub struct Parts {
     pub deques: Vec<u32>,
     /// The table's words, FRAME_WORDS for each record.
     pub frames: Vec<u32>,
-    pub memory: Vec<u32>,
 }
 
-/// The lengths of numbers, deques and memory.
-pub const LENGTHS: [usize; 3] = [
-    plain::NUMBERS_WORDS,
-    plain::DEQUES_WORDS,
-    plain::MEMORY_WORDS,
-];
+/// The lengths of numbers and deques.
+pub const LENGTHS: [usize; 2] = [plain::NUMBERS_WORDS, plain::DEQUES_WORDS];
 
 impl Parts {
     pub fn of(state: &State) -> Parts {
@@ -26,48 +21,37 @@ impl Parts {
             numbers: words.numbers.into(),
             deques: words.deques.into(),
             frames: words.frames,
-            memory: words.memory.into(),
         }
     }
 
-    /// None if numbers, deques or memory have another length than they must have.
+    /// None if numbers or deques have another length than they must have.
     pub fn state(&self) -> Option<State> {
         let words = Words {
             numbers: self.numbers.as_slice().try_into().ok()?,
             deques: self.deques.as_slice().try_into().ok()?,
             frames: self.frames.clone(),
-            memory: self.memory.as_slice().try_into().ok()?,
         };
         Some(plain::from_words(&words))
     }
 
     /// Parts of the right lengths and a table of so many places, filled with any words.
     pub fn garbage(places: usize, random: &Random) -> Parts {
-        let [numbers, deques, memory] = LENGTHS.map(|length| random.words(length));
+        let [numbers, deques] = LENGTHS.map(|length| random.words(length));
         let frames = random.words(places * FRAME_WORDS);
         Parts {
             numbers,
             deques,
             frames,
-            memory,
         }
     }
 
-    pub fn each_mut(&mut self) -> [&mut Vec<u32>; 3] {
-        [&mut self.numbers, &mut self.deques, &mut self.memory]
+    pub fn each_mut(&mut self) -> [&mut Vec<u32>; 2] {
+        [&mut self.numbers, &mut self.deques]
     }
 
-    /// Zeros in numbers, deques and memory, the table as it is: what most refused starts and readings leave.
+    /// Zeros in numbers and deques, the table as it is: what most refused starts and readings leave.
     pub fn clear(&mut self) {
         self.each_mut().into_iter().for_each(|part| part.fill(0));
-    }
-
-    /// The same with a memory of zeros.
-    pub fn without_memory(&self) -> Parts {
-        Parts {
-            memory: vec![0; plain::MEMORY_WORDS],
-            ..self.clone()
-        }
     }
 
     /// The lent table's places.
@@ -97,7 +81,7 @@ impl Parts {
         self.resize_table(other, random);
     }
 
-    /// Another length of numbers, deques or memory, shorter or longer.
+    /// Another length of numbers or deques, shorter or longer.
     pub fn spoil_length(&mut self, random: &Random) {
         let which = random.below(LENGTHS.len());
         let part = &mut self.each_mut()[which];

@@ -1,17 +1,13 @@
-//! Document 01's engine, with of document 02, in plain, fast, safe Rust: copying of what is shared of a path, reference
-//! counts, free lists, recursive release, returns that wait, views that join, a lent frame table, clocks, remembered leaves. Written from the
-//! documents alone, but that how a link is chosen, and that retain and release leave alone what is no node, were tuned for R-8 by someone who had
-//! read crate packed, that the change-over was written by someone who had read its definition, and that the memory's words are those that
-//! docs/FORMATS.md tells. It is what the library is compared with, and the peer it is timed against: what a tape and a single step share is
-//! inlined in both, so that each is as fast as if the other were not there. The functions that end in `_of` are the same with nodes of either
-//! layout.
+//! Document 01's engine, with of document 02, in plain, fast, safe Rust: copying of what is shared of a path, reference
+//! counts, free lists, recursive release, returns that wait, views that join, a lent frame table, clocks. Written from the documents alone, but that how a link is chosen, and that retain and
+//! release leave alone what is no node, were tuned for R-8 by someone who had read crate packed, and that the change-over was written by someone who had read its definition. It is what the library is compared with,
+//! and the peer it is timed against: what a tape and a single step share is inlined in both, so that each is as fast as if the other
+//! were not there. The functions that end in `_of` are the same with nodes of either layout.
 
 mod layout;
-mod memory;
 mod timing;
 
 pub use layout::Layout;
-pub use memory::{Memory, Row, LAST_BASE};
 use std::ops::{Deref, DerefMut};
 use std::{array, mem};
 use timing::{Beside, Clocks, Untimed};
@@ -26,8 +22,6 @@ pub const DEQUE_WORDS: usize = 1 + MAX_PLACES;
 pub const FRAME_WORDS: usize = 12;
 pub const NUMBERS_WORDS: usize = 10;
 pub const DEQUES_WORDS: usize = MAX_WORKERS * DEQUE_WORDS;
-pub const ENTRIES: usize = MAX_WORKERS * MAX_SPLITTERS;
-pub const MEMORY_WORDS: usize = ENTRIES + MAX_WORKERS;
 
 /// The words of a node.
 pub type Node = [u32; NODE_WORDS];
@@ -213,7 +207,6 @@ pub struct Head {
     pub totals: View,
     pub places: u32,
     pub deques: [Deque; MAX_WORKERS],
-    pub memory: Memory,
 }
 
 impl Deref for State {
@@ -240,7 +233,6 @@ impl Head {
         totals: View::ZERO,
         places: 0,
         deques: [Deque::EMPTY; MAX_WORKERS],
-        memory: Memory::EMPTY,
     };
 }
 
@@ -258,13 +250,12 @@ impl State {
     }
 }
 
-/// The words of the state, ten numbers, the deques and the memory, and of the table's records.
+/// The words of the state, ten numbers and the deques, and of the table's records.
 #[derive(Clone, Debug, PartialEq, Eq)]
 pub struct Words {
     pub numbers: [u32; NUMBERS_WORDS],
     pub deques: [u32; DEQUES_WORDS],
     pub frames: Vec<u32>,
-    pub memory: [u32; MEMORY_WORDS],
 }
 
 pub fn to_words(state: &State) -> Words {
@@ -284,7 +275,6 @@ pub fn to_words(state: &State) -> Words {
         ],
         deques: [0; DEQUES_WORDS],
         frames: state.frames.iter().flat_map(record).collect(),
-        memory: state.memory.words(),
     };
     let deques = words.deques.chunks_exact_mut(DEQUE_WORDS);
     for (words, deque) in deques.zip(&state.deques) {
@@ -349,7 +339,6 @@ pub fn from_words(words: &Words) -> State {
                     places: array::from_fn(|place| words[1 + place]),
                 }
             }),
-            memory: Memory::of_words(&words.memory),
         },
         frames: records.iter().map(of_record).collect(),
     }
@@ -482,21 +471,14 @@ pub fn step_of<N: Layout>(
     }
 }
 
-/// What a tape gives: 0 and the nodes visited, modulo 2^64, or a refusal and 0.
-#[derive(Clone, Copy, Debug, PartialEq, Eq)]
-pub struct Taped {
-    pub result: u32,
-    pub visits: u64,
-}
-
-/// A tape, with two answer words for each record if it is not refused.
+/// A tape: 0 with two answer words for each record, or a refusal.
 pub fn tape(
     state: &mut State,
     pool: &mut [u32],
     work: &mut [u32],
     bytes: &[u8],
     answers: &mut [u32],
-) -> Taped {
+) -> u32 {
     tape_of::<Node>(state, pool, work, bytes, answers)
 }
 
@@ -507,24 +489,16 @@ pub fn tape_of<N: Layout>(
     work: &mut [u32],
     bytes: &[u8],
     answers: &mut [u32],
-) -> Taped {
-    let refused = |refusal: Refusal| Taped {
-        result: refusal as u32,
-        visits: 0,
-    };
+) -> u32 {
     if !is_tape(bytes, answers) {
-        return refused(Refusal::BadTape);
+        return Refusal::BadTape as u32;
     }
     match admit::<N>(state, pool, work) {
         Ok(free_nodes) => {
-            let mut engine = Engine::<N, _>::new(state, free_nodes, pool, Untimed);
-            engine.run(bytes, answers);
-            Taped {
-                result: 0,
-                visits: engine.visits,
-            }
+            Engine::<N, _>::new(state, free_nodes, pool, Untimed).run(bytes, answers);
+            0
         }
-        Err(refusal) => refused(refusal),
+        Err(refusal) => refusal as u32,
     }
 }
 
@@ -617,16 +591,12 @@ pub fn report_of<N: Layout>(
 }
 
 /// R-9's change-over, of a sound state with four-word nodes: 0, with two-word nodes in the front of the same pool, the old nodes' other words
-/// zero and words past them as they were, and an empty memory, whatever it held; or a refusal, with state and pool as they were.
-pub fn convert(state: &mut State, pool: &mut [u32], work: &mut [u32]) -> u32 {
-    if work.len() < state.nodes as usize {
-        return Refusal::ShortWork as u32;
-    }
-    if sound_but_memory_of::<OldNode>(state, pool, work).is_none() {
-        return Refusal::Unsound as u32;
+/// zero and words past them as they were; or a refusal, with the pool as it was.
+pub fn convert(state: &State, pool: &mut [u32], work: &mut [u32]) -> u32 {
+    if let Err(refusal) = admit::<OldNode>(state, pool, work) {
+        return refusal as u32;
     }
     pack(&mut OldNode::nodes_mut(pool)[..state.nodes as usize]);
-    state.memory = Memory::EMPTY;
     0
 }
 
@@ -692,8 +662,6 @@ struct Engine<'a, N, B> {
     free_nodes: u32,
     height: u32,
     main_lives: bool,
-    /// By the accepted reads and writes so far, modulo 2^64.
-    visits: u64,
     beside: B,
 }
 
@@ -706,7 +674,6 @@ impl<'a, N: Layout, B: Beside> Engine<'a, N, B> {
             free_nodes,
             frames: &mut state.frames,
             head: &mut state.head,
-            visits: 0,
             beside,
         }
     }
@@ -785,7 +752,6 @@ impl<'a, N: Layout, B: Beside> Engine<'a, N, B> {
         self.head.vacant = self.frames[place as usize].parent;
         self.frames[place as usize] = child;
         self.head.deques[worker as usize].push(place);
-        self.forget(worker);
         self.beside.spawns(bottom, place);
         Ok(child.depth)
     }
@@ -794,7 +760,6 @@ impl<'a, N: Layout, B: Beside> Engine<'a, N, B> {
     #[inline(always)]
     fn end(&mut self, worker: u32) -> Result<u32, Refusal> {
         let bottom = self.bottom(worker)?;
-        self.forget(worker);
         self.head.deques[worker as usize].pop();
         let frame = &mut self.frames[bottom];
         if frame.outstanding > 0 {
@@ -943,7 +908,6 @@ impl<'a, N: Layout, B: Beside> Engine<'a, N, B> {
         }
         let stolen = self.head.deques[victim as usize].take_top();
         self.head.deques[thief as usize].push(stolen);
-        self.forget(thief);
         Ok(self.frames[stolen as usize].depth)
     }
 
@@ -951,7 +915,6 @@ impl<'a, N: Layout, B: Beside> Engine<'a, N, B> {
     #[inline(always)]
     fn sync(&mut self, worker: u32) -> Result<u32, Refusal> {
         let bottom = self.bottom(worker)?;
-        self.forget(worker);
         self.beside.syncs();
         let frame = &mut self.frames[bottom];
         if frame.outstanding == 0 {
@@ -963,13 +926,6 @@ impl<'a, N: Layout, B: Beside> Engine<'a, N, B> {
         Ok(1)
     }
 
-    /// An accepted spawn, return, steal or sync empties the worker's memory.
-    #[inline(always)]
-    fn forget(&mut self, worker: u32) {
-        self.head.memory.rows[worker as usize].empty();
-    }
-
-    /// A leaf that the worker remembers is looked at alone.
     #[inline(always)]
     fn read(&mut self, worker: u32, splitter: u32) -> Result<u32, Refusal> {
         let bottom = self.bottom(worker)?;
@@ -977,23 +933,11 @@ impl<'a, N: Layout, B: Beside> Engine<'a, N, B> {
             return Err(Refusal::UnknownSplitter);
         }
         self.beside.costs(bottom);
-        if let Some(leaf) = self.head.memory.rows[worker as usize].leaf(splitter) {
-            self.visits = self.visits.wrapping_add(1);
-            return Ok(self.nodes[leaf as usize].value());
-        }
         let mut node = self.frames[bottom].root;
         for level in (0..self.height).rev() {
             node = self.nodes[node as usize].link(splitter >> level & 1);
         }
-        self.visit_path(worker, splitter, node);
         Ok(self.nodes[node as usize].value())
-    }
-
-    /// The nodes of a path are visited, and its leaf is remembered.
-    #[inline(always)]
-    fn visit_path(&mut self, worker: u32, splitter: u32, leaf: u32) {
-        self.visits = self.visits.wrapping_add(u64::from(self.height) + 1);
-        self.head.memory.rows[worker as usize].remember(splitter, leaf);
     }
 
     /// The free nodes left. From the root down, nodes with one holder stay where they are; from the first with more holders on, the path
@@ -1014,15 +958,13 @@ impl<'a, N: Layout, B: Beside> Engine<'a, N, B> {
         }
         if self.nodes[node as usize].holders() == 1 {
             self.nodes[node as usize].set_value(value);
-            self.visit_path(worker, splitter, node);
             self.beside.costs(bottom);
             return Ok(self.free_nodes);
         }
         if self.free_nodes <= level {
             return Err(Refusal::PoolFull);
         }
-        let (new, leaf) = self.copy_rest(node, level, splitter, value);
-        self.visit_path(worker, splitter, leaf);
+        let new = self.copy_rest(node, level, splitter, value);
         *self.nodes[node as usize].holders_mut() -= 1;
         if above == NONE {
             self.frames[bottom].root = new;
@@ -1048,9 +990,9 @@ impl<'a, N: Layout, B: Beside> Engine<'a, N, B> {
         Ok(0)
     }
 
-    /// A new path from a node of this level to the splitter, beside the old siblings; its first node, and its leaf.
+    /// A new path from a node of this level to the splitter, beside the old siblings; its first node.
     #[inline(always)]
-    fn copy_rest(&mut self, node: u32, level: u32, splitter: u32, value: u32) -> (u32, u32) {
+    fn copy_rest(&mut self, node: u32, level: u32, splitter: u32, value: u32) -> u32 {
         let first = self.allocate();
         let (mut old, mut new) = (node, first);
         for level in (0..level).rev() {
@@ -1068,7 +1010,7 @@ impl<'a, N: Layout, B: Beside> Engine<'a, N, B> {
             new = child;
         }
         self.nodes[new as usize] = N::leaf(value);
-        (first, new)
+        first
     }
 
     fn allocate(&mut self) -> u32 {
@@ -1114,17 +1056,6 @@ pub fn sound(state: &State, pool: &[u32], work: &mut [u32]) -> Option<u32> {
 
 #[inline(always)]
 pub fn sound_of<N: Layout>(state: &State, pool: &[u32], work: &mut [u32]) -> Option<u32> {
-    let free_nodes = sound_but_memory_of::<N>(state, pool, work)?;
-    memory_sound(state, N::nodes(pool)).then_some(free_nodes)
-}
-
-/// The same, whatever the memory holds.
-#[inline(always)]
-pub fn sound_but_memory_of<N: Layout>(
-    state: &State,
-    pool: &[u32],
-    work: &mut [u32],
-) -> Option<u32> {
     let marks = &mut work[..state.nodes as usize];
     marks.fill(0);
     let free_nodes = judge::<N>(state, pool, marks);
@@ -1336,22 +1267,4 @@ fn free_chain_sound<N: Layout>(first: u32, free_nodes: u32, nodes: &[N]) -> bool
         }
     }
     next == NONE
-}
-
-/// Each remembered leaf lies in the bottom frame's tree at its splitter, an idle or absent worker remembers none, and no base is too great. The
-/// rest of the state and its pool are known to be sound.
-fn memory_sound<N: Layout>(state: &State, nodes: &[N]) -> bool {
-    let height = height(state.splitters);
-    let mut workers = state.memory.rows.iter().zip(&state.deques);
-    workers.all(|(row, deque)| {
-        let root = deque
-            .bottom()
-            .map(|place| state.frames[place as usize].root);
-        let found = |splitter: u32| {
-            let below = |node: u32, level: u32| nodes[node as usize].link(splitter >> level & 1);
-            root.map(|root| (0..height).rev().fold(root, below))
-        };
-        let right = |(splitter, leaf)| splitter < state.splitters && found(splitter) == Some(leaf);
-        row.base <= LAST_BASE && row.leaves().all(right)
-    })
 }

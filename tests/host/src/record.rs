@@ -1,7 +1,7 @@
 //! Calls and their outcomes written to a file, for sanitized.c to make them again. All but the bytes is little-endian words: the entry
 //! (1 start, 2 step, 3 tape, 4 save, 5 load, 6 report, 7 convert), four words (the workers of a start or a report, or a step's entry), the two words of
-//! the result, a tape's visits as two words, the values, the bytes (tape, target or image), then numbers, deques, frames, memory, pool, work,
-//! answers, clocks and report, the last two of 64 bits, as two words each. Each of these has its length in words of 32 bits first; all but the values are followed by what the call left
+//! the result, the values, the bytes (tape, target or image), then numbers, deques, frames, pool, work, answers, clocks and report, the last two of
+//! 64 bits, as two words each. Each of these has its length in words of 32 bits first; all but the values are followed by what the call left
 //! there. Calls with large pools are left out, for the file's size.
 
 use crate::call::{Call, Entry, Outcome};
@@ -33,7 +33,6 @@ impl Recorder {
         self.words(&[entry])?;
         self.words(&arguments)?;
         self.words(&after.result)?;
-        self.words(&halves(&[after.visits]))?;
         self.slice(call.values())?;
         self.words(&[call.bytes().len() as u32])?;
         self.0.write_all(call.bytes())?;
@@ -42,7 +41,6 @@ impl Recorder {
             (call.state.numbers.as_slice(), &after.state.numbers),
             (&call.state.deques, &after.state.deques),
             (&call.state.frames, &after.state.frames),
-            (&call.state.memory, &after.state.memory),
             (&call.pool, &after.pool),
             (&call.work, &after.work),
             (call.answers(), &after.answers),

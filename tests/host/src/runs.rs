@@ -8,7 +8,6 @@ use crate::layouts::Older;
 use crate::parts::Parts;
 use crate::plain::{self, Refusal, State, MAX_NODES, MAX_PLACES, NODE_WORDS, RECORD_BYTES, WRITE};
 use crate::random::Random;
-use crate::remembering::{self, Rule};
 use crate::replay;
 use crate::sentences;
 use crate::session::{Failure, Session};
@@ -36,7 +35,7 @@ fn mixed(random: Random, session: &mut Session) -> Result<(), Failure> {
         return Ok(());
     };
     for _ in 0..run.random.below(60) {
-        run.vary_lent();
+        run.vary_pool();
         let (call, cases) = run.next_call();
         run.make(&call, &cases, session)?;
         if !run.typed().main_lives() && run.random.one_in(3) {
@@ -58,7 +57,7 @@ fn aimed(random: Random, session: &mut Session) -> Result<(), Failure> {
     }
     let most = if large { 8 } else { 40 };
     for _ in 0..run.random.below(most) {
-        run.vary_lent();
+        run.vary_pool();
         let aim = |sketch: &mut Sketch, _: &mut Driver, random: &Random| {
             for _ in 0..1 + random.below(6) {
                 sketch.aim(!large && !random.one_in(3));
@@ -79,7 +78,7 @@ fn chained(random: Random, session: &mut Session) -> Result<(), Failure> {
         return Ok(());
     };
     for _ in 0..1 + run.random.below(6) {
-        run.vary_lent();
+        run.vary_pool();
         let draw = |sketch: &mut Sketch, driver: &mut Driver, random: &Random| {
             for _ in 0..random.below(12) {
                 sketch.push(driver.next(&sketch.state, random));
@@ -101,7 +100,7 @@ fn families(random: Random, session: &mut Session) -> Result<(), Failure> {
         return Ok(());
     };
     for _ in 0..1 + run.random.below(6) {
-        run.vary_lent();
+        run.vary_pool();
         let draw = |sketch: &mut Sketch, driver: &mut Driver, random: &Random| {
             for _ in 0..random.below(12) {
                 sketch.push(driver.next(&sketch.state, random));
@@ -261,14 +260,11 @@ impl Run {
         if matches!(after.result[0], 0 | POOL_FULL | WRITTEN) {
             cases.iter().for_each(|case| session.sharing.add(case));
         }
-        let mut rule = Rule::new(&mut session.remembering);
         replay::each(call, &after, |taken| {
-            rule.take(&taken);
             session.waits.count(&taken);
             session.tables.count(&taken);
             self.family.take(&taken, &mut session.families);
         });
-        rule.end(&call.entry, &after)?;
         self.adopt(after)?;
         self.family.check(&self.typed())?;
         self.change_over(session)
@@ -332,13 +328,8 @@ impl Run {
         self.typed().nodes as usize
     }
 
-    /// Now and then the host lends a longer pool, or rows with other bases, which a run comes to only after long.
-    fn vary_lent(&mut self) {
-        if self.random.one_in(6) {
-            let mut state = self.typed();
-            remembering::move_rows(&mut state.memory, &self.random);
-            self.state = Parts::of(&state);
-        }
+    /// Now and then the host lends a longer pool.
+    fn vary_pool(&mut self) {
         if self.random.one_in(12) {
             let more = self.random.below(10);
             self.pool.truncate(NODE_WORDS * self.nodes());

@@ -1,6 +1,6 @@
-//! Document 01's "Soundness", with what of document 02 ask, sentence by sentence, over the words of a state, a table
+//! Document 01's "Soundness", with what of document 02 ask, sentence by sentence, over the words of a state, a table
 //! and a pool: for clarity, not for speed. It shares nothing with plain.rs. Every sentence can be asked of every state, so that one can tell which
-//! ones are broken. A node has R-8's two words or, for R-9's change-over, document 01's four; with these there is no memory to ask about.
+//! ones are broken. A node has R-8's two words or, for R-9's change-over, document 01's four.
 
 use crate::parts::Parts;
 use std::collections::{HashMap, HashSet};
@@ -13,18 +13,13 @@ const MOST_PLACES: usize = 256;
 const DEQUE_WORDS: usize = 257;
 const FRAME_WORDS: usize = 12;
 
-/// R-10's memory, as docs/FORMATS.md tells its words: for each worker a word for each of 256 splitters, then a base for each worker.
-const ROW_WORDS: usize = 256;
-const FIRST_BASE: usize = 2_048;
-const GREATEST_BASE: u32 = NONE - 16_384;
-
 /// A sentence and what it asks.
 pub struct Sentence {
     pub text: &'static str,
     holds: fn(&Pair) -> bool,
 }
 
-pub const SENTENCES: [Sentence; 29] = [
+pub const SENTENCES: [Sentence; 25] = [
     Sentence {
         text: "workers are 1 to 8",
         holds: workers_are_1_to_8,
@@ -125,39 +120,20 @@ pub const SENTENCES: [Sentence; 29] = [
         text: "Main's link is none",
         holds: mains_link_is_none,
     },
-    Sentence {
-        text: "a remembered leaf lies in the bottom frame's tree at its splitter",
-        holds: remembered_leaves_lie_there,
-    },
-    Sentence {
-        text: "an idle or absent worker remembers none",
-        holds: idle_and_absent_remember_none,
-    },
-    Sentence {
-        text: "no leaf is remembered of a splitter that is not below n",
-        holds: only_splitters_are_remembered,
-    },
-    Sentence {
-        text: "a base is at most 4,294,950,911",
-        holds: bases_are_small_enough,
-    },
 ];
-
-/// Those on the memory, which are not asked of four-word nodes.
-pub const ON_MEMORY: usize = 25;
 
 /// The numbers of the sentences that are broken, as indexes of SENTENCES. Sound means none.
 pub fn broken(state: &Parts, pool: &[u32]) -> Vec<usize> {
-    broken_of(state, read_nodes(pool), read_memory(&state.memory))
+    broken_of(state, read_nodes(pool))
 }
 
 /// The same of a pool with four-word nodes.
 pub fn broken_four_words(state: &Parts, pool: &[u32]) -> Vec<usize> {
-    broken_of(state, read_four_words(pool), Vec::new())
+    broken_of(state, read_four_words(pool))
 }
 
-fn broken_of(state: &Parts, nodes: Vec<Node>, memory: Vec<Row>) -> Vec<usize> {
-    let pair = Pair::new(state, nodes, memory);
+fn broken_of(state: &Parts, nodes: Vec<Node>) -> Vec<usize> {
+    let pair = Pair::new(state, nodes);
     (0..SENTENCES.len())
         .filter(|&sentence| !(SENTENCES[sentence].holds)(&pair))
         .collect()
@@ -174,12 +150,6 @@ struct Frame {
     /// The four view words.
     view: [u32; 4],
     next_younger: u32,
-}
-
-/// What a worker remembers: of each splitter the number of a leaf, or nothing.
-struct Row {
-    base: u32,
-    leaves: Vec<Option<u32>>,
 }
 
 /// "A node becomes two words: holders, then .." what its level tells. Before, "A node is four words: holders, left, right, value."
@@ -258,15 +228,13 @@ struct Pair {
     frames: Vec<Frame>,
     /// The lent pool's whole nodes.
     nodes: Vec<Node>,
-    /// Each worker's; none where there is no memory to ask about.
-    memory: Vec<Row>,
     shaped: bool,
     /// The nodes reached, with the levels on which they are.
     reached: HashMap<u32, HashSet<u32>>,
 }
 
 impl Pair {
-    fn new(state: &Parts, nodes: Vec<Node>, memory: Vec<Row>) -> Pair {
+    fn new(state: &Parts, nodes: Vec<Node>) -> Pair {
         let numbers = &state.numbers;
         let deques: Vec<&[u32]> = state.deques.chunks(DEQUE_WORDS).collect();
         let places = (numbers[9] as usize).min(MOST_PLACES);
@@ -285,7 +253,6 @@ impl Pair {
             past: deques.iter().map(|d| d[end(d)..].to_vec()).collect(),
             frames: read_frames(&state.frames, numbers[9] as usize),
             nodes,
-            memory,
             shaped: true,
             reached: HashMap::new(),
         };
@@ -350,16 +317,6 @@ fn read_frames(words: &[u32], recorded: usize) -> Vec<Frame> {
         next_younger: record[11],
     };
     records.map(read).collect()
-}
-
-fn read_memory(words: &[u32]) -> Vec<Row> {
-    let leaf = |base: u32, word: u32| (word > base).then(|| word - base - 1);
-    let read = |(row, &base): (&[u32], &u32)| Row {
-        base,
-        leaves: row.iter().map(|&word| leaf(base, word)).collect(),
-    };
-    let rows = words[..FIRST_BASE].chunks_exact(ROW_WORDS);
-    rows.zip(&words[FIRST_BASE..]).map(read).collect()
 }
 
 fn read_nodes(words: &[u32]) -> Vec<Node> {
@@ -658,57 +615,6 @@ fn mains_link_is_none(pair: &Pair) -> bool {
     pair.live_frames()
         .filter(|(_, frame)| frame.depth == 0)
         .all(|(_, frame)| frame.next_younger == NONE)
-}
-
-/// "each remembered leaf lies in the bottom frame's tree at its splitter" (document 02, R-10). Asked of workers that have a bottom frame, and
-/// of splitters below n.
-fn remembered_leaves_lie_there(pair: &Pair) -> bool {
-    if !pair.numbers_are_right() {
-        return true;
-    }
-    pair.memory.iter().zip(&pair.queued).all(|(row, deque)| {
-        let Some(bottom) = deque.last() else {
-            return true;
-        };
-        let leaves = (0..pair.splitters).zip(&row.leaves);
-        leaves
-            .filter_map(|(x, leaf)| Some((x, (*leaf)?)))
-            .all(|(x, leaf)| {
-                let root = pair.frame(*bottom).map(|frame| frame.root);
-                root.and_then(|root| leaf_at(pair, root, x)) == Some(leaf)
-            })
-    })
-}
-
-/// "At level l the walk to a splitter goes right where bit l - 1 of the splitter number is 1."
-fn leaf_at(pair: &Pair, root: u32, splitter: u32) -> Option<u32> {
-    let mut at = root;
-    for level in (1..=height(pair.splitters)).rev() {
-        let node = pair.node(at)?;
-        let right = splitter / 2u32.pow(level - 1) % 2 == 1;
-        at = if right { node.right() } else { node.left() }?;
-    }
-    pair.node(at).map(|_| at)
-}
-
-/// "an idle or absent worker remembers none"
-fn idle_and_absent_remember_none(pair: &Pair) -> bool {
-    let workers = (0..).zip(&pair.memory).zip(&pair.queued);
-    let mut others =
-        workers.filter(|((worker, _), deque)| *worker >= pair.workers || deque.is_empty());
-    others.all(|((_, row), _)| row.leaves.iter().all(Option::is_none))
-}
-
-/// "remembers the leaf of each splitter": one that is not below n is none
-fn only_splitters_are_remembered(pair: &Pair) -> bool {
-    let n = (pair.splitters as usize).min(256);
-    let beyond = |row: &Row| row.leaves[n..].iter().all(Option::is_none);
-    pair.memory.iter().all(beyond)
-}
-
-/// With any leaf a base makes a word: "Up to 16,384 nodes".
-fn bases_are_small_enough(pair: &Pair) -> bool {
-    pair.memory.iter().all(|row| row.base <= GREATEST_BASE)
 }
 
 /// What lies on a chain, if it ends with none and nothing lies on it twice.

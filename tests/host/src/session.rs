@@ -6,7 +6,6 @@ use crate::family;
 use crate::layouts;
 use crate::plain::{Refusal, RECORD_BYTES};
 use crate::record::Recorder;
-use crate::remembering;
 use crate::sharing::Sharing;
 use crate::tables::Tables;
 use crate::tally::Tally;
@@ -25,7 +24,6 @@ pub struct Session {
     pub sharing: Sharing,
     pub waits: Waits,
     pub tables: Tables,
-    pub remembering: remembering::Counts,
     pub families: family::Counts,
     pub layouts: layouts::Counts,
     pub changeovers: changeover::Counts,
@@ -42,7 +40,6 @@ impl Session {
             sharing: Sharing::default(),
             waits: Waits::default(),
             tables: Tables::default(),
-            remembering: remembering::Counts::default(),
             families: family::Counts::default(),
             layouts: layouts::Counts::default(),
             changeovers: changeover::Counts::default(),

@@ -30,7 +30,7 @@ pub struct Counts {
     pub kinds: [Judged; KINDS.len()],
     /// How often each sentence was the only one broken.
     pub alone: [u64; SENTENCES.len()],
-    /// How often each word of numbers, deques and memory was the one changed.
+    /// How often each word of numbers and deques was the one changed.
     pub turns: [u64; TURNS],
     /// The writes from sound pairs, by the part of the path that is shared; and those by the only frame, with a node that stands in
     /// several places of its tree.
@@ -92,7 +92,7 @@ pub fn group(
             corrupt::keep_sound(&mut pair, &random);
         }
         let kind = corrupt::choose(&random);
-        if KINDS[kind].apply(&mut pair, &random).is_some() {
+        if (KINDS[kind].change)(&mut pair, &random).is_some() {
             counts.turns[pair.turn] += u64::from(kind == 0);
             judge(&pair, kind, &random, session, counts)
                 .map_err(|failure| format!("{}, {failure}", KINDS[kind].name))?;

@@ -7,7 +7,7 @@ use crate::random::Random;
 pub type StepWords = [u32; 4];
 
 /// What a run is bent on for a while: the weights of spawn, return, steal, sync, read, write and fold.
-const MOODS: [[usize; 7]; 9] = [
+const MOODS: [[usize; 7]; 8] = [
     [60, 2, 15, 3, 5, 15, 10],
     [90, 1, 1, 1, 2, 5, 10],
     [25, 8, 35, 12, 5, 15, 10],
@@ -16,7 +16,6 @@ const MOODS: [[usize; 7]; 9] = [
     [10, 10, 10, 10, 10, 10, 10],
     [15, 35, 40, 4, 2, 4, 10],
     [25, 12, 50, 2, 1, 2, 40],
-    [6, 4, 6, 2, 70, 20, 5],
 ];
 
 /// Makes one step after another; its mood changes now and then.
@@ -90,7 +89,7 @@ pub fn plausible(state: &State, kind: u32, random: &Random) -> StepWords {
     };
     let field = match kind {
         STEAL => victim(state, random),
-        READ | WRITE => splitter(state, worker, random),
+        READ | WRITE => random.word_below(state.splitters.max(1)),
         FOLD => random.pick(&[0, 1, 2, 2]),
         _ => 0,
     };
@@ -101,16 +100,6 @@ pub fn plausible(state: &State, kind: u32, random: &Random) -> StepWords {
         _ => 0,
     };
     [kind, worker, field, value]
-}
-
-/// Any splitter, often one that the worker remembers.
-fn splitter(state: &State, worker: u32, random: &Random) -> u32 {
-    let leaves = state.memory.rows[worker as usize].leaves();
-    let known: Vec<u32> = leaves.map(|(splitter, _)| splitter).collect();
-    match random.some(&known) {
-        Some(splitter) if random.one_in(2) => splitter,
-        _ => random.word_below(state.splitters.max(1)),
-    }
 }
 
 /// A value that would be links of an inner node, of a pool of so many nodes, or a little beside such.

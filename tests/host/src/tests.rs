@@ -1,8 +1,7 @@
-//! Document 01's example and edges, as change them, and R-7's and R-9's, through plain.rs and the library, and the
-//! sentences on states corrupted by hand.
+//! Document 01's example and edges, as change them, and R-7's and R-9's, through plain.rs and the library, and the sentences on
+//! states corrupted by hand.
 
 mod changeover;
-mod memory;
 mod reducers;
 mod report;
 mod tables;
@@ -87,7 +86,7 @@ fn zeros(frames: Vec<u32>) -> Parts {
     }
 }
 
-/// A refused start leaves zeros in numbers, deques and memory, and table and pool as they were.
+/// A refused start leaves zeros in numbers and deques, and table and pool as they were.
 fn start_refusal(workers: u32, splitters: usize, nodes: usize) -> u32 {
     start_refusal_in(PLACES, workers, splitters, nodes)
 }
@@ -261,7 +260,7 @@ fn equal_value() {
     let write = [WRITE, 0, 0, 10];
     let (call, after) = run(1, &FIVE, 11, &[write]);
     assert_eq!(after.answers[..2], [106, 0]);
-    assert!(after.state.without_memory() == call.state && after.pool == call.pool);
+    assert!(after.state == call.state && after.pool == call.pool);
     let entries = [[SPAWN, 0, 0, 0], write, write];
     let expected = [[101, 1], [106, 0], [106, 0]];
     assert_eq!(answers(1, &FIVE, 15, &entries), expected);

@@ -45,8 +45,8 @@ use denote.Triple.Table.{entered, cited}
 use denote.Triple.Walked.{says, needs, Stays, stay_slice, stay_none, stay_none_slice, walk_of, Walks, ends_at, walked, Goes-slice, Goes-none, Goes-none_slice, walk_Meets}
 use borrow.Author.Rules.{scaled_Fits}
 use Rattle.frames.proofs.Lent.{at_list, Mine, Yours, ty_at, exit_unless, exit_if, leave_if, fork, skipped, regroup, matched, matched_last, const, is_true, is_false, not_not, differ, widen, less_fits, after, turn_of_lem, take_out, put_in, put_back, look_out, look_back, free_all}
-use Rattle.semantics.specs.Promises.{parts, IsConvertWith}
-use Rattle.semantics.specs.Remembering.{convert_remembering}
+use Rattle.semantics.specs.Convert.{convert_on}
+use Rattle.semantics.specs.Promises.{parts, IsConvert}
 use Rattle.conversion.proofs.Called.fit as S-fit
 use Rattle.engine.proofs.fit.Symbol as D-fit
 use Rattle.engine.proofs.fit.Symbol.{name as #fit}
@@ -59,10 +59,6 @@ use Rattle.conversion.proofs.Called.convert_on as S-convert-on
 use Rattle.conversion.proofs.convert_on.Symbol as D-convert-on
 use Rattle.conversion.proofs.convert_on.Symbol.{name as #convert-on}
 use Rattle.conversion.proofs.convert_on.Met as T-convert-on
-use Rattle.conversion.proofs.Called.clear_all as S-clear-all
-use Rattle.words.proofs.clear_all.Symbol as D-clear-all
-use Rattle.words.proofs.clear_all.Symbol.{name as #clear-all}
-use Rattle.words.proofs.clear_all.Met as T-clear-all
 use Rattle.conversion.specs.contracts.convert.Key.{name as #own}
 use Rattle.conversion.specs.contracts.convert as f'
 use Rattle.conversion.proofs.convert.Statement as stated
@@ -79,10 +75,10 @@ abbrev val-Frame : Frame → Val
 val-Frame d = LL.val M-Frame.the_type L-Frame.the_laws d
 
 abbrev stayed : Stays (f'.ended).signature.params (f'.ended).kept
-stayed = (stay_none_slice (0 ∷ []) tt (plain (λ _. u32)) yes, (stay_none_slice (1 ∷ []) tt (plain (λ _. u32)) yes, (stay_none_slice (2 ∷ []) tt (plain (λ _. R-Frame)) yes, (stay_slice (3 ∷ []) tt (plain (λ _. u32)), (stay_slice (4 ∷ []) tt (plain (λ _. u32)), (stay_slice (5 ∷ []) tt (plain (λ _. u32)), tt))))))
+stayed = (stay_none_slice (0 ∷ []) tt (plain (λ _. u32)) yes, (stay_none_slice (1 ∷ []) tt (plain (λ _. u32)) yes, (stay_none_slice (2 ∷ []) tt (plain (λ _. R-Frame)) yes, (stay_slice (3 ∷ []) tt (plain (λ _. u32)), (stay_slice (4 ∷ []) tt (plain (λ _. u32)), tt)))))
 
 module _ {M : Type 1} {𝓤 : Ura M} (𝓛 : Logic 𝓤) (mem : Memory → SProp 𝓤) (run : Routine → Fun 𝓤)
-    (κ-numbers : Lft) (q-numbers : Share) (b-numbers o-numbers : ℕ) (γ-numbers : GName) (numbers : List ℕ) (κ-deques : Lft) (q-deques : Share) (b-deques o-deques : ℕ) (γ-deques : GName) (deques : List ℕ) (κ-frames : Lft) (q-frames : Share) (b-frames o-frames : ℕ) (γ-frames : GName) (frames : List Frame) (κ-memory : Lft) (q-memory : Share) (b-memory o-memory : ℕ) (γ-memory : GName) (memory : List ℕ) (κ-pool : Lft) (q-pool : Share) (b-pool o-pool : ℕ) (γ-pool : GName) (pool : List ℕ) (κ-work : Lft) (q-work : Share) (b-work o-work : ℕ) (γ-work : GName) (work : List ℕ) (room-numbers : Room u32 (length numbers)) (room-deques : Room u32 (length deques)) (room-frames : Room R-Frame (length frames)) (room-memory : Room u32 (length memory)) (room-pool : Room u32 (length pool)) (room-work : Room u32 (length work)) where
+    (κ-numbers : Lft) (q-numbers : Share) (b-numbers o-numbers : ℕ) (γ-numbers : GName) (numbers : List ℕ) (κ-deques : Lft) (q-deques : Share) (b-deques o-deques : ℕ) (γ-deques : GName) (deques : List ℕ) (κ-frames : Lft) (q-frames : Share) (b-frames o-frames : ℕ) (γ-frames : GName) (frames : List Frame) (κ-pool : Lft) (q-pool : Share) (b-pool o-pool : ℕ) (γ-pool : GName) (pool : List ℕ) (κ-work : Lft) (q-work : Share) (b-work o-work : ℕ) (γ-work : GName) (work : List ℕ) (room-numbers : Room u32 (length numbers)) (room-deques : Room u32 (length deques)) (room-frames : Room R-Frame (length frames)) (room-pool : Room u32 (length pool)) (room-work : Room u32 (length work)) where
   open 𝓛 use {H}
 
   abbrev n-numbers : ℕ
@@ -94,110 +90,84 @@ module _ {M : Type 1} {𝓤 : Ura M} (𝓛 : Logic 𝓤) (mem : Memory → SProp
   abbrev n-frames : ℕ
   n-frames = length frames
 
-  abbrev n-memory : ℕ
-  n-memory = length memory
-
   abbrev n-pool : ℕ
   n-pool = length pool
 
   abbrev n-work : ℕ
   n-work = length work
 
-  abbrev args' : Bor (List ℕ) × (Bor (List ℕ) × (Bor (List Frame) × (Bor (List ℕ) × (Bor (List ℕ) × (Bor (List ℕ) × Unit {0})))))
-  args' = (at_list b-numbers o-numbers γ-numbers numbers, (at_list b-deques o-deques γ-deques deques, (at_list b-frames o-frames γ-frames frames, (at_list b-memory o-memory γ-memory memory, (at_list b-pool o-pool γ-pool pool, (at_list b-work o-work γ-work work, tt))))))
+  abbrev args' : Bor (List ℕ) × (Bor (List ℕ) × (Bor (List Frame) × (Bor (List ℕ) × (Bor (List ℕ) × Unit {0}))))
+  args' = (at_list b-numbers o-numbers γ-numbers numbers, (at_list b-deques o-deques γ-deques deques, (at_list b-frames o-frames γ-frames frames, (at_list b-pool o-pool γ-pool pool, (at_list b-work o-work γ-work work, tt)))))
 
-  abbrev vals' : Vals f'.signature (κ-numbers, (κ-deques, (κ-frames, (κ-memory, (κ-pool, (κ-work, tt))))))
-  vals' = (slice_val (b-numbers, o-numbers) (length numbers) ∷ [], (slice_val (b-deques, o-deques) (length deques) ∷ [], (slice_val (b-frames, o-frames) (length frames) ∷ [], (slice_val (b-memory, o-memory) (length memory) ∷ [], (slice_val (b-pool, o-pool) (length pool) ∷ [], (slice_val (b-work, o-work) (length work) ∷ [], tt))))))
+  abbrev vals' : Vals f'.signature (κ-numbers, (κ-deques, (κ-frames, (κ-pool, (κ-work, tt)))))
+  vals' = (slice_val (b-numbers, o-numbers) (length numbers) ∷ [], (slice_val (b-deques, o-deques) (length deques) ∷ [], (slice_val (b-frames, o-frames) (length frames) ∷ [], (slice_val (b-pool, o-pool) (length pool) ∷ [], (slice_val (b-work, o-work) (length work) ∷ [], tt)))))
 
   abbrev bound' : (walk_of 𝓛 f'.ended stayed (f'.clauses 𝓛 mem run)).Ghost
-  bound' = (((κ-numbers, (κ-deques, (κ-frames, (κ-memory, (κ-pool, (κ-work, tt)))))), (q-numbers, (q-deques, (q-frames, (q-memory, (q-pool, (q-work, tt)))))), tt, args', vals'), tt)
+  bound' = (((κ-numbers, (κ-deques, (κ-frames, (κ-pool, (κ-work, tt))))), (q-numbers, (q-deques, (q-frames, (q-pool, (q-work, tt))))), tt, args', vals'), tt)
 
   abbrev Post : Val → SProp 𝓤
   Post = (walk_of 𝓛 f'.ended stayed (f'.clauses 𝓛 mem run)).post bound'
 
-  exits' : (res' : ℕ) (zs-memory : List ℕ) (zs-pool : List ℕ) (zs-work : List ℕ) → res' < 2 ^ 32 → IsConvertWith (convert_remembering (parts numbers deques frames) memory pool work) zs-memory zs-pool zs-work res' → length zs-memory ≡ length memory → length zs-pool ≡ length pool → length zs-work ≡ length work → ent 𝓤 (⋆ 𝓛 (‵ (Yours u32 κ-numbers q-numbers γ-numbers b-numbers o-numbers n-numbers numbers) ∷ ‵ (Yours u32 κ-deques q-deques γ-deques b-deques o-deques n-deques deques) ∷ ‵ (Yours R-Frame κ-frames q-frames γ-frames b-frames o-frames n-frames frames) ∷ ‵ (Mine u32 κ-memory q-memory γ-memory b-memory o-memory n-memory zs-memory) ∷ ‵ (Mine u32 κ-pool q-pool γ-pool b-pool o-pool n-pool zs-pool) ∷ ‵ (Mine u32 κ-work q-work γ-work b-work o-work n-work zs-work) ∷ [])) (Post (vint w32 res'))
-  exits' res' zs-memory zs-pool zs-work good' e' same_memory same-pool same_work =
-      qed 𝓛 (‵ (Yours u32 κ-numbers q-numbers γ-numbers b-numbers o-numbers n-numbers numbers) ∷ ‵ (Yours u32 κ-deques q-deques γ-deques b-deques o-deques n-deques deques) ∷ ‵ (Yours R-Frame κ-frames q-frames γ-frames b-frames o-frames n-frames frames) ∷ ‵ (Mine u32 κ-memory q-memory γ-memory b-memory o-memory n-memory zs-memory) ∷ ‵ (Mine u32 κ-pool q-pool γ-pool b-pool o-pool n-pool zs-pool) ∷ ‵ (Mine u32 κ-work q-work γ-work b-work o-work n-work zs-work) ∷ []) ∵
-      suffices ! _ (ends_at 𝓛 f'.ended stayed (f'.clauses 𝓛 mem run) bound' (vint w32 res') res' (tt, (tt, (tt, (zs-memory, (zs-pool, (zs-work, tt)))))) (tt, (tt, (tt, (same_memory, (same-pool, (same_work, tt))))))) $ says ! e' $
-      fsplit ! $ move ! (2 ∷ []) $ fsplit ! $ move ! (4 ∷ []) $ fsplit ! $ move ! (6 ∷ []) $ fsplit ! $ move ! (8 ∷ []) $ fsplit ! $ move ! (10 ∷ []) $ fsplit ! $ nothing ! $ move ! (12 ∷ 10 ∷ 8 ∷ 6 ∷ 4 ∷ 2 ∷ 0 ∷ []) $ group ! 7 $ frame ! $
-      nothing ! $ move ! (1 ∷ 0 ∷ []) $ fjoin ! $ move ! (1 ∷ 0 ∷ []) $ fjoin ! $ move ! (1 ∷ 0 ∷ []) $ fjoin ! $ move ! (1 ∷ 0 ∷ []) $ fjoin ! $ move ! (1 ∷ 0 ∷ []) $ fjoin ! $ move ! (1 ∷ 0 ∷ []) $ fjoin ! $ frame ! $
+  exits' : (res' : ℕ) (zs-pool : List ℕ) (zs-work : List ℕ) → res' < 2 ^ 32 → IsConvert (convert_on (parts numbers deques frames) pool work) zs-pool zs-work res' → length zs-pool ≡ length pool → length zs-work ≡ length work → ent 𝓤 (⋆ 𝓛 (‵ (Yours u32 κ-numbers q-numbers γ-numbers b-numbers o-numbers n-numbers numbers) ∷ ‵ (Yours u32 κ-deques q-deques γ-deques b-deques o-deques n-deques deques) ∷ ‵ (Yours R-Frame κ-frames q-frames γ-frames b-frames o-frames n-frames frames) ∷ ‵ (Mine u32 κ-pool q-pool γ-pool b-pool o-pool n-pool zs-pool) ∷ ‵ (Mine u32 κ-work q-work γ-work b-work o-work n-work zs-work) ∷ [])) (Post (vint w32 res'))
+  exits' res' zs-pool zs-work good' e' same-pool same_work =
+      qed 𝓛 (‵ (Yours u32 κ-numbers q-numbers γ-numbers b-numbers o-numbers n-numbers numbers) ∷ ‵ (Yours u32 κ-deques q-deques γ-deques b-deques o-deques n-deques deques) ∷ ‵ (Yours R-Frame κ-frames q-frames γ-frames b-frames o-frames n-frames frames) ∷ ‵ (Mine u32 κ-pool q-pool γ-pool b-pool o-pool n-pool zs-pool) ∷ ‵ (Mine u32 κ-work q-work γ-work b-work o-work n-work zs-work) ∷ []) ∵
+      suffices ! _ (ends_at 𝓛 f'.ended stayed (f'.clauses 𝓛 mem run) bound' (vint w32 res') res' (tt, (tt, (tt, (zs-pool, (zs-work, tt))))) (tt, (tt, (tt, (same-pool, (same_work, tt)))))) $ says ! e' $
+      fsplit ! $ move ! (2 ∷ []) $ fsplit ! $ move ! (4 ∷ []) $ fsplit ! $ move ! (6 ∷ []) $ fsplit ! $ move ! (8 ∷ []) $ fsplit ! $ nothing ! $ move ! (10 ∷ 8 ∷ 6 ∷ 4 ∷ 2 ∷ 0 ∷ []) $ group ! 6 $ frame ! $
+      nothing ! $ move ! (1 ∷ 0 ∷ []) $ fjoin ! $ move ! (1 ∷ 0 ∷ []) $ fjoin ! $ move ! (1 ∷ 0 ∷ []) $ fjoin ! $ move ! (1 ∷ 0 ∷ []) $ fjoin ! $ move ! (1 ∷ 0 ∷ []) $ fjoin ! $ frame ! $
       owned ! u32 (Is u32) (uint_Makes 𝓛 w32) res' _ (refl, good') $ done !
 
-  module _ (𝓣 : Tables 𝓤 H) (known-fit : Triple 𝓤 (𝓣.C #fit) (S-fit.Asked 𝓛 mem run)) (known-unfit : Triple 𝓤 (𝓣.C #unfit) (S-unfit.Asked 𝓛 mem run)) (known-convert-on : Triple 𝓤 (𝓣.C #convert-on) (S-convert-on.Asked 𝓛 mem run)) (known-clear-all : Triple 𝓤 (𝓣.C #clear-all) (S-clear-all.Asked 𝓛 mem run)) where
+  module _ (𝓣 : Tables 𝓤 H) (known-fit : Triple 𝓤 (𝓣.C #fit) (S-fit.Asked 𝓛 mem run)) (known-unfit : Triple 𝓤 (𝓣.C #unfit) (S-unfit.Asked 𝓛 mem run)) (known-convert-on : Triple 𝓤 (𝓣.C #convert-on) (S-convert-on.Asked 𝓛 mem run)) where
     abbrev fm : FmC 𝓤 H 𝓛.laws 𝓣.C
     fm = fm_of 𝓤 H 𝓛.laws 𝓣
 
-    walk : ent 𝓤 (on_entry 𝓛 f'.signature (κ-numbers, (κ-deques, (κ-frames, (κ-memory, (κ-pool, (κ-work, tt)))))) (q-numbers, (q-deques, (q-frames, (q-memory, (q-pool, (q-work, tt)))))) args' vals') (WpFn 𝓤 H 𝓣.C 𝓣.Λ code.function (slice_val (b-numbers, o-numbers) (length numbers) ∷ slice_val (b-deques, o-deques) (length deques) ∷ slice_val (b-frames, o-frames) (length frames) ∷ slice_val (b-memory, o-memory) (length memory) ∷ slice_val (b-pool, o-pool) (length pool) ∷ slice_val (b-work, o-work) (length work) ∷ []) Post)
+    walk : ent 𝓤 (on_entry 𝓛 f'.signature (κ-numbers, (κ-deques, (κ-frames, (κ-pool, (κ-work, tt))))) (q-numbers, (q-deques, (q-frames, (q-pool, (q-work, tt))))) args' vals') (WpFn 𝓤 H 𝓣.C 𝓣.Λ code.function (slice_val (b-numbers, o-numbers) (length numbers) ∷ slice_val (b-deques, o-deques) (length deques) ∷ slice_val (b-frames, o-frames) (length frames) ∷ slice_val (b-pool, o-pool) (length pool) ∷ slice_val (b-work, o-work) (length work) ∷ []) Post)
     walk =
-        qed 𝓛 ((‵ (flft κ-numbers q-numbers) ⊛ ‵ (flft κ-deques q-deques) ⊛ ‵ (flft κ-frames q-frames) ⊛ ‵ (flft κ-memory q-memory) ⊛ ‵ (flft κ-pool q-pool) ⊛ ‵ (flft κ-work q-work) ⊛ ‵ ftrue) ∷ ‵ (owns (ShrSlice (named 0) κ-numbers u32 ∷ ShrSlice (named 1) κ-deques u32 ∷ ShrSlice (named 2) κ-frames R-Frame ∷ MutSlice (named 3) κ-memory u32 ∷ MutSlice (named 4) κ-pool u32 ∷ MutSlice (named 5) κ-work u32 ∷ []) args' vals') ∷ []) ∵ enter ! 𝓣.C 𝓣.Λ code.function (slice_val (b-numbers, o-numbers) (length numbers) ∷ slice_val (b-deques, o-deques) (length deques) ∷ slice_val (b-frames, o-frames) (length frames) ∷ slice_val (b-memory, o-memory) (length memory) ∷ slice_val (b-pool, o-pool) (length pool) ∷ slice_val (b-work, o-work) (length work) ∷ []) _ $
-        alloc1 ! (λ l₀. alloc1 ! (λ l₁. alloc1 ! (λ l₂. alloc1 ! (λ l₃. alloc1 ! (λ l₄. alloc1 ! (λ l₅. alloc1 ! (λ l₆. alloc1 ! (λ l₇. alloc1 ! (λ l₈. alloc1 ! (λ l₉. alloc1 ! (λ l₁₀. alloc1 ! (λ l₁₁. alloc1 ! (λ l₁₂. alloc1 ! (λ l₁₃. alloc1 ! (λ l₁₄. alloc1 ! (λ l₁₅. alloc1 ! (λ l₁₆. alloc1 ! (λ l₁₇. alloc1 ! (λ l₁₈. alloc0 ! $ params1 ! $
-        pass1 ! (init ! 34 refl (tt, (tt, (record { fits = room-numbers.0 }, tt)))) $ pass1 ! (init ! 32 refl (tt, (tt, (record { fits = room-deques.0 }, tt)))) $ pass1 ! (init ! 30 refl (tt, (tt, (record { fits = room-frames.0 }, tt)))) $ pass1 ! (init ! 28 refl (tt, (tt, (record { fits = room-memory.0 }, tt)))) $ pass1 ! (init ! 26 refl (tt, (tt, (record { fits = room-pool.0 }, tt)))) $ pass1 ! (init ! 24 refl (tt, (tt, (record { fits = room-work.0 }, tt)))) $ pass0 ! $
-        move ! (39 ∷ []) $ fsplit ! $ move ! (1 ∷ []) $ fsplit ! $ move ! (1 ∷ []) $ fsplit ! $ move ! (1 ∷ []) $ fsplit ! $ move ! (1 ∷ []) $ fsplit ! $ move ! (1 ∷ []) $ fsplit ! $ move ! (1 ∷ []) $ drop ! $ move ! (44 ∷ []) $ split ! $ move ! (1 ∷ []) $ split ! $ move ! (1 ∷ []) $ split ! $ move ! (1 ∷ []) $ split ! $ move ! (1 ∷ []) $ split ! $ move ! (1 ∷ []) $ split ! $ move ! (1 ∷ []) $ drop ! $ move ! (6 ∷ 0 ∷ []) $ fjoin ! $ move ! (6 ∷ 1 ∷ []) $ fjoin ! $ move ! (6 ∷ 2 ∷ []) $ fjoin ! $ move ! (6 ∷ 3 ∷ []) $ fjoin ! $ move ! (6 ∷ 4 ∷ []) $ fjoin ! $ move ! (6 ∷ 5 ∷ []) $ fjoin ! $
-        -- [numbers; deques; frames; memory; pool; work; the locals]
-        assigns ! (addr ! (from ! (fld ! refl (hop ! (look_in ! 34 (sub ! 0 refl (whole !))) (stop !))))) (from ! (stop !)) (init ! 24 refl (tt, tt)) $
-        assigns ! (agg ! (and_then ! (load ! (from ! (stop !)) (look ! 24 refl)) (and_then ! (load ! (from ! (fld ! refl (stop !))) (look_in ! 34 (sub ! 1 refl (whole !)))) (no_more !)))) (from ! (stop !)) (init ! 22 refl (tt, (tt, (record { fits = room-memory.0 }, tt)))) $
-        -- _8 = engine::entries::fit(_1, _2, _10)
-        move ! (0 ∷ 1 ∷ 3 ∷ []) $
-        S-fit.step-ggs mem run ! fm known-fit b-numbers o-numbers n-numbers numbers b-deques o-deques n-deques deques b-memory o-memory n-memory memory (refl) room-memory
-        (λ ν-0 δ-0. and_then ! (load ! (from ! (stop !)) (look ! 41 refl)) (and_then ! (load ! (from ! (stop !)) (look ! 39 refl)) (and_then ! (load ! (from ! (stop !)) (look ! 23 refl)) (no_more !)))) (λ r-1 r-1-is.
-        land ! (from ! (stop !)) (init ! 26 refl (tt, tt)) $
-        assigns ! (un ! (load ! (from ! (stop !)) (look ! 26 refl)) tt) (from ! (stop !)) (init ! 20 refl (tt, tt)) $
-        leave_if ! (load ! (from ! (stop !)) (look ! 20 refl))
+        qed 𝓛 ((‵ (flft κ-numbers q-numbers) ⊛ ‵ (flft κ-deques q-deques) ⊛ ‵ (flft κ-frames q-frames) ⊛ ‵ (flft κ-pool q-pool) ⊛ ‵ (flft κ-work q-work) ⊛ ‵ ftrue) ∷ ‵ (owns (ShrSlice (named 0) κ-numbers u32 ∷ ShrSlice (named 1) κ-deques u32 ∷ ShrSlice (named 2) κ-frames R-Frame ∷ MutSlice (named 3) κ-pool u32 ∷ MutSlice (named 4) κ-work u32 ∷ []) args' vals') ∷ []) ∵ enter ! 𝓣.C 𝓣.Λ code.function (slice_val (b-numbers, o-numbers) (length numbers) ∷ slice_val (b-deques, o-deques) (length deques) ∷ slice_val (b-frames, o-frames) (length frames) ∷ slice_val (b-pool, o-pool) (length pool) ∷ slice_val (b-work, o-work) (length work) ∷ []) _ $
+        alloc1 ! (λ l₀. alloc1 ! (λ l₁. alloc1 ! (λ l₂. alloc1 ! (λ l₃. alloc1 ! (λ l₄. alloc1 ! (λ l₅. alloc1 ! (λ l₆. alloc1 ! (λ l₇. alloc1 ! (λ l₈. alloc1 ! (λ l₉. alloc1 ! (λ l₁₀. alloc1 ! (λ l₁₁. alloc0 ! $ params1 ! $
+        pass1 ! (init ! 20 refl (tt, (tt, (record { fits = room-numbers.0 }, tt)))) $ pass1 ! (init ! 18 refl (tt, (tt, (record { fits = room-deques.0 }, tt)))) $ pass1 ! (init ! 16 refl (tt, (tt, (record { fits = room-frames.0 }, tt)))) $ pass1 ! (init ! 14 refl (tt, (tt, (record { fits = room-pool.0 }, tt)))) $ pass1 ! (init ! 12 refl (tt, (tt, (record { fits = room-work.0 }, tt)))) $ pass0 ! $
+        move ! (25 ∷ []) $ fsplit ! $ move ! (1 ∷ []) $ fsplit ! $ move ! (1 ∷ []) $ fsplit ! $ move ! (1 ∷ []) $ fsplit ! $ move ! (1 ∷ []) $ fsplit ! $ move ! (1 ∷ []) $ drop ! $ move ! (29 ∷ []) $ split ! $ move ! (1 ∷ []) $ split ! $ move ! (1 ∷ []) $ split ! $ move ! (1 ∷ []) $ split ! $ move ! (1 ∷ []) $ split ! $ move ! (1 ∷ []) $ drop ! $ move ! (5 ∷ 0 ∷ []) $ fjoin ! $ move ! (5 ∷ 1 ∷ []) $ fjoin ! $ move ! (5 ∷ 2 ∷ []) $ fjoin ! $ move ! (5 ∷ 3 ∷ []) $ fjoin ! $ move ! (5 ∷ 4 ∷ []) $ fjoin ! $
+        -- [numbers; deques; frames; pool; work; the locals]
+        -- _6 = engine::entries::fit(_1, _2)
+        S-fit.step-gg mem run ! fm known-fit b-numbers o-numbers n-numbers numbers b-deques o-deques n-deques deques
+        (and_then ! (load ! (from ! (stop !)) (look ! 26 refl)) (and_then ! (load ! (from ! (stop !)) (look ! 24 refl)) (no_more !))) (λ r-1 r-1-is.
+        land ! (from ! (stop !)) (init ! 15 refl (tt, tt)) $
+        assigns ! (un ! (load ! (from ! (stop !)) (look ! 15 refl)) tt) (from ! (stop !)) (init ! 13 refl (tt, tt)) $
+        leave_if ! (load ! (from ! (stop !)) (look ! 13 refl))
         (λ test-2.
         -- _0 = engine::entries::unfit()
         S-unfit.step mem run ! fm known-unfit
         (no_more !) (λ r-3 r-3-fits r-3-is.
-        land ! (from ! (stop !)) (init ! 42 refl (tt, record { fits = r-3-fits })) $
-        returns_within ! Post refl (look ! 42 refl) $ forget ! 20 refl $ forget ! 22 refl $ forget ! 24 refl $ forget ! 26 refl $ forget ! 30 refl $ forget ! 32 refl $ forget ! 34 refl $ forget ! 36 refl $ forget ! 38 refl $ forget ! 40 refl $ forget ! 42 refl $
-        free_all ! 6 refl $
-        move ! (0 ∷ 1 ∷ 3 ∷ 2 ∷ 4 ∷ 5 ∷ []) $
-        by ! (exits' r-3 memory pool work r-3-fits (F.out-4 numbers deques frames memory pool work room-numbers.0 room-deques.0 room-frames.0 room-memory.0 room-pool.0 room-work.0 r-1 r-1-is (is_false r-1 test-2) r-3 r-3-fits r-3-is) (refl) (refl) (refl))))
+        land ! (from ! (stop !)) (init ! 27 refl (tt, record { fits = r-3-fits })) $
+        returns_within ! Post refl (look ! 27 refl) $ forget ! 13 refl $ forget ! 15 refl $ forget ! 17 refl $ forget ! 19 refl $ forget ! 21 refl $ forget ! 23 refl $ forget ! 25 refl $ forget ! 27 refl $
+        free_all ! 5 refl $
+        by ! (exits' r-3 pool work r-3-fits (F.out-4 numbers deques frames pool work room-numbers.0 room-deques.0 room-frames.0 room-pool.0 room-work.0 r-1 r-1-is (is_false r-1 test-2) r-3 r-3-fits r-3-is) (refl) (refl))))
         (λ test-2.
-        assigns ! (addr ! (from ! (fld ! refl (hop ! (look_in ! 32 (sub ! 0 refl (whole !))) (stop !))))) (from ! (stop !)) (init ! 18 refl (tt, tt)) $
-        assigns ! (agg ! (and_then ! (load ! (from ! (stop !)) (look ! 18 refl)) (and_then ! (load ! (from ! (fld ! refl (stop !))) (look_in ! 32 (sub ! 1 refl (whole !)))) (no_more !)))) (from ! (stop !)) (init ! 16 refl (tt, (tt, (record { fits = room-pool.0 }, tt)))) $
-        assigns ! (addr ! (from ! (fld ! refl (hop ! (look_in ! 30 (sub ! 0 refl (whole !))) (stop !))))) (from ! (stop !)) (init ! 14 refl (tt, tt)) $
-        assigns ! (agg ! (and_then ! (load ! (from ! (stop !)) (look ! 14 refl)) (and_then ! (load ! (from ! (fld ! refl (stop !))) (look_in ! 30 (sub ! 1 refl (whole !)))) (no_more !)))) (from ! (stop !)) (init ! 12 refl (tt, (tt, (record { fits = room-work.0 }, tt)))) $
-        -- _7 = conversion::convert_on(_1, _2, _3, _13, _15)
-        move ! (0 ∷ 1 ∷ 3 ∷ 4 ∷ 5 ∷ []) $
-        S-convert-on.step-ggg mem run ! fm known-convert-on b-numbers o-numbers n-numbers numbers b-deques o-deques n-deques deques b-frames o-frames n-frames frames b-pool o-pool n-pool pool b-work o-work n-work work (F.needs-5 numbers deques frames memory pool work room-numbers.0 room-deques.0 room-frames.0 room-memory.0 room-pool.0 room-work.0 r-1 r-1-is (is_true r-1 (not_not r-1 test-2))) (refl) room-pool (refl) room-work
-        (λ ν-0 δ-0 ν-1 δ-1. and_then ! (load ! (from ! (stop !)) (look ! 41 refl)) (and_then ! (load ! (from ! (stop !)) (look ! 39 refl)) (and_then ! (load ! (from ! (stop !)) (look ! 37 refl)) (and_then ! (load ! (from ! (stop !)) (look ! 17 refl)) (and_then ! (load ! (from ! (stop !)) (look ! 13 refl)) (no_more !)))))) (λ refused pool-5 work-5 refused-fits refused-is same-pool-5 same-work-5.
-        land ! (from ! (stop !)) (init ! 28 refl (tt, record { fits = refused-fits })) $
-        assigns ! (bin ! (load ! (from ! (stop !)) (look ! 28 refl)) (const ! _ tt) tt) (from ! (stop !)) (store ! 26 refl (tt, tt)) $
-        leave_if ! (load ! (from ! (stop !)) (look ! 26 refl))
-        (λ test-6.
-        assigns ! (of_opd ! (load ! (from ! (stop !)) (look ! 28 refl))) (from ! (stop !)) (init ! 42 refl (tt, record { fits = refused-fits })) $
-        returns_within ! Post refl (look ! 42 refl) $ forget ! 12 refl $ forget ! 14 refl $ forget ! 16 refl $ forget ! 18 refl $ forget ! 20 refl $ forget ! 22 refl $ forget ! 24 refl $ forget ! 26 refl $ forget ! 28 refl $ forget ! 30 refl $ forget ! 32 refl $ forget ! 34 refl $ forget ! 36 refl $ forget ! 38 refl $ forget ! 40 refl $ forget ! 42 refl $
-        free_all ! 6 refl $
-        move ! (0 ∷ 1 ∷ 2 ∷ 5 ∷ 3 ∷ 4 ∷ []) $
-        by ! (exits' refused memory pool-5 work-5 refused-fits (F.out-7 numbers deques frames memory pool work room-numbers.0 room-deques.0 room-frames.0 room-memory.0 room-pool.0 room-work.0 r-1 r-1-is (is_true r-1 (not_not r-1 test-2)) refused pool-5 work-5 refused-fits refused-is same-pool-5 same-work-5 (differ refused 0 test-6)) (refl) (same-pool-5) (same-work-5)))
-        (λ test-6.
-        assigns ! (addr ! (from ! (fld ! refl (hop ! (look_in ! 34 (sub ! 0 refl (whole !))) (stop !))))) (from ! (stop !)) (init ! 8 refl (tt, tt)) $
-        assigns ! (agg ! (and_then ! (load ! (from ! (stop !)) (look ! 8 refl)) (and_then ! (load ! (from ! (fld ! refl (stop !))) (look_in ! 34 (sub ! 1 refl (whole !)))) (no_more !)))) (from ! (stop !)) (init ! 6 refl (tt, (tt, (record { fits = room-memory.0 }, tt)))) $
-        -- _16 = words::clear_all(_18)
-        move ! (5 ∷ []) $
-        S-clear-all.step mem run ! fm known-clear-all b-memory o-memory n-memory memory (refl) room-memory
-        (λ ν-0 δ-0. and_then ! (load ! (from ! (stop !)) (look ! 7 refl)) (no_more !)) (λ memory-8 done-8 same-memory-8.
-        land ! (from ! (stop !)) (init ! 10 refl (tt, tt)) $
-        assigns ! (of_opd ! (const ! _ tt)) (from ! (stop !)) (init ! 42 refl (tt, record { fits = (lit< tt) })) $
-        returns_within ! Post refl (look ! 42 refl) $ forget ! 6 refl $ forget ! 8 refl $ forget ! 10 refl $ forget ! 12 refl $ forget ! 14 refl $ forget ! 16 refl $ forget ! 18 refl $ forget ! 20 refl $ forget ! 22 refl $ forget ! 24 refl $ forget ! 26 refl $ forget ! 28 refl $ forget ! 30 refl $ forget ! 32 refl $ forget ! 34 refl $ forget ! 36 refl $ forget ! 38 refl $ forget ! 40 refl $ forget ! 42 refl $
-        free_all ! 6 refl $
-        move ! (1 ∷ 2 ∷ 3 ∷ 0 ∷ 4 ∷ 5 ∷ []) $
-        by ! (exits' 0 memory-8 pool-5 work-5 (lit< tt) (F.out-9 numbers deques frames memory pool work room-numbers.0 room-deques.0 room-frames.0 room-memory.0 room-pool.0 room-work.0 r-1 r-1-is (is_true r-1 (not_not r-1 test-2)) refused pool-5 work-5 refused-fits refused-is same-pool-5 same-work-5 (eqb→eq refused 0 (not_not (eqb refused 0) test-6)) memory-8 done-8 same-memory-8) (same-memory-8) (same-pool-5) (same-work-5))))))))))))))))))))))))))
+        assigns ! (addr ! (from ! (fld ! refl (hop ! (look_in ! 19 (sub ! 0 refl (whole !))) (stop !))))) (from ! (stop !)) (init ! 11 refl (tt, tt)) $
+        assigns ! (agg ! (and_then ! (load ! (from ! (stop !)) (look ! 11 refl)) (and_then ! (load ! (from ! (fld ! refl (stop !))) (look_in ! 19 (sub ! 1 refl (whole !)))) (no_more !)))) (from ! (stop !)) (init ! 9 refl (tt, (tt, (record { fits = room-pool.0 }, tt)))) $
+        assigns ! (addr ! (from ! (fld ! refl (hop ! (look_in ! 17 (sub ! 0 refl (whole !))) (stop !))))) (from ! (stop !)) (init ! 7 refl (tt, tt)) $
+        assigns ! (agg ! (and_then ! (load ! (from ! (stop !)) (look ! 7 refl)) (and_then ! (load ! (from ! (fld ! refl (stop !))) (look_in ! 17 (sub ! 1 refl (whole !)))) (no_more !)))) (from ! (stop !)) (init ! 5 refl (tt, (tt, (record { fits = room-work.0 }, tt)))) $
+        -- _0 = conversion::convert_on(_1, _2, _3, _9, _11)
+        S-convert-on.step-ggg mem run ! fm known-convert-on b-numbers o-numbers n-numbers numbers b-deques o-deques n-deques deques b-frames o-frames n-frames frames b-pool o-pool n-pool pool b-work o-work n-work work (F.needs-5 numbers deques frames pool work room-numbers.0 room-deques.0 room-frames.0 room-pool.0 room-work.0 r-1 r-1-is (is_true r-1 (not_not r-1 test-2))) (refl) room-pool (refl) room-work
+        (λ ν-0 δ-0 ν-1 δ-1. and_then ! (load ! (from ! (stop !)) (look ! 26 refl)) (and_then ! (load ! (from ! (stop !)) (look ! 24 refl)) (and_then ! (load ! (from ! (stop !)) (look ! 22 refl)) (and_then ! (load ! (from ! (stop !)) (look ! 10 refl)) (and_then ! (load ! (from ! (stop !)) (look ! 6 refl)) (no_more !)))))) (λ r-5 pool-5 work-5 r-5-fits r-5-is same-pool-5 same-work-5.
+        land ! (from ! (stop !)) (init ! 27 refl (tt, record { fits = r-5-fits })) $
+        returns_within ! Post refl (look ! 27 refl) $ forget ! 5 refl $ forget ! 7 refl $ forget ! 9 refl $ forget ! 11 refl $ forget ! 13 refl $ forget ! 15 refl $ forget ! 17 refl $ forget ! 19 refl $ forget ! 21 refl $ forget ! 23 refl $ forget ! 25 refl $ forget ! 27 refl $
+        free_all ! 5 refl $
+        by ! (exits' r-5 pool-5 work-5 r-5-fits (F.out-6 numbers deques frames pool work room-numbers.0 room-deques.0 room-frames.0 room-pool.0 room-work.0 r-1 r-1-is (is_true r-1 (not_not r-1 test-2)) r-5 pool-5 work-5 r-5-fits r-5-is same-pool-5 same-work-5) (same-pool-5) (same-work-5)))))))))))))))))
 
 module _ {M : Type 1} {𝓤 : Ura M} (𝓛 : Logic 𝓤) (mem : Memory → SProp 𝓤) (run : Routine → Fun 𝓤) (𝓣 : Tables 𝓤 𝓛.H) where
   open 𝓛 use {H}
 
-  walks : Triple 𝓤 (𝓣.C #fit) (S-fit.Asked 𝓛 mem run) → Triple 𝓤 (𝓣.C #unfit) (S-unfit.Asked 𝓛 mem run) → Triple 𝓤 (𝓣.C #convert-on) (S-convert-on.Asked 𝓛 mem run) → Triple 𝓤 (𝓣.C #clear-all) (S-clear-all.Asked 𝓛 mem run) → Walks 𝓛 f'.ended stayed (WpFn 𝓤 H 𝓣.C 𝓣.Λ code.function) (f'.clauses 𝓛 mem run)
-  walks known-fit known-unfit known-convert-on known-clear-all = walked 𝓛 f'.ended stayed (f'.clauses 𝓛 mem run) (WpFn 𝓤 H 𝓣.C 𝓣.Λ code.function)
-      (λ κs. (shr_slice_vals, (shr_slice_vals, (shr_slice_vals, (shr_slice_vals, (shr_slice_vals, (shr_slice_vals, tt)))))))
-      (λ κs. (shr_slice_Tells (named 0) κs.0 u32, (shr_slice_Tells (named 1) κs.1.0 u32, (shr_slice_Tells (named 2) κs.1.1.0 R-Frame, (mut_slice_Tells (named 3) κs.1.1.1.0 u32, (mut_slice_Tells (named 4) κs.1.1.1.1.0 u32, (mut_slice_Tells (named 5) κs.1.1.1.1.1.0 u32, tt)))))))
+  walks : Triple 𝓤 (𝓣.C #fit) (S-fit.Asked 𝓛 mem run) → Triple 𝓤 (𝓣.C #unfit) (S-unfit.Asked 𝓛 mem run) → Triple 𝓤 (𝓣.C #convert-on) (S-convert-on.Asked 𝓛 mem run) → Walks 𝓛 f'.ended stayed (WpFn 𝓤 H 𝓣.C 𝓣.Λ code.function) (f'.clauses 𝓛 mem run)
+  walks known-fit known-unfit known-convert-on = walked 𝓛 f'.ended stayed (f'.clauses 𝓛 mem run) (WpFn 𝓤 H 𝓣.C 𝓣.Λ code.function)
+      (λ κs. (shr_slice_vals, (shr_slice_vals, (shr_slice_vals, (shr_slice_vals, (shr_slice_vals, tt))))))
+      (λ κs. (shr_slice_Tells (named 0) κs.0 u32, (shr_slice_Tells (named 1) κs.1.0 u32, (shr_slice_Tells (named 2) κs.1.1.0 R-Frame, (mut_slice_Tells (named 3) κs.1.1.1.0 u32, (mut_slice_Tells (named 4) κs.1.1.1.1.0 u32, tt))))))
       (λ κs qs bounds a g are. via 𝓤 _ (fst∗ 𝓤 _ (emp 𝓤))
-      (walk 𝓛 mem run κs.0 qs.0 a.0.ref_ptr.0 a.0.ref_ptr.1 a.0.ghost_name a.0.now κs.1.0 qs.1.0 a.1.0.ref_ptr.0 a.1.0.ref_ptr.1 a.1.0.ghost_name a.1.0.now κs.1.1.0 qs.1.1.0 a.1.1.0.ref_ptr.0 a.1.1.0.ref_ptr.1 a.1.1.0.ghost_name a.1.1.0.now κs.1.1.1.0 qs.1.1.1.0 a.1.1.1.0.ref_ptr.0 a.1.1.1.0.ref_ptr.1 a.1.1.1.0.ghost_name a.1.1.1.0.now κs.1.1.1.1.0 qs.1.1.1.1.0 a.1.1.1.1.0.ref_ptr.0 a.1.1.1.1.0.ref_ptr.1 a.1.1.1.1.0.ghost_name a.1.1.1.1.0.now κs.1.1.1.1.1.0 qs.1.1.1.1.1.0 a.1.1.1.1.1.0.ref_ptr.0 a.1.1.1.1.1.0.ref_ptr.1 a.1.1.1.1.1.0.ghost_name a.1.1.1.1.1.0.now are.0.0.1 are.1.0.0.1 are.1.1.0.0.1 are.1.1.1.0.0.1 are.1.1.1.1.0.0.1 are.1.1.1.1.1.0.0.1 𝓣 known-fit known-unfit known-convert-on known-clear-all))
+      (walk 𝓛 mem run κs.0 qs.0 a.0.ref_ptr.0 a.0.ref_ptr.1 a.0.ghost_name a.0.now κs.1.0 qs.1.0 a.1.0.ref_ptr.0 a.1.0.ref_ptr.1 a.1.0.ghost_name a.1.0.now κs.1.1.0 qs.1.1.0 a.1.1.0.ref_ptr.0 a.1.1.0.ref_ptr.1 a.1.1.0.ghost_name a.1.1.0.now κs.1.1.1.0 qs.1.1.1.0 a.1.1.1.0.ref_ptr.0 a.1.1.1.0.ref_ptr.1 a.1.1.1.0.ghost_name a.1.1.1.0.now κs.1.1.1.1.0 qs.1.1.1.1.0 a.1.1.1.1.0.ref_ptr.0 a.1.1.1.1.0.ref_ptr.1 a.1.1.1.1.0.ghost_name a.1.1.1.1.0.now are.0.0.1 are.1.0.0.1 are.1.1.0.0.1 are.1.1.1.0.0.1 are.1.1.1.1.0.0.1 𝓣 known-fit known-unfit known-convert-on))
 
-  meets : Triple 𝓤 (𝓣.C #fit) (S-fit.Asked 𝓛 mem run) → Triple 𝓤 (𝓣.C #unfit) (S-unfit.Asked 𝓛 mem run) → Triple 𝓤 (𝓣.C #convert-on) (S-convert-on.Asked 𝓛 mem run) → Triple 𝓤 (𝓣.C #clear-all) (S-clear-all.Asked 𝓛 mem run) → Meets 𝓛 f'.signature (WpFn 𝓤 H 𝓣.C 𝓣.Λ code.function) (f'.spec 𝓛 mem run)
-  meets known-fit known-unfit known-convert-on known-clear-all = walk_Meets 𝓛 f'.ended stayed
-      (Goes-none_slice 𝓛 6 (0 ∷ []) tt (plain (λ _. u32)) yes, (Goes-none_slice 𝓛 6 (1 ∷ []) tt (plain (λ _. u32)) yes, (Goes-none_slice 𝓛 6 (2 ∷ []) tt (plain (λ _. R-Frame)) yes, (Goes-slice 𝓛 6 3 tt (plain (λ _. u32)), (Goes-slice 𝓛 6 4 tt (plain (λ _. u32)), (Goes-slice 𝓛 6 5 tt (plain (λ _. u32)), tt))))))
-      (f'.clauses 𝓛 mem run) (WpFn 𝓤 H 𝓣.C 𝓣.Λ code.function) (WpFn-mono 𝓤 H 𝓛.laws 𝓣 code.function) (walks known-fit known-unfit known-convert-on known-clear-all)
+  meets : Triple 𝓤 (𝓣.C #fit) (S-fit.Asked 𝓛 mem run) → Triple 𝓤 (𝓣.C #unfit) (S-unfit.Asked 𝓛 mem run) → Triple 𝓤 (𝓣.C #convert-on) (S-convert-on.Asked 𝓛 mem run) → Meets 𝓛 f'.signature (WpFn 𝓤 H 𝓣.C 𝓣.Λ code.function) (f'.spec 𝓛 mem run)
+  meets known-fit known-unfit known-convert-on = walk_Meets 𝓛 f'.ended stayed
+      (Goes-none_slice 𝓛 5 (0 ∷ []) tt (plain (λ _. u32)) yes, (Goes-none_slice 𝓛 5 (1 ∷ []) tt (plain (λ _. u32)) yes, (Goes-none_slice 𝓛 5 (2 ∷ []) tt (plain (λ _. R-Frame)) yes, (Goes-slice 𝓛 5 3 tt (plain (λ _. u32)), (Goes-slice 𝓛 5 4 tt (plain (λ _. u32)), tt)))))
+      (f'.clauses 𝓛 mem run) (WpFn 𝓤 H 𝓣.C 𝓣.Λ code.function) (WpFn-mono 𝓤 H 𝓛.laws 𝓣 code.function) (walks known-fit known-unfit known-convert-on)
 
 pub convert-spec : {M : Type 1} → stated.statement M
 unfolding code.routine tables_of
@@ -207,5 +177,4 @@ convert-spec 𝓤 𝓛 𝓜 𝓡 =
     (meets 𝓛 𝓜.mem 𝓡.run (tables_of 𝓤 𝓛.H 𝓜 (tables 𝓤 𝓛.H 𝓜 𝓡 code.env))
     (cited 𝓤 𝓛.H (S-fit.Asked 𝓛 𝓜.mem 𝓡.run) 𝓜 𝓡 code.env #fit D-fit.routine code.calls-engine::fit (T-fit.met 𝓤 𝓛 𝓜 𝓡))
     (cited 𝓤 𝓛.H (S-unfit.Asked 𝓛 𝓜.mem 𝓡.run) 𝓜 𝓡 code.env #unfit D-unfit.routine code.calls-engine::unfit (T-unfit.met 𝓤 𝓛 𝓜 𝓡))
-    (cited 𝓤 𝓛.H (S-convert-on.Asked 𝓛 𝓜.mem 𝓡.run) 𝓜 𝓡 code.env #convert-on D-convert-on.routine code.calls-conversion::convert-on (T-convert-on.met 𝓤 𝓛 𝓜 𝓡))
-    (cited 𝓤 𝓛.H (S-clear-all.Asked 𝓛 𝓜.mem 𝓡.run) 𝓜 𝓡 code.env #clear-all D-clear-all.routine code.calls-words::clear-all (T-clear-all.met 𝓤 𝓛 𝓜 𝓡)))
+    (cited 𝓤 𝓛.H (S-convert-on.Asked 𝓛 𝓜.mem 𝓡.run) 𝓜 𝓡 code.env #convert-on D-convert-on.routine code.calls-conversion::convert-on (T-convert-on.met 𝓤 𝓛 𝓜 𝓡)))

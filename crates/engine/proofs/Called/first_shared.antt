@@ -1,9 +1,13 @@
 -- Written by tools/walk: the call of `packed::tree::first_shared` as a step of a walk. Do not edit: write it again.
 -- The operands are read in the context [what the callee asks; the loans; Γ], where an entry of Γ stands one further on than before the call.
-use Rattle.std.proofs.Common.{◌≡◌, ℕ, suc, ◌-◌, ◌*◌, ◌^◌, ◌<◌, ◌≤◌, Bool, cond, List, [], ◌∷◌, length, sym, refl, ap, subst, w8, w16, w32, w64}
+use mathlib.Core.Path.{◌≡◌, refl, sym, ap, subst}
+use Prim.Native.Nat.{ℕ, ◌<◌, ◌^◌}
+use mathlib.Core.List.{List, [], ◌∷◌}
+use mathlib.Core.Bool.{Bool}
+use lib.ListN.{length}
 use seplogic.Ra.Ura.{Ura}
 use seplogic.Ra.TreeShare.{full_share}
-use mir.Syntax.{Name, Place, Opd as Operand, Body, named, seq, call}
+use mir.Syntax.{Name, Place, Opd as Operand, Body, named, w8, w16, w32, w64, seq, call}
 use mir.Val.{Val, vint, vbool, vunit}
 use base.Logic.{SProp, ent, id⊢}
 use base.Fml.{Lft, GName, Share, ftrue, flft}
@@ -28,6 +32,7 @@ use denote.Triple.Statement.{Contract, Triple}
 use denote.Triple.Call.{calls_at, calls_at_last}
 use denote.Triple.Clauses.{ensured, lasts}
 use denote.Triple.Walked.{says}
+use Prim.Native.Nat.{◌*◌, ◌≤◌}
 use Rattle.packed.specs.Links.{PathIn, IsShared}
 use Rattle.packed.specs.Pool.{first_shared}
 use Rattle.packed.specs.contracts.tree.FirstShared as M-FirstShared
@@ -59,14 +64,14 @@ module _ {M : Type 1} {𝓤 : Ura M} {𝓛 : Logic 𝓤} {K : Type 0} (mem : Mem
 
   pub step-s : K → FmC 𝓤 H 𝓛.laws C → Triple 𝓤 (C name') (Asked 𝓛 mem run) → {κ-pool : Lft} {q-pool : Share} {γ-pool : GName} → (b-pool o-pool n-pool : ℕ) (pool : List ℕ) (nodes : ℕ) (height : ℕ) (root : ℕ) (x : ℕ) → (nodes-good : nodes < 2 ^ 32) → (height-good : height < 2 ^ 32) → (root-good : root < 2 ^ 32) → (x-good : x < 2 ^ 32) → (2 * nodes ≤ length pool) × (height ≤ 32) × PathIn nodes pool height root x → length pool ≡ n-pool → Room u32 n-pool →
       ((ν-pool : ℕ) (δ-pool : GName) → Opds K 𝓛 (raw ((Asked 𝓛 mem run).pre (to-step-s 𝓛 mem run ν-pool δ-pool b-pool o-pool n-pool pool nodes height root x)) ∷ ‵ (Shown u32 κ-pool (ν-pool ∷ []) q-pool γ-pool b-pool o-pool pool) ∷ Γ) E opds' (slice_val (b-pool, o-pool) n-pool ∷ vint w32 nodes ∷ vint w32 height ∷ vint w32 root ∷ vint w32 x ∷ [])) →
-      ((res' : FirstShared) → Is R-FirstShared res' (val-FirstShared res' ∷ []) → IsShared height res'.shared res'.level res'.node res'.above (first_shared height pool root root x) × (res'.visits ≡ suc (height - cond res'.shared res'.level 0)) → Seq K 𝓛 (‵ (Mine u32 κ-pool q-pool γ-pool b-pool o-pool n-pool pool) ∷ Γ) (lands C Λ E dest' (val-FirstShared res') rest' post')) →
+      ((res' : FirstShared) → Is R-FirstShared res' (val-FirstShared res' ∷ []) → IsShared height res'.shared res'.level res'.node res'.above (first_shared height pool root root x) → Seq K 𝓛 (‵ (Mine u32 κ-pool q-pool γ-pool b-pool o-pool n-pool pool) ∷ Γ) (lands C Λ E dest' (val-FirstShared res') rest' post')) →
       Seq K 𝓛 (‵ (Mine u32 κ-pool q-pool γ-pool b-pool o-pool n-pool pool) ∷ Γ) (runs C Λ E (seq (call name' opds' dest') rest') post')
   step-s t' fm' known' {κ-pool} {q-pool} {γ-pool} b-pool o-pool n-pool pool nodes height root x nodes-good height-good root-good x-good ok' len-pool room-pool os' k' =
       show t' tt u32 b-pool o-pool n-pool pool len-pool (λ ν-pool δ-pool.
       move t' (0 ∷ 1 ∷ []) $ group t' 2 $ use1 𝓛 (raw ((Asked 𝓛 mem run).pre (to-step-s 𝓛 mem run ν-pool δ-pool b-pool o-pool n-pool pool nodes height root x))) (goes-step-s 𝓛 mem run ν-pool δ-pool b-pool o-pool n-pool pool nodes height root x nodes-good height-good root-good x-good ok') $
       calls_at t' fm' (Asked 𝓛 mem run) known' (to-step-s 𝓛 mem run ν-pool δ-pool b-pool o-pool n-pool pool nodes height root x) (os' ν-pool δ-pool) (λ w'.
       use1 𝓛 (later (some (λ (res' : FirstShared). ((‵ (flft (ν-pool ∷ []) full_share) ⊛ ‵ ftrue) ⊛ ‵ (R-FirstShared.own res' (w' ∷ []))) ⊛ raw (ensured 𝓛 callee'.ended (callee'.clauses 𝓛 mem run) ((ν-pool ∷ []), tt) (at_list b-pool o-pool δ-pool pool, (nodes, (height, (root, (x, tt))))) tt res')))) (id⊢ 𝓤 _) $ await t' tt $ pick t' (λ res'. split t' $ move t' (1 ∷ []) $
-      use1 𝓛 (some (λ (zs' : Unit {0} × (Unit {0} × (Unit {0} × (Unit {0} × (Unit {0} × Unit {0}))))). ‵ (lasts callee'.ended ((ν-pool ∷ []), tt) (at_list b-pool o-pool δ-pool pool, (nodes, (height, (root, (x, tt))))) zs') ⊛ raw (fact 𝓤 (IsShared height res'.shared res'.level res'.node res'.above (first_shared height pool root root x) × (res'.visits ≡ suc (height - cond res'.shared res'.level 0)))))) (id⊢ 𝓤 _) $ pick t' (λ zs'. split t' $ move t' (1 ∷ []) $ heard t' (IsShared height res'.shared res'.level res'.node res'.above (first_shared height pool root root x) × (res'.visits ≡ suc (height - cond res'.shared res'.level 0))) (λ e'.
+      use1 𝓛 (some (λ (zs' : Unit {0} × (Unit {0} × (Unit {0} × (Unit {0} × (Unit {0} × Unit {0}))))). ‵ (lasts callee'.ended ((ν-pool ∷ []), tt) (at_list b-pool o-pool δ-pool pool, (nodes, (height, (root, (x, tt))))) zs') ⊛ raw (fact 𝓤 (IsShared height res'.shared res'.level res'.node res'.above (first_shared height pool root root x))))) (id⊢ 𝓤 _) $ pick t' (λ zs'. split t' $ move t' (1 ∷ []) $ heard t' (IsShared height res'.shared res'.level res'.node res'.above (first_shared height pool root root x)) (λ e'.
       fsplit t' $ drop t' $ fsplit t' $ drop t' $ fsplit t' $ drop t' $ fsplit t' $ drop t' $ fsplit t' $ drop t' $ drop t' $
       move t' (0 ∷ []) $ split t' $ move t' (1 ∷ []) $ peeks t' R-FirstShared (Is R-FirstShared) (shows 𝓛 R-FirstShared) res' (w' ∷ []) (λ is'. drop t' $ split t' $ move t' (1 ∷ []) $ drop t' $
       move t' (0 ∷ 1 ∷ []) $ back t' tt u32 b-pool o-pool n-pool pool len-pool room-pool $

@@ -1,9 +1,13 @@
 -- Written by tools/walk: the call of `engine::entries::fit` as a step of a walk. Do not edit: write it again.
 -- The operands are read in the context [what the callee asks; the loans; Γ], where an entry of Γ stands one further on than before the call.
-use Rattle.std.proofs.Common.{◌≡◌, ℕ, ◌^◌, ◌<◌, Bool, ◌&&◌, eqb, List, [], ◌∷◌, length, sym, refl, ap, subst, w8, w16, w32, w64}
+use mathlib.Core.Path.{◌≡◌, refl, sym, ap, subst}
+use Prim.Native.Nat.{ℕ, ◌<◌, ◌^◌}
+use mathlib.Core.List.{List, [], ◌∷◌}
+use mathlib.Core.Bool.{Bool}
+use lib.ListN.{length}
 use seplogic.Ra.Ura.{Ura}
 use seplogic.Ra.TreeShare.{full_share}
-use mir.Syntax.{Name, Place, Opd as Operand, Body, named, seq, call}
+use mir.Syntax.{Name, Place, Opd as Operand, Body, named, w8, w16, w32, w64, seq, call}
 use mir.Val.{Val, vint, vbool, vunit}
 use base.Logic.{SProp, ent, id⊢}
 use base.Fml.{Lft, GName, Share, ftrue, flft}
@@ -28,9 +32,10 @@ use denote.Triple.Statement.{Contract, Triple}
 use denote.Triple.Call.{calls_at, calls_at_last}
 use denote.Triple.Clauses.{ensured, lasts}
 use denote.Triple.Walked.{says}
+use mathlib.Core.Bool.{◌&&◌}
+use lib.Dec.{eqb}
 use Rattle.frames.specs.Widths.{deque_words}
 use Rattle.soundness.specs.Numbers.{number_count}
-use Rattle.memory.specs.Memory.{memory_words}
 use Rattle.frames.proofs.Lent.{at_list, Mine, Yours, Lent, Shown, lend, home, show, back, give}
 use Rattle.engine.specs.contracts.entries.fit as callee'
 
@@ -38,50 +43,50 @@ module _ {M : Type 1} {𝓤 : Ura M} (𝓛 : Logic 𝓤) (mem : Memory → SProp
   abbrev pub Asked : Contract 𝓤
   Asked = triple_of 𝓛 callee'.signature (callee'.spec 𝓛 mem run)
 
-  abbrev pub to-step-ggg : (κ-numbers : Lft) (q-numbers : Share) (γ-numbers : GName) (κ-deques : Lft) (q-deques : Share) (γ-deques : GName) (κ-memory : Lft) (q-memory : Share) (γ-memory : GName) (b-numbers o-numbers n-numbers : ℕ) (numbers : List ℕ) (b-deques o-deques n-deques : ℕ) (deques : List ℕ) (b-memory o-memory n-memory : ℕ) (memory : List ℕ) → Asked.Ghost
-  to-step-ggg κ-numbers q-numbers γ-numbers κ-deques q-deques γ-deques κ-memory q-memory γ-memory b-numbers o-numbers n-numbers numbers b-deques o-deques n-deques deques b-memory o-memory n-memory memory = (((κ-numbers, (κ-deques, (κ-memory, tt))), (q-numbers, (q-deques, (q-memory, tt))), tt, (at_list b-numbers o-numbers γ-numbers numbers, (at_list b-deques o-deques γ-deques deques, (at_list b-memory o-memory γ-memory memory, tt))), (slice_val (b-numbers, o-numbers) n-numbers ∷ [], (slice_val (b-deques, o-deques) n-deques ∷ [], (slice_val (b-memory, o-memory) n-memory ∷ [], tt)))), tt)
+  abbrev pub to-step-gg : (κ-numbers : Lft) (q-numbers : Share) (γ-numbers : GName) (κ-deques : Lft) (q-deques : Share) (γ-deques : GName) (b-numbers o-numbers n-numbers : ℕ) (numbers : List ℕ) (b-deques o-deques n-deques : ℕ) (deques : List ℕ) → Asked.Ghost
+  to-step-gg κ-numbers q-numbers γ-numbers κ-deques q-deques γ-deques b-numbers o-numbers n-numbers numbers b-deques o-deques n-deques deques = (((κ-numbers, (κ-deques, tt)), (q-numbers, (q-deques, tt)), tt, (at_list b-numbers o-numbers γ-numbers numbers, (at_list b-deques o-deques γ-deques deques, tt)), (slice_val (b-numbers, o-numbers) n-numbers ∷ [], (slice_val (b-deques, o-deques) n-deques ∷ [], tt))), tt)
 
-  pub goes-step-ggg : (κ-numbers : Lft) (q-numbers : Share) (γ-numbers : GName) (κ-deques : Lft) (q-deques : Share) (γ-deques : GName) (κ-memory : Lft) (q-memory : Share) (γ-memory : GName) (b-numbers o-numbers n-numbers : ℕ) (numbers : List ℕ) (b-deques o-deques n-deques : ℕ) (deques : List ℕ) (b-memory o-memory n-memory : ℕ) (memory : List ℕ) → ent 𝓤 (⋆ 𝓛 (‵ (flft κ-numbers q-numbers) ∷ ‵ (flft κ-deques q-deques) ∷ ‵ (flft κ-memory q-memory) ∷ ‵ ((ShrSlice (named 0) κ-numbers u32).own_val (at_list b-numbers o-numbers γ-numbers numbers) (slice_val (b-numbers, o-numbers) n-numbers ∷ [])) ∷ ‵ ((ShrSlice (named 0) κ-deques u32).own_val (at_list b-deques o-deques γ-deques deques) (slice_val (b-deques, o-deques) n-deques ∷ [])) ∷ ‵ ((ShrSlice (named 0) κ-memory u32).own_val (at_list b-memory o-memory γ-memory memory) (slice_val (b-memory, o-memory) n-memory ∷ [])) ∷ [])) (Asked.pre (to-step-ggg κ-numbers q-numbers γ-numbers κ-deques q-deques γ-deques κ-memory q-memory γ-memory b-numbers o-numbers n-numbers numbers b-deques o-deques n-deques deques b-memory o-memory n-memory memory))
-  goes-step-ggg κ-numbers q-numbers γ-numbers κ-deques q-deques γ-deques κ-memory q-memory γ-memory b-numbers o-numbers n-numbers numbers b-deques o-deques n-deques deques b-memory o-memory n-memory memory = qed 𝓛 (‵ (flft κ-numbers q-numbers) ∷ ‵ (flft κ-deques q-deques) ∷ ‵ (flft κ-memory q-memory) ∷ ‵ ((ShrSlice (named 0) κ-numbers u32).own_val (at_list b-numbers o-numbers γ-numbers numbers) (slice_val (b-numbers, o-numbers) n-numbers ∷ [])) ∷ ‵ ((ShrSlice (named 0) κ-deques u32).own_val (at_list b-deques o-deques γ-deques deques) (slice_val (b-deques, o-deques) n-deques ∷ [])) ∷ ‵ ((ShrSlice (named 0) κ-memory u32).own_val (at_list b-memory o-memory γ-memory memory) (slice_val (b-memory, o-memory) n-memory ∷ [])) ∷ []) ∵ nothing ! $ move ! (1 ∷ 2 ∷ 3 ∷ 0 ∷ []) $ group ! 4 $ move ! (1 ∷ 2 ∷ 3 ∷ 0 ∷ []) $
-      nothing ! $ move ! (3 ∷ 0 ∷ []) $ fjoin ! $ move ! (2 ∷ 0 ∷ []) $ fjoin ! $ move ! (1 ∷ 0 ∷ []) $ fjoin ! $ move ! (1 ∷ 0 ∷ []) $ join ! $ frame ! $ done !
+  pub goes-step-gg : (κ-numbers : Lft) (q-numbers : Share) (γ-numbers : GName) (κ-deques : Lft) (q-deques : Share) (γ-deques : GName) (b-numbers o-numbers n-numbers : ℕ) (numbers : List ℕ) (b-deques o-deques n-deques : ℕ) (deques : List ℕ) → ent 𝓤 (⋆ 𝓛 (‵ (flft κ-numbers q-numbers) ∷ ‵ (flft κ-deques q-deques) ∷ ‵ ((ShrSlice (named 0) κ-numbers u32).own_val (at_list b-numbers o-numbers γ-numbers numbers) (slice_val (b-numbers, o-numbers) n-numbers ∷ [])) ∷ ‵ ((ShrSlice (named 0) κ-deques u32).own_val (at_list b-deques o-deques γ-deques deques) (slice_val (b-deques, o-deques) n-deques ∷ [])) ∷ [])) (Asked.pre (to-step-gg κ-numbers q-numbers γ-numbers κ-deques q-deques γ-deques b-numbers o-numbers n-numbers numbers b-deques o-deques n-deques deques))
+  goes-step-gg κ-numbers q-numbers γ-numbers κ-deques q-deques γ-deques b-numbers o-numbers n-numbers numbers b-deques o-deques n-deques deques = qed 𝓛 (‵ (flft κ-numbers q-numbers) ∷ ‵ (flft κ-deques q-deques) ∷ ‵ ((ShrSlice (named 0) κ-numbers u32).own_val (at_list b-numbers o-numbers γ-numbers numbers) (slice_val (b-numbers, o-numbers) n-numbers ∷ [])) ∷ ‵ ((ShrSlice (named 0) κ-deques u32).own_val (at_list b-deques o-deques γ-deques deques) (slice_val (b-deques, o-deques) n-deques ∷ [])) ∷ []) ∵ nothing ! $ move ! (1 ∷ 2 ∷ 0 ∷ []) $ group ! 3 $ move ! (1 ∷ 2 ∷ 0 ∷ []) $
+      nothing ! $ move ! (2 ∷ 0 ∷ []) $ fjoin ! $ move ! (1 ∷ 0 ∷ []) $ fjoin ! $ move ! (1 ∷ 0 ∷ []) $ join ! $ frame ! $ done !
 
-  abbrev pub to-step-sss : (ν-numbers : ℕ) (δ-numbers : GName) (ν-deques : ℕ) (δ-deques : GName) (ν-memory : ℕ) (δ-memory : GName) (b-numbers o-numbers n-numbers : ℕ) (numbers : List ℕ) (b-deques o-deques n-deques : ℕ) (deques : List ℕ) (b-memory o-memory n-memory : ℕ) (memory : List ℕ) → Asked.Ghost
-  to-step-sss ν-numbers δ-numbers ν-deques δ-deques ν-memory δ-memory b-numbers o-numbers n-numbers numbers b-deques o-deques n-deques deques b-memory o-memory n-memory memory = ((((ν-numbers ∷ []), ((ν-deques ∷ []), ((ν-memory ∷ []), tt))), (full_share, (full_share, (full_share, tt))), tt, (at_list b-numbers o-numbers δ-numbers numbers, (at_list b-deques o-deques δ-deques deques, (at_list b-memory o-memory δ-memory memory, tt))), (slice_val (b-numbers, o-numbers) n-numbers ∷ [], (slice_val (b-deques, o-deques) n-deques ∷ [], (slice_val (b-memory, o-memory) n-memory ∷ [], tt)))), tt)
+  abbrev pub to-step-ss : (ν-numbers : ℕ) (δ-numbers : GName) (ν-deques : ℕ) (δ-deques : GName) (b-numbers o-numbers n-numbers : ℕ) (numbers : List ℕ) (b-deques o-deques n-deques : ℕ) (deques : List ℕ) → Asked.Ghost
+  to-step-ss ν-numbers δ-numbers ν-deques δ-deques b-numbers o-numbers n-numbers numbers b-deques o-deques n-deques deques = ((((ν-numbers ∷ []), ((ν-deques ∷ []), tt)), (full_share, (full_share, tt)), tt, (at_list b-numbers o-numbers δ-numbers numbers, (at_list b-deques o-deques δ-deques deques, tt)), (slice_val (b-numbers, o-numbers) n-numbers ∷ [], (slice_val (b-deques, o-deques) n-deques ∷ [], tt))), tt)
 
-  pub goes-step-sss : (ν-numbers : ℕ) (δ-numbers : GName) (ν-deques : ℕ) (δ-deques : GName) (ν-memory : ℕ) (δ-memory : GName) (b-numbers o-numbers n-numbers : ℕ) (numbers : List ℕ) (b-deques o-deques n-deques : ℕ) (deques : List ℕ) (b-memory o-memory n-memory : ℕ) (memory : List ℕ) → ent 𝓤 (⋆ 𝓛 (‵ (flft (ν-numbers ∷ []) full_share) ∷ ‵ (flft (ν-deques ∷ []) full_share) ∷ ‵ (flft (ν-memory ∷ []) full_share) ∷ ‵ ((ShrSlice (named 0) (ν-numbers ∷ []) u32).own_val (at_list b-numbers o-numbers δ-numbers numbers) (slice_val (b-numbers, o-numbers) n-numbers ∷ [])) ∷ ‵ ((ShrSlice (named 0) (ν-deques ∷ []) u32).own_val (at_list b-deques o-deques δ-deques deques) (slice_val (b-deques, o-deques) n-deques ∷ [])) ∷ ‵ ((ShrSlice (named 0) (ν-memory ∷ []) u32).own_val (at_list b-memory o-memory δ-memory memory) (slice_val (b-memory, o-memory) n-memory ∷ [])) ∷ [])) (Asked.pre (to-step-sss ν-numbers δ-numbers ν-deques δ-deques ν-memory δ-memory b-numbers o-numbers n-numbers numbers b-deques o-deques n-deques deques b-memory o-memory n-memory memory))
-  goes-step-sss ν-numbers δ-numbers ν-deques δ-deques ν-memory δ-memory b-numbers o-numbers n-numbers numbers b-deques o-deques n-deques deques b-memory o-memory n-memory memory = qed 𝓛 (‵ (flft (ν-numbers ∷ []) full_share) ∷ ‵ (flft (ν-deques ∷ []) full_share) ∷ ‵ (flft (ν-memory ∷ []) full_share) ∷ ‵ ((ShrSlice (named 0) (ν-numbers ∷ []) u32).own_val (at_list b-numbers o-numbers δ-numbers numbers) (slice_val (b-numbers, o-numbers) n-numbers ∷ [])) ∷ ‵ ((ShrSlice (named 0) (ν-deques ∷ []) u32).own_val (at_list b-deques o-deques δ-deques deques) (slice_val (b-deques, o-deques) n-deques ∷ [])) ∷ ‵ ((ShrSlice (named 0) (ν-memory ∷ []) u32).own_val (at_list b-memory o-memory δ-memory memory) (slice_val (b-memory, o-memory) n-memory ∷ [])) ∷ []) ∵ nothing ! $ move ! (1 ∷ 2 ∷ 3 ∷ 0 ∷ []) $ group ! 4 $ move ! (1 ∷ 2 ∷ 3 ∷ 0 ∷ []) $
-      nothing ! $ move ! (3 ∷ 0 ∷ []) $ fjoin ! $ move ! (2 ∷ 0 ∷ []) $ fjoin ! $ move ! (1 ∷ 0 ∷ []) $ fjoin ! $ move ! (1 ∷ 0 ∷ []) $ join ! $ frame ! $ done !
+  pub goes-step-ss : (ν-numbers : ℕ) (δ-numbers : GName) (ν-deques : ℕ) (δ-deques : GName) (b-numbers o-numbers n-numbers : ℕ) (numbers : List ℕ) (b-deques o-deques n-deques : ℕ) (deques : List ℕ) → ent 𝓤 (⋆ 𝓛 (‵ (flft (ν-numbers ∷ []) full_share) ∷ ‵ (flft (ν-deques ∷ []) full_share) ∷ ‵ ((ShrSlice (named 0) (ν-numbers ∷ []) u32).own_val (at_list b-numbers o-numbers δ-numbers numbers) (slice_val (b-numbers, o-numbers) n-numbers ∷ [])) ∷ ‵ ((ShrSlice (named 0) (ν-deques ∷ []) u32).own_val (at_list b-deques o-deques δ-deques deques) (slice_val (b-deques, o-deques) n-deques ∷ [])) ∷ [])) (Asked.pre (to-step-ss ν-numbers δ-numbers ν-deques δ-deques b-numbers o-numbers n-numbers numbers b-deques o-deques n-deques deques))
+  goes-step-ss ν-numbers δ-numbers ν-deques δ-deques b-numbers o-numbers n-numbers numbers b-deques o-deques n-deques deques = qed 𝓛 (‵ (flft (ν-numbers ∷ []) full_share) ∷ ‵ (flft (ν-deques ∷ []) full_share) ∷ ‵ ((ShrSlice (named 0) (ν-numbers ∷ []) u32).own_val (at_list b-numbers o-numbers δ-numbers numbers) (slice_val (b-numbers, o-numbers) n-numbers ∷ [])) ∷ ‵ ((ShrSlice (named 0) (ν-deques ∷ []) u32).own_val (at_list b-deques o-deques δ-deques deques) (slice_val (b-deques, o-deques) n-deques ∷ [])) ∷ []) ∵ nothing ! $ move ! (1 ∷ 2 ∷ 0 ∷ []) $ group ! 3 $ move ! (1 ∷ 2 ∷ 0 ∷ []) $
+      nothing ! $ move ! (2 ∷ 0 ∷ []) $ fjoin ! $ move ! (1 ∷ 0 ∷ []) $ fjoin ! $ move ! (1 ∷ 0 ∷ []) $ join ! $ frame ! $ done !
 
 module _ {M : Type 1} {𝓤 : Ura M} {𝓛 : Logic 𝓤} {K : Type 0} (mem : Memory → SProp 𝓤) (run : Routine → Fun 𝓤)
     {Γ : List (Item 𝓤)} {E : Env 𝓤 𝓛.H} {C : Calls 𝓤 𝓛.H} {Λ : Loops 𝓤 𝓛.H} {post' : Post 𝓤 𝓛.H} {dest' : Place} {name' : Name} {opds' : List Operand} {rest' : Body} where
   open 𝓛 use {H}
 
-  pub step-ggg : K → FmC 𝓤 H 𝓛.laws C → Triple 𝓤 (C name') (Asked 𝓛 mem run) → {κ-numbers : Lft} {q-numbers : Share} {γ-numbers : GName} {κ-deques : Lft} {q-deques : Share} {γ-deques : GName} {κ-memory : Lft} {q-memory : Share} {γ-memory : GName} → (b-numbers o-numbers n-numbers : ℕ) (numbers : List ℕ) (b-deques o-deques n-deques : ℕ) (deques : List ℕ) (b-memory o-memory n-memory : ℕ) (memory : List ℕ) →
-      (Opds K 𝓛 (raw ((Asked 𝓛 mem run).pre (to-step-ggg 𝓛 mem run κ-numbers q-numbers γ-numbers κ-deques q-deques γ-deques κ-memory q-memory γ-memory b-numbers o-numbers n-numbers numbers b-deques o-deques n-deques deques b-memory o-memory n-memory memory)) ∷ ‵ ((ShrSlice (named 0) κ-memory u32).own_val (at_list b-memory o-memory γ-memory memory) (slice_val (b-memory, o-memory) n-memory ∷ [])) ∷ ‵ ((ShrSlice (named 0) κ-deques u32).own_val (at_list b-deques o-deques γ-deques deques) (slice_val (b-deques, o-deques) n-deques ∷ [])) ∷ ‵ ((ShrSlice (named 0) κ-numbers u32).own_val (at_list b-numbers o-numbers γ-numbers numbers) (slice_val (b-numbers, o-numbers) n-numbers ∷ [])) ∷ Γ) E opds' (slice_val (b-numbers, o-numbers) n-numbers ∷ slice_val (b-deques, o-deques) n-deques ∷ slice_val (b-memory, o-memory) n-memory ∷ [])) →
-      ((res' : Bool) → res' ≡ (eqb (length numbers) number_count && eqb (length deques) deque_words) && eqb (length memory) memory_words → Seq K 𝓛 (‵ (Yours u32 κ-numbers q-numbers γ-numbers b-numbers o-numbers n-numbers numbers) ∷ ‵ (Yours u32 κ-deques q-deques γ-deques b-deques o-deques n-deques deques) ∷ ‵ (Yours u32 κ-memory q-memory γ-memory b-memory o-memory n-memory memory) ∷ Γ) (lands C Λ E dest' (vbool res') rest' post')) →
-      Seq K 𝓛 (‵ (Yours u32 κ-numbers q-numbers γ-numbers b-numbers o-numbers n-numbers numbers) ∷ ‵ (Yours u32 κ-deques q-deques γ-deques b-deques o-deques n-deques deques) ∷ ‵ (Yours u32 κ-memory q-memory γ-memory b-memory o-memory n-memory memory) ∷ Γ) (runs C Λ E (seq (call name' opds' dest') rest') post')
-  step-ggg t' fm' known' {κ-numbers} {q-numbers} {γ-numbers} {κ-deques} {q-deques} {γ-deques} {κ-memory} {q-memory} {γ-memory} b-numbers o-numbers n-numbers numbers b-deques o-deques n-deques deques b-memory o-memory n-memory memory os' k' =
-      give t' u32 b-numbers o-numbers n-numbers numbers $ move t' (3 ∷ []) $ give t' u32 b-deques o-deques n-deques deques $ move t' (6 ∷ []) $ give t' u32 b-memory o-memory n-memory memory $
-      move t' (6 ∷ 3 ∷ 0 ∷ 7 ∷ 4 ∷ 1 ∷ []) $ group t' 6 $ use1 𝓛 (raw ((Asked 𝓛 mem run).pre (to-step-ggg 𝓛 mem run κ-numbers q-numbers γ-numbers κ-deques q-deques γ-deques κ-memory q-memory γ-memory b-numbers o-numbers n-numbers numbers b-deques o-deques n-deques deques b-memory o-memory n-memory memory))) (goes-step-ggg 𝓛 mem run κ-numbers q-numbers γ-numbers κ-deques q-deques γ-deques κ-memory q-memory γ-memory b-numbers o-numbers n-numbers numbers b-deques o-deques n-deques deques b-memory o-memory n-memory memory) $
-      calls_at t' fm' (Asked 𝓛 mem run) known' (to-step-ggg 𝓛 mem run κ-numbers q-numbers γ-numbers κ-deques q-deques γ-deques κ-memory q-memory γ-memory b-numbers o-numbers n-numbers numbers b-deques o-deques n-deques deques b-memory o-memory n-memory memory) (os') (λ w'.
-      use1 𝓛 (later (some (λ (res' : Bool). ((‵ (flft κ-numbers q-numbers) ⊛ (‵ (flft κ-deques q-deques) ⊛ (‵ (flft κ-memory q-memory) ⊛ ‵ ftrue))) ⊛ ‵ (bool.own_val res' (w' ∷ []))) ⊛ raw (ensured 𝓛 callee'.ended (callee'.clauses 𝓛 mem run) (κ-numbers, (κ-deques, (κ-memory, tt))) (at_list b-numbers o-numbers γ-numbers numbers, (at_list b-deques o-deques γ-deques deques, (at_list b-memory o-memory γ-memory memory, tt))) tt res')))) (id⊢ 𝓤 _) $ await t' tt $ pick t' (λ res'. split t' $ move t' (1 ∷ []) $
-      use1 𝓛 (some (λ (zs' : Unit {0} × (Unit {0} × (Unit {0} × Unit {0}))). ‵ (lasts callee'.ended (κ-numbers, (κ-deques, (κ-memory, tt))) (at_list b-numbers o-numbers γ-numbers numbers, (at_list b-deques o-deques γ-deques deques, (at_list b-memory o-memory γ-memory memory, tt))) zs') ⊛ raw (fact 𝓤 (res' ≡ (eqb (length numbers) number_count && eqb (length deques) deque_words) && eqb (length memory) memory_words)))) (id⊢ 𝓤 _) $ pick t' (λ zs'. split t' $ move t' (1 ∷ []) $ heard t' (res' ≡ (eqb (length numbers) number_count && eqb (length deques) deque_words) && eqb (length memory) memory_words) (λ e'.
-      fsplit t' $ drop t' $ fsplit t' $ drop t' $ fsplit t' $ drop t' $ drop t' $
-      move t' (0 ∷ []) $ split t' $ move t' (1 ∷ []) $ peeks t' bool (Is bool) (shows 𝓛 bool) res' (w' ∷ []) (λ is'. drop t' $ split t' $ move t' (1 ∷ []) $ split t' $ move t' (1 ∷ []) $ split t' $ move t' (1 ∷ []) $ drop t' $
-      move t' (3 ∷ 0 ∷ []) $ fjoin t' $ move t' (3 ∷ 1 ∷ []) $ fjoin t' $ move t' (3 ∷ 2 ∷ []) $ fjoin t' $
-      subst (λ (v' : Val). Seq K 𝓛 (‵ (Yours u32 κ-numbers q-numbers γ-numbers b-numbers o-numbers n-numbers numbers) ∷ ‵ (Yours u32 κ-deques q-deques γ-deques b-deques o-deques n-deques deques) ∷ ‵ (Yours u32 κ-memory q-memory γ-memory b-memory o-memory n-memory memory) ∷ Γ) (lands C Λ E dest' v' rest' post')) (sym (ap only (bool_Tells res' _ is'))) (k' res' e'))))))
+  pub step-gg : K → FmC 𝓤 H 𝓛.laws C → Triple 𝓤 (C name') (Asked 𝓛 mem run) → {κ-numbers : Lft} {q-numbers : Share} {γ-numbers : GName} {κ-deques : Lft} {q-deques : Share} {γ-deques : GName} → (b-numbers o-numbers n-numbers : ℕ) (numbers : List ℕ) (b-deques o-deques n-deques : ℕ) (deques : List ℕ) →
+      (Opds K 𝓛 (raw ((Asked 𝓛 mem run).pre (to-step-gg 𝓛 mem run κ-numbers q-numbers γ-numbers κ-deques q-deques γ-deques b-numbers o-numbers n-numbers numbers b-deques o-deques n-deques deques)) ∷ ‵ ((ShrSlice (named 0) κ-deques u32).own_val (at_list b-deques o-deques γ-deques deques) (slice_val (b-deques, o-deques) n-deques ∷ [])) ∷ ‵ ((ShrSlice (named 0) κ-numbers u32).own_val (at_list b-numbers o-numbers γ-numbers numbers) (slice_val (b-numbers, o-numbers) n-numbers ∷ [])) ∷ Γ) E opds' (slice_val (b-numbers, o-numbers) n-numbers ∷ slice_val (b-deques, o-deques) n-deques ∷ [])) →
+      ((res' : Bool) → res' ≡ eqb (length numbers) number_count && eqb (length deques) deque_words → Seq K 𝓛 (‵ (Yours u32 κ-numbers q-numbers γ-numbers b-numbers o-numbers n-numbers numbers) ∷ ‵ (Yours u32 κ-deques q-deques γ-deques b-deques o-deques n-deques deques) ∷ Γ) (lands C Λ E dest' (vbool res') rest' post')) →
+      Seq K 𝓛 (‵ (Yours u32 κ-numbers q-numbers γ-numbers b-numbers o-numbers n-numbers numbers) ∷ ‵ (Yours u32 κ-deques q-deques γ-deques b-deques o-deques n-deques deques) ∷ Γ) (runs C Λ E (seq (call name' opds' dest') rest') post')
+  step-gg t' fm' known' {κ-numbers} {q-numbers} {γ-numbers} {κ-deques} {q-deques} {γ-deques} b-numbers o-numbers n-numbers numbers b-deques o-deques n-deques deques os' k' =
+      give t' u32 b-numbers o-numbers n-numbers numbers $ move t' (3 ∷ []) $ give t' u32 b-deques o-deques n-deques deques $
+      move t' (3 ∷ 0 ∷ 4 ∷ 1 ∷ []) $ group t' 4 $ use1 𝓛 (raw ((Asked 𝓛 mem run).pre (to-step-gg 𝓛 mem run κ-numbers q-numbers γ-numbers κ-deques q-deques γ-deques b-numbers o-numbers n-numbers numbers b-deques o-deques n-deques deques))) (goes-step-gg 𝓛 mem run κ-numbers q-numbers γ-numbers κ-deques q-deques γ-deques b-numbers o-numbers n-numbers numbers b-deques o-deques n-deques deques) $
+      calls_at t' fm' (Asked 𝓛 mem run) known' (to-step-gg 𝓛 mem run κ-numbers q-numbers γ-numbers κ-deques q-deques γ-deques b-numbers o-numbers n-numbers numbers b-deques o-deques n-deques deques) (os') (λ w'.
+      use1 𝓛 (later (some (λ (res' : Bool). ((‵ (flft κ-numbers q-numbers) ⊛ (‵ (flft κ-deques q-deques) ⊛ ‵ ftrue)) ⊛ ‵ (bool.own_val res' (w' ∷ []))) ⊛ raw (ensured 𝓛 callee'.ended (callee'.clauses 𝓛 mem run) (κ-numbers, (κ-deques, tt)) (at_list b-numbers o-numbers γ-numbers numbers, (at_list b-deques o-deques γ-deques deques, tt)) tt res')))) (id⊢ 𝓤 _) $ await t' tt $ pick t' (λ res'. split t' $ move t' (1 ∷ []) $
+      use1 𝓛 (some (λ (zs' : Unit {0} × (Unit {0} × Unit {0})). ‵ (lasts callee'.ended (κ-numbers, (κ-deques, tt)) (at_list b-numbers o-numbers γ-numbers numbers, (at_list b-deques o-deques γ-deques deques, tt)) zs') ⊛ raw (fact 𝓤 (res' ≡ eqb (length numbers) number_count && eqb (length deques) deque_words)))) (id⊢ 𝓤 _) $ pick t' (λ zs'. split t' $ move t' (1 ∷ []) $ heard t' (res' ≡ eqb (length numbers) number_count && eqb (length deques) deque_words) (λ e'.
+      fsplit t' $ drop t' $ fsplit t' $ drop t' $ drop t' $
+      move t' (0 ∷ []) $ split t' $ move t' (1 ∷ []) $ peeks t' bool (Is bool) (shows 𝓛 bool) res' (w' ∷ []) (λ is'. drop t' $ split t' $ move t' (1 ∷ []) $ split t' $ move t' (1 ∷ []) $ drop t' $
+      move t' (2 ∷ 0 ∷ []) $ fjoin t' $ move t' (2 ∷ 1 ∷ []) $ fjoin t' $
+      subst (λ (v' : Val). Seq K 𝓛 (‵ (Yours u32 κ-numbers q-numbers γ-numbers b-numbers o-numbers n-numbers numbers) ∷ ‵ (Yours u32 κ-deques q-deques γ-deques b-deques o-deques n-deques deques) ∷ Γ) (lands C Λ E dest' v' rest' post')) (sym (ap only (bool_Tells res' _ is'))) (k' res' e'))))))
 
-  pub step-sss : K → FmC 𝓤 H 𝓛.laws C → Triple 𝓤 (C name') (Asked 𝓛 mem run) → {κ-numbers : Lft} {q-numbers : Share} {γ-numbers : GName} {κ-deques : Lft} {q-deques : Share} {γ-deques : GName} {κ-memory : Lft} {q-memory : Share} {γ-memory : GName} → (b-numbers o-numbers n-numbers : ℕ) (numbers : List ℕ) (b-deques o-deques n-deques : ℕ) (deques : List ℕ) (b-memory o-memory n-memory : ℕ) (memory : List ℕ) → length numbers ≡ n-numbers → Room u32 n-numbers → length deques ≡ n-deques → Room u32 n-deques → length memory ≡ n-memory → Room u32 n-memory →
-      ((ν-numbers : ℕ) (δ-numbers : GName) (ν-deques : ℕ) (δ-deques : GName) (ν-memory : ℕ) (δ-memory : GName) → Opds K 𝓛 (raw ((Asked 𝓛 mem run).pre (to-step-sss 𝓛 mem run ν-numbers δ-numbers ν-deques δ-deques ν-memory δ-memory b-numbers o-numbers n-numbers numbers b-deques o-deques n-deques deques b-memory o-memory n-memory memory)) ∷ ‵ (Shown u32 κ-memory (ν-memory ∷ []) q-memory γ-memory b-memory o-memory memory) ∷ ‵ (Shown u32 κ-deques (ν-deques ∷ []) q-deques γ-deques b-deques o-deques deques) ∷ ‵ (Shown u32 κ-numbers (ν-numbers ∷ []) q-numbers γ-numbers b-numbers o-numbers numbers) ∷ Γ) E opds' (slice_val (b-numbers, o-numbers) n-numbers ∷ slice_val (b-deques, o-deques) n-deques ∷ slice_val (b-memory, o-memory) n-memory ∷ [])) →
-      ((res' : Bool) → res' ≡ (eqb (length numbers) number_count && eqb (length deques) deque_words) && eqb (length memory) memory_words → Seq K 𝓛 (‵ (Mine u32 κ-numbers q-numbers γ-numbers b-numbers o-numbers n-numbers numbers) ∷ ‵ (Mine u32 κ-deques q-deques γ-deques b-deques o-deques n-deques deques) ∷ ‵ (Mine u32 κ-memory q-memory γ-memory b-memory o-memory n-memory memory) ∷ Γ) (lands C Λ E dest' (vbool res') rest' post')) →
-      Seq K 𝓛 (‵ (Mine u32 κ-numbers q-numbers γ-numbers b-numbers o-numbers n-numbers numbers) ∷ ‵ (Mine u32 κ-deques q-deques γ-deques b-deques o-deques n-deques deques) ∷ ‵ (Mine u32 κ-memory q-memory γ-memory b-memory o-memory n-memory memory) ∷ Γ) (runs C Λ E (seq (call name' opds' dest') rest') post')
-  step-sss t' fm' known' {κ-numbers} {q-numbers} {γ-numbers} {κ-deques} {q-deques} {γ-deques} {κ-memory} {q-memory} {γ-memory} b-numbers o-numbers n-numbers numbers b-deques o-deques n-deques deques b-memory o-memory n-memory memory len-numbers room-numbers len-deques room-deques len-memory room-memory os' k' =
-      show t' tt u32 b-numbers o-numbers n-numbers numbers len-numbers (λ ν-numbers δ-numbers. move t' (3 ∷ []) $ show t' tt u32 b-deques o-deques n-deques deques len-deques (λ ν-deques δ-deques. move t' (6 ∷ []) $ show t' tt u32 b-memory o-memory n-memory memory len-memory (λ ν-memory δ-memory.
-      move t' (6 ∷ 3 ∷ 0 ∷ 7 ∷ 4 ∷ 1 ∷ []) $ group t' 6 $ use1 𝓛 (raw ((Asked 𝓛 mem run).pre (to-step-sss 𝓛 mem run ν-numbers δ-numbers ν-deques δ-deques ν-memory δ-memory b-numbers o-numbers n-numbers numbers b-deques o-deques n-deques deques b-memory o-memory n-memory memory))) (goes-step-sss 𝓛 mem run ν-numbers δ-numbers ν-deques δ-deques ν-memory δ-memory b-numbers o-numbers n-numbers numbers b-deques o-deques n-deques deques b-memory o-memory n-memory memory) $
-      calls_at t' fm' (Asked 𝓛 mem run) known' (to-step-sss 𝓛 mem run ν-numbers δ-numbers ν-deques δ-deques ν-memory δ-memory b-numbers o-numbers n-numbers numbers b-deques o-deques n-deques deques b-memory o-memory n-memory memory) (os' ν-numbers δ-numbers ν-deques δ-deques ν-memory δ-memory) (λ w'.
-      use1 𝓛 (later (some (λ (res' : Bool). ((‵ (flft (ν-numbers ∷ []) full_share) ⊛ (‵ (flft (ν-deques ∷ []) full_share) ⊛ (‵ (flft (ν-memory ∷ []) full_share) ⊛ ‵ ftrue))) ⊛ ‵ (bool.own_val res' (w' ∷ []))) ⊛ raw (ensured 𝓛 callee'.ended (callee'.clauses 𝓛 mem run) ((ν-numbers ∷ []), ((ν-deques ∷ []), ((ν-memory ∷ []), tt))) (at_list b-numbers o-numbers δ-numbers numbers, (at_list b-deques o-deques δ-deques deques, (at_list b-memory o-memory δ-memory memory, tt))) tt res')))) (id⊢ 𝓤 _) $ await t' tt $ pick t' (λ res'. split t' $ move t' (1 ∷ []) $
-      use1 𝓛 (some (λ (zs' : Unit {0} × (Unit {0} × (Unit {0} × Unit {0}))). ‵ (lasts callee'.ended ((ν-numbers ∷ []), ((ν-deques ∷ []), ((ν-memory ∷ []), tt))) (at_list b-numbers o-numbers δ-numbers numbers, (at_list b-deques o-deques δ-deques deques, (at_list b-memory o-memory δ-memory memory, tt))) zs') ⊛ raw (fact 𝓤 (res' ≡ (eqb (length numbers) number_count && eqb (length deques) deque_words) && eqb (length memory) memory_words)))) (id⊢ 𝓤 _) $ pick t' (λ zs'. split t' $ move t' (1 ∷ []) $ heard t' (res' ≡ (eqb (length numbers) number_count && eqb (length deques) deque_words) && eqb (length memory) memory_words) (λ e'.
-      fsplit t' $ drop t' $ fsplit t' $ drop t' $ fsplit t' $ drop t' $ drop t' $
-      move t' (0 ∷ []) $ split t' $ move t' (1 ∷ []) $ peeks t' bool (Is bool) (shows 𝓛 bool) res' (w' ∷ []) (λ is'. drop t' $ split t' $ move t' (1 ∷ []) $ split t' $ move t' (1 ∷ []) $ split t' $ move t' (1 ∷ []) $ drop t' $
-      move t' (0 ∷ 3 ∷ []) $ back t' tt u32 b-memory o-memory n-memory memory len-memory room-memory $ move t' (1 ∷ 3 ∷ []) $ back t' tt u32 b-deques o-deques n-deques deques len-deques room-deques $ move t' (2 ∷ 3 ∷ []) $ back t' tt u32 b-numbers o-numbers n-numbers numbers len-numbers room-numbers $
-      subst (λ (v' : Val). Seq K 𝓛 (‵ (Mine u32 κ-numbers q-numbers γ-numbers b-numbers o-numbers n-numbers numbers) ∷ ‵ (Mine u32 κ-deques q-deques γ-deques b-deques o-deques n-deques deques) ∷ ‵ (Mine u32 κ-memory q-memory γ-memory b-memory o-memory n-memory memory) ∷ Γ) (lands C Λ E dest' v' rest' post')) (sym (ap only (bool_Tells res' _ is'))) (k' res' e')))))))))
+  pub step-ss : K → FmC 𝓤 H 𝓛.laws C → Triple 𝓤 (C name') (Asked 𝓛 mem run) → {κ-numbers : Lft} {q-numbers : Share} {γ-numbers : GName} {κ-deques : Lft} {q-deques : Share} {γ-deques : GName} → (b-numbers o-numbers n-numbers : ℕ) (numbers : List ℕ) (b-deques o-deques n-deques : ℕ) (deques : List ℕ) → length numbers ≡ n-numbers → Room u32 n-numbers → length deques ≡ n-deques → Room u32 n-deques →
+      ((ν-numbers : ℕ) (δ-numbers : GName) (ν-deques : ℕ) (δ-deques : GName) → Opds K 𝓛 (raw ((Asked 𝓛 mem run).pre (to-step-ss 𝓛 mem run ν-numbers δ-numbers ν-deques δ-deques b-numbers o-numbers n-numbers numbers b-deques o-deques n-deques deques)) ∷ ‵ (Shown u32 κ-deques (ν-deques ∷ []) q-deques γ-deques b-deques o-deques deques) ∷ ‵ (Shown u32 κ-numbers (ν-numbers ∷ []) q-numbers γ-numbers b-numbers o-numbers numbers) ∷ Γ) E opds' (slice_val (b-numbers, o-numbers) n-numbers ∷ slice_val (b-deques, o-deques) n-deques ∷ [])) →
+      ((res' : Bool) → res' ≡ eqb (length numbers) number_count && eqb (length deques) deque_words → Seq K 𝓛 (‵ (Mine u32 κ-numbers q-numbers γ-numbers b-numbers o-numbers n-numbers numbers) ∷ ‵ (Mine u32 κ-deques q-deques γ-deques b-deques o-deques n-deques deques) ∷ Γ) (lands C Λ E dest' (vbool res') rest' post')) →
+      Seq K 𝓛 (‵ (Mine u32 κ-numbers q-numbers γ-numbers b-numbers o-numbers n-numbers numbers) ∷ ‵ (Mine u32 κ-deques q-deques γ-deques b-deques o-deques n-deques deques) ∷ Γ) (runs C Λ E (seq (call name' opds' dest') rest') post')
+  step-ss t' fm' known' {κ-numbers} {q-numbers} {γ-numbers} {κ-deques} {q-deques} {γ-deques} b-numbers o-numbers n-numbers numbers b-deques o-deques n-deques deques len-numbers room-numbers len-deques room-deques os' k' =
+      show t' tt u32 b-numbers o-numbers n-numbers numbers len-numbers (λ ν-numbers δ-numbers. move t' (3 ∷ []) $ show t' tt u32 b-deques o-deques n-deques deques len-deques (λ ν-deques δ-deques.
+      move t' (3 ∷ 0 ∷ 4 ∷ 1 ∷ []) $ group t' 4 $ use1 𝓛 (raw ((Asked 𝓛 mem run).pre (to-step-ss 𝓛 mem run ν-numbers δ-numbers ν-deques δ-deques b-numbers o-numbers n-numbers numbers b-deques o-deques n-deques deques))) (goes-step-ss 𝓛 mem run ν-numbers δ-numbers ν-deques δ-deques b-numbers o-numbers n-numbers numbers b-deques o-deques n-deques deques) $
+      calls_at t' fm' (Asked 𝓛 mem run) known' (to-step-ss 𝓛 mem run ν-numbers δ-numbers ν-deques δ-deques b-numbers o-numbers n-numbers numbers b-deques o-deques n-deques deques) (os' ν-numbers δ-numbers ν-deques δ-deques) (λ w'.
+      use1 𝓛 (later (some (λ (res' : Bool). ((‵ (flft (ν-numbers ∷ []) full_share) ⊛ (‵ (flft (ν-deques ∷ []) full_share) ⊛ ‵ ftrue)) ⊛ ‵ (bool.own_val res' (w' ∷ []))) ⊛ raw (ensured 𝓛 callee'.ended (callee'.clauses 𝓛 mem run) ((ν-numbers ∷ []), ((ν-deques ∷ []), tt)) (at_list b-numbers o-numbers δ-numbers numbers, (at_list b-deques o-deques δ-deques deques, tt)) tt res')))) (id⊢ 𝓤 _) $ await t' tt $ pick t' (λ res'. split t' $ move t' (1 ∷ []) $
+      use1 𝓛 (some (λ (zs' : Unit {0} × (Unit {0} × Unit {0})). ‵ (lasts callee'.ended ((ν-numbers ∷ []), ((ν-deques ∷ []), tt)) (at_list b-numbers o-numbers δ-numbers numbers, (at_list b-deques o-deques δ-deques deques, tt)) zs') ⊛ raw (fact 𝓤 (res' ≡ eqb (length numbers) number_count && eqb (length deques) deque_words)))) (id⊢ 𝓤 _) $ pick t' (λ zs'. split t' $ move t' (1 ∷ []) $ heard t' (res' ≡ eqb (length numbers) number_count && eqb (length deques) deque_words) (λ e'.
+      fsplit t' $ drop t' $ fsplit t' $ drop t' $ drop t' $
+      move t' (0 ∷ []) $ split t' $ move t' (1 ∷ []) $ peeks t' bool (Is bool) (shows 𝓛 bool) res' (w' ∷ []) (λ is'. drop t' $ split t' $ move t' (1 ∷ []) $ split t' $ move t' (1 ∷ []) $ drop t' $
+      move t' (0 ∷ 2 ∷ []) $ back t' tt u32 b-deques o-deques n-deques deques len-deques room-deques $ move t' (1 ∷ 2 ∷ []) $ back t' tt u32 b-numbers o-numbers n-numbers numbers len-numbers room-numbers $
+      subst (λ (v' : Val). Seq K 𝓛 (‵ (Mine u32 κ-numbers q-numbers γ-numbers b-numbers o-numbers n-numbers numbers) ∷ ‵ (Mine u32 κ-deques q-deques γ-deques b-deques o-deques n-deques deques) ∷ Γ) (lands C Λ E dest' v' rest' post')) (sym (ap only (bool_Tells res' _ is'))) (k' res' e'))))))))

@@ -1,9 +1,13 @@
 -- Written by tools/walk: the call of `engine::reporting::report_on` as a step of a walk. Do not edit: write it again.
 -- The operands are read in the context [what the callee asks; the loans; Γ], where an entry of Γ stands one further on than before the call.
-use Rattle.std.proofs.Common.{◌≡◌, ℕ, ◌*◌, ◌^◌, ◌<◌, Bool, List, [], ◌∷◌, length, sym, refl, ap, subst, w8, w16, w32, w64}
+use mathlib.Core.Path.{◌≡◌, refl, sym, ap, subst}
+use Prim.Native.Nat.{ℕ, ◌<◌, ◌^◌}
+use mathlib.Core.List.{List, [], ◌∷◌}
+use mathlib.Core.Bool.{Bool}
+use lib.ListN.{length}
 use seplogic.Ra.Ura.{Ura}
 use seplogic.Ra.TreeShare.{full_share}
-use mir.Syntax.{Name, Place, Opd as Operand, Body, named, seq, call}
+use mir.Syntax.{Name, Place, Opd as Operand, Body, named, w8, w16, w32, w64, seq, call}
 use mir.Val.{Val, vint, vbool, vunit}
 use base.Logic.{SProp, ent, id⊢}
 use base.Fml.{Lft, GName, Share, ftrue, flft}
@@ -28,16 +32,15 @@ use denote.Triple.Statement.{Contract, Triple}
 use denote.Triple.Call.{calls_at, calls_at_last}
 use denote.Triple.Clauses.{ensured, lasts}
 use denote.Triple.Walked.{says}
+use Prim.Native.Nat.{◌*◌}
 use Rattle.semantics.specs.Promises.{parts, lent, Fits, IsReport}
-use Rattle.semantics.specs.Remembering.{report_memory}
-use Rattle.memory.specs.Memory.{memory_words}
 use Rattle.semantics.specs.Report.{report_with}
-use Rattle.soundness.specs.Layout.{two_words}
 use Rattle.frames.specs.contracts.Frame as M-Frame
 use Rattle.frames.proofs.Frame.TheLaws as L-Frame
 use Rattle.frames.specs.declared.Frame.{Frame}
 use Rattle.frames.proofs.Lent.{at_list, Mine, Yours, Lent, Shown, lend, home, show, back, give}
 use Rattle.engine.specs.contracts.reporting.report_on as callee'
+use Rattle.soundness.specs.Layout.{two_words}
 
 abbrev R-Frame : RattleType
 R-Frame = M-Frame.the_row
@@ -49,28 +52,28 @@ module _ {M : Type 1} {𝓤 : Ura M} (𝓛 : Logic 𝓤) (mem : Memory → SProp
   abbrev pub Asked : Contract 𝓤
   Asked = triple_of 𝓛 callee'.signature (callee'.spec 𝓛 mem run)
 
-  abbrev pub to-step-gg : (ν-numbers : ℕ) (δ-numbers : GName) (ν-deques : ℕ) (δ-deques : GName) (ν-frames : ℕ) (δ-frames : GName) (ν-memory : ℕ) (δ-memory : GName) (κ-values : Lft) (q-values : Share) (γ-values : GName) (ν-pool : ℕ) (δ-pool : GName) (ν-work : ℕ) (δ-work : GName) (κ-tape : Lft) (q-tape : Share) (γ-tape : GName) (ν-answers : ℕ) (δ-answers : GName) (ν-clocks : ℕ) (δ-clocks : GName) (ν-report : ℕ) (δ-report : GName) (b-numbers o-numbers n-numbers : ℕ) (numbers : List ℕ) (b-deques o-deques n-deques : ℕ) (deques : List ℕ) (b-frames o-frames n-frames : ℕ) (frames : List Frame) (b-memory o-memory n-memory : ℕ) (memory : List ℕ) (b-values o-values n-values : ℕ) (values : List ℕ) (b-pool o-pool n-pool : ℕ) (pool : List ℕ) (b-work o-work n-work : ℕ) (work : List ℕ) (b-tape o-tape n-tape : ℕ) (tape : List ℕ) (b-answers o-answers n-answers : ℕ) (answers : List ℕ) (b-clocks o-clocks n-clocks : ℕ) (clocks : List ℕ) (b-report o-report n-report : ℕ) (report : List ℕ) (workers : ℕ) → Asked.Ghost
-  to-step-gg ν-numbers δ-numbers ν-deques δ-deques ν-frames δ-frames ν-memory δ-memory κ-values q-values γ-values ν-pool δ-pool ν-work δ-work κ-tape q-tape γ-tape ν-answers δ-answers ν-clocks δ-clocks ν-report δ-report b-numbers o-numbers n-numbers numbers b-deques o-deques n-deques deques b-frames o-frames n-frames frames b-memory o-memory n-memory memory b-values o-values n-values values b-pool o-pool n-pool pool b-work o-work n-work work b-tape o-tape n-tape tape b-answers o-answers n-answers answers b-clocks o-clocks n-clocks clocks b-report o-report n-report report workers = ((((ν-numbers ∷ []), ((ν-deques ∷ []), ((ν-frames ∷ []), ((ν-memory ∷ []), (κ-values, ((ν-pool ∷ []), ((ν-work ∷ []), (κ-tape, ((ν-answers ∷ []), ((ν-clocks ∷ []), ((ν-report ∷ []), tt))))))))))), (full_share, (full_share, (full_share, (full_share, (q-values, (full_share, (full_share, (q-tape, (full_share, (full_share, (full_share, tt))))))))))), tt, (at_list b-numbers o-numbers δ-numbers numbers, (at_list b-deques o-deques δ-deques deques, (at_list b-frames o-frames δ-frames frames, (at_list b-memory o-memory δ-memory memory, (workers, (at_list b-values o-values γ-values values, (at_list b-pool o-pool δ-pool pool, (at_list b-work o-work δ-work work, (at_list b-tape o-tape γ-tape tape, (at_list b-answers o-answers δ-answers answers, (at_list b-clocks o-clocks δ-clocks clocks, (at_list b-report o-report δ-report report, tt)))))))))))), (slice_val (b-numbers, o-numbers) n-numbers ∷ [], (slice_val (b-deques, o-deques) n-deques ∷ [], (slice_val (b-frames, o-frames) n-frames ∷ [], (slice_val (b-memory, o-memory) n-memory ∷ [], (vint w32 workers ∷ [], (slice_val (b-values, o-values) n-values ∷ [], (slice_val (b-pool, o-pool) n-pool ∷ [], (slice_val (b-work, o-work) n-work ∷ [], (slice_val (b-tape, o-tape) n-tape ∷ [], (slice_val (b-answers, o-answers) n-answers ∷ [], (slice_val (b-clocks, o-clocks) n-clocks ∷ [], (slice_val (b-report, o-report) n-report ∷ [], tt))))))))))))), tt)
+  abbrev pub to-step-gg : (ν-numbers : ℕ) (δ-numbers : GName) (ν-deques : ℕ) (δ-deques : GName) (ν-frames : ℕ) (δ-frames : GName) (κ-values : Lft) (q-values : Share) (γ-values : GName) (ν-pool : ℕ) (δ-pool : GName) (ν-work : ℕ) (δ-work : GName) (κ-tape : Lft) (q-tape : Share) (γ-tape : GName) (ν-answers : ℕ) (δ-answers : GName) (ν-clocks : ℕ) (δ-clocks : GName) (ν-report : ℕ) (δ-report : GName) (b-numbers o-numbers n-numbers : ℕ) (numbers : List ℕ) (b-deques o-deques n-deques : ℕ) (deques : List ℕ) (b-frames o-frames n-frames : ℕ) (frames : List Frame) (b-values o-values n-values : ℕ) (values : List ℕ) (b-pool o-pool n-pool : ℕ) (pool : List ℕ) (b-work o-work n-work : ℕ) (work : List ℕ) (b-tape o-tape n-tape : ℕ) (tape : List ℕ) (b-answers o-answers n-answers : ℕ) (answers : List ℕ) (b-clocks o-clocks n-clocks : ℕ) (clocks : List ℕ) (b-report o-report n-report : ℕ) (report : List ℕ) (workers : ℕ) → Asked.Ghost
+  to-step-gg ν-numbers δ-numbers ν-deques δ-deques ν-frames δ-frames κ-values q-values γ-values ν-pool δ-pool ν-work δ-work κ-tape q-tape γ-tape ν-answers δ-answers ν-clocks δ-clocks ν-report δ-report b-numbers o-numbers n-numbers numbers b-deques o-deques n-deques deques b-frames o-frames n-frames frames b-values o-values n-values values b-pool o-pool n-pool pool b-work o-work n-work work b-tape o-tape n-tape tape b-answers o-answers n-answers answers b-clocks o-clocks n-clocks clocks b-report o-report n-report report workers = ((((ν-numbers ∷ []), ((ν-deques ∷ []), ((ν-frames ∷ []), (κ-values, ((ν-pool ∷ []), ((ν-work ∷ []), (κ-tape, ((ν-answers ∷ []), ((ν-clocks ∷ []), ((ν-report ∷ []), tt)))))))))), (full_share, (full_share, (full_share, (q-values, (full_share, (full_share, (q-tape, (full_share, (full_share, (full_share, tt)))))))))), tt, (at_list b-numbers o-numbers δ-numbers numbers, (at_list b-deques o-deques δ-deques deques, (at_list b-frames o-frames δ-frames frames, (workers, (at_list b-values o-values γ-values values, (at_list b-pool o-pool δ-pool pool, (at_list b-work o-work δ-work work, (at_list b-tape o-tape γ-tape tape, (at_list b-answers o-answers δ-answers answers, (at_list b-clocks o-clocks δ-clocks clocks, (at_list b-report o-report δ-report report, tt))))))))))), (slice_val (b-numbers, o-numbers) n-numbers ∷ [], (slice_val (b-deques, o-deques) n-deques ∷ [], (slice_val (b-frames, o-frames) n-frames ∷ [], (vint w32 workers ∷ [], (slice_val (b-values, o-values) n-values ∷ [], (slice_val (b-pool, o-pool) n-pool ∷ [], (slice_val (b-work, o-work) n-work ∷ [], (slice_val (b-tape, o-tape) n-tape ∷ [], (slice_val (b-answers, o-answers) n-answers ∷ [], (slice_val (b-clocks, o-clocks) n-clocks ∷ [], (slice_val (b-report, o-report) n-report ∷ [], tt)))))))))))), tt)
 
-  pub goes-step-gg : (ν-numbers : ℕ) (δ-numbers : GName) (ν-deques : ℕ) (δ-deques : GName) (ν-frames : ℕ) (δ-frames : GName) (ν-memory : ℕ) (δ-memory : GName) (κ-values : Lft) (q-values : Share) (γ-values : GName) (ν-pool : ℕ) (δ-pool : GName) (ν-work : ℕ) (δ-work : GName) (κ-tape : Lft) (q-tape : Share) (γ-tape : GName) (ν-answers : ℕ) (δ-answers : GName) (ν-clocks : ℕ) (δ-clocks : GName) (ν-report : ℕ) (δ-report : GName) (b-numbers o-numbers n-numbers : ℕ) (numbers : List ℕ) (b-deques o-deques n-deques : ℕ) (deques : List ℕ) (b-frames o-frames n-frames : ℕ) (frames : List Frame) (b-memory o-memory n-memory : ℕ) (memory : List ℕ) (b-values o-values n-values : ℕ) (values : List ℕ) (b-pool o-pool n-pool : ℕ) (pool : List ℕ) (b-work o-work n-work : ℕ) (work : List ℕ) (b-tape o-tape n-tape : ℕ) (tape : List ℕ) (b-answers o-answers n-answers : ℕ) (answers : List ℕ) (b-clocks o-clocks n-clocks : ℕ) (clocks : List ℕ) (b-report o-report n-report : ℕ) (report : List ℕ) (workers : ℕ) → (workers-good : workers < 2 ^ 32) (ok' : Fits (parts numbers deques frames) × (length clocks ≡ 2 * length frames) × (length report ≡ 4) × (length memory ≡ memory_words)) → ent 𝓤 (⋆ 𝓛 (‵ (flft (ν-numbers ∷ []) full_share) ∷ ‵ (flft (ν-deques ∷ []) full_share) ∷ ‵ (flft (ν-frames ∷ []) full_share) ∷ ‵ (flft (ν-memory ∷ []) full_share) ∷ ‵ (flft κ-values q-values) ∷ ‵ (flft (ν-pool ∷ []) full_share) ∷ ‵ (flft (ν-work ∷ []) full_share) ∷ ‵ (flft κ-tape q-tape) ∷ ‵ (flft (ν-answers ∷ []) full_share) ∷ ‵ (flft (ν-clocks ∷ []) full_share) ∷ ‵ (flft (ν-report ∷ []) full_share) ∷ ‵ ((MutSlice (named 0) (ν-numbers ∷ []) u32).own_val (at_list b-numbers o-numbers δ-numbers numbers) (slice_val (b-numbers, o-numbers) n-numbers ∷ [])) ∷ ‵ ((MutSlice (named 0) (ν-deques ∷ []) u32).own_val (at_list b-deques o-deques δ-deques deques) (slice_val (b-deques, o-deques) n-deques ∷ [])) ∷ ‵ ((MutSlice (named 0) (ν-frames ∷ []) R-Frame).own_val (at_list b-frames o-frames δ-frames frames) (slice_val (b-frames, o-frames) n-frames ∷ [])) ∷ ‵ ((MutSlice (named 0) (ν-memory ∷ []) u32).own_val (at_list b-memory o-memory δ-memory memory) (slice_val (b-memory, o-memory) n-memory ∷ [])) ∷ ‵ ((ShrSlice (named 0) κ-values u32).own_val (at_list b-values o-values γ-values values) (slice_val (b-values, o-values) n-values ∷ [])) ∷ ‵ ((MutSlice (named 0) (ν-pool ∷ []) u32).own_val (at_list b-pool o-pool δ-pool pool) (slice_val (b-pool, o-pool) n-pool ∷ [])) ∷ ‵ ((MutSlice (named 0) (ν-work ∷ []) u32).own_val (at_list b-work o-work δ-work work) (slice_val (b-work, o-work) n-work ∷ [])) ∷ ‵ ((ShrSlice (named 0) κ-tape u8).own_val (at_list b-tape o-tape γ-tape tape) (slice_val (b-tape, o-tape) n-tape ∷ [])) ∷ ‵ ((MutSlice (named 0) (ν-answers ∷ []) u32).own_val (at_list b-answers o-answers δ-answers answers) (slice_val (b-answers, o-answers) n-answers ∷ [])) ∷ ‵ ((MutSlice (named 0) (ν-clocks ∷ []) u64).own_val (at_list b-clocks o-clocks δ-clocks clocks) (slice_val (b-clocks, o-clocks) n-clocks ∷ [])) ∷ ‵ ((MutSlice (named 0) (ν-report ∷ []) u64).own_val (at_list b-report o-report δ-report report) (slice_val (b-report, o-report) n-report ∷ [])) ∷ [])) (Asked.pre (to-step-gg ν-numbers δ-numbers ν-deques δ-deques ν-frames δ-frames ν-memory δ-memory κ-values q-values γ-values ν-pool δ-pool ν-work δ-work κ-tape q-tape γ-tape ν-answers δ-answers ν-clocks δ-clocks ν-report δ-report b-numbers o-numbers n-numbers numbers b-deques o-deques n-deques deques b-frames o-frames n-frames frames b-memory o-memory n-memory memory b-values o-values n-values values b-pool o-pool n-pool pool b-work o-work n-work work b-tape o-tape n-tape tape b-answers o-answers n-answers answers b-clocks o-clocks n-clocks clocks b-report o-report n-report report workers))
-  goes-step-gg ν-numbers δ-numbers ν-deques δ-deques ν-frames δ-frames ν-memory δ-memory κ-values q-values γ-values ν-pool δ-pool ν-work δ-work κ-tape q-tape γ-tape ν-answers δ-answers ν-clocks δ-clocks ν-report δ-report b-numbers o-numbers n-numbers numbers b-deques o-deques n-deques deques b-frames o-frames n-frames frames b-memory o-memory n-memory memory b-values o-values n-values values b-pool o-pool n-pool pool b-work o-work n-work work b-tape o-tape n-tape tape b-answers o-answers n-answers answers b-clocks o-clocks n-clocks clocks b-report o-report n-report report workers workers-good ok' = qed 𝓛 (‵ (flft (ν-numbers ∷ []) full_share) ∷ ‵ (flft (ν-deques ∷ []) full_share) ∷ ‵ (flft (ν-frames ∷ []) full_share) ∷ ‵ (flft (ν-memory ∷ []) full_share) ∷ ‵ (flft κ-values q-values) ∷ ‵ (flft (ν-pool ∷ []) full_share) ∷ ‵ (flft (ν-work ∷ []) full_share) ∷ ‵ (flft κ-tape q-tape) ∷ ‵ (flft (ν-answers ∷ []) full_share) ∷ ‵ (flft (ν-clocks ∷ []) full_share) ∷ ‵ (flft (ν-report ∷ []) full_share) ∷ ‵ ((MutSlice (named 0) (ν-numbers ∷ []) u32).own_val (at_list b-numbers o-numbers δ-numbers numbers) (slice_val (b-numbers, o-numbers) n-numbers ∷ [])) ∷ ‵ ((MutSlice (named 0) (ν-deques ∷ []) u32).own_val (at_list b-deques o-deques δ-deques deques) (slice_val (b-deques, o-deques) n-deques ∷ [])) ∷ ‵ ((MutSlice (named 0) (ν-frames ∷ []) R-Frame).own_val (at_list b-frames o-frames δ-frames frames) (slice_val (b-frames, o-frames) n-frames ∷ [])) ∷ ‵ ((MutSlice (named 0) (ν-memory ∷ []) u32).own_val (at_list b-memory o-memory δ-memory memory) (slice_val (b-memory, o-memory) n-memory ∷ [])) ∷ ‵ ((ShrSlice (named 0) κ-values u32).own_val (at_list b-values o-values γ-values values) (slice_val (b-values, o-values) n-values ∷ [])) ∷ ‵ ((MutSlice (named 0) (ν-pool ∷ []) u32).own_val (at_list b-pool o-pool δ-pool pool) (slice_val (b-pool, o-pool) n-pool ∷ [])) ∷ ‵ ((MutSlice (named 0) (ν-work ∷ []) u32).own_val (at_list b-work o-work δ-work work) (slice_val (b-work, o-work) n-work ∷ [])) ∷ ‵ ((ShrSlice (named 0) κ-tape u8).own_val (at_list b-tape o-tape γ-tape tape) (slice_val (b-tape, o-tape) n-tape ∷ [])) ∷ ‵ ((MutSlice (named 0) (ν-answers ∷ []) u32).own_val (at_list b-answers o-answers δ-answers answers) (slice_val (b-answers, o-answers) n-answers ∷ [])) ∷ ‵ ((MutSlice (named 0) (ν-clocks ∷ []) u64).own_val (at_list b-clocks o-clocks δ-clocks clocks) (slice_val (b-clocks, o-clocks) n-clocks ∷ [])) ∷ ‵ ((MutSlice (named 0) (ν-report ∷ []) u64).own_val (at_list b-report o-report δ-report report) (slice_val (b-report, o-report) n-report ∷ [])) ∷ []) ∵ says ! ok' $ nothing ! $ move ! (1 ∷ 2 ∷ 3 ∷ 4 ∷ 5 ∷ 6 ∷ 7 ∷ 8 ∷ 9 ∷ 10 ∷ 11 ∷ 0 ∷ []) $ group ! 12 $ frame ! $
-      nothing ! $ move ! (11 ∷ 0 ∷ []) $ fjoin ! $ move ! (10 ∷ 0 ∷ []) $ fjoin ! $ move ! (9 ∷ 0 ∷ []) $ fjoin ! $ move ! (8 ∷ 0 ∷ []) $ fjoin ! $ move ! (7 ∷ 0 ∷ []) $ fjoin ! $ move ! (6 ∷ 0 ∷ []) $ fjoin ! $ move ! (5 ∷ 0 ∷ []) $ fjoin ! $ owned ! u32 (Is u32) (uint_Makes 𝓛 w32) workers _ (refl, workers-good) $ fjoin ! $ move ! (4 ∷ 0 ∷ []) $ fjoin ! $ move ! (3 ∷ 0 ∷ []) $ fjoin ! $ move ! (2 ∷ 0 ∷ []) $ fjoin ! $ move ! (1 ∷ 0 ∷ []) $ fjoin ! $ done !
+  pub goes-step-gg : (ν-numbers : ℕ) (δ-numbers : GName) (ν-deques : ℕ) (δ-deques : GName) (ν-frames : ℕ) (δ-frames : GName) (κ-values : Lft) (q-values : Share) (γ-values : GName) (ν-pool : ℕ) (δ-pool : GName) (ν-work : ℕ) (δ-work : GName) (κ-tape : Lft) (q-tape : Share) (γ-tape : GName) (ν-answers : ℕ) (δ-answers : GName) (ν-clocks : ℕ) (δ-clocks : GName) (ν-report : ℕ) (δ-report : GName) (b-numbers o-numbers n-numbers : ℕ) (numbers : List ℕ) (b-deques o-deques n-deques : ℕ) (deques : List ℕ) (b-frames o-frames n-frames : ℕ) (frames : List Frame) (b-values o-values n-values : ℕ) (values : List ℕ) (b-pool o-pool n-pool : ℕ) (pool : List ℕ) (b-work o-work n-work : ℕ) (work : List ℕ) (b-tape o-tape n-tape : ℕ) (tape : List ℕ) (b-answers o-answers n-answers : ℕ) (answers : List ℕ) (b-clocks o-clocks n-clocks : ℕ) (clocks : List ℕ) (b-report o-report n-report : ℕ) (report : List ℕ) (workers : ℕ) → (workers-good : workers < 2 ^ 32) (ok' : Fits (parts numbers deques frames) × (length clocks ≡ 2 * length frames) × (length report ≡ 4)) → ent 𝓤 (⋆ 𝓛 (‵ (flft (ν-numbers ∷ []) full_share) ∷ ‵ (flft (ν-deques ∷ []) full_share) ∷ ‵ (flft (ν-frames ∷ []) full_share) ∷ ‵ (flft κ-values q-values) ∷ ‵ (flft (ν-pool ∷ []) full_share) ∷ ‵ (flft (ν-work ∷ []) full_share) ∷ ‵ (flft κ-tape q-tape) ∷ ‵ (flft (ν-answers ∷ []) full_share) ∷ ‵ (flft (ν-clocks ∷ []) full_share) ∷ ‵ (flft (ν-report ∷ []) full_share) ∷ ‵ ((MutSlice (named 0) (ν-numbers ∷ []) u32).own_val (at_list b-numbers o-numbers δ-numbers numbers) (slice_val (b-numbers, o-numbers) n-numbers ∷ [])) ∷ ‵ ((MutSlice (named 0) (ν-deques ∷ []) u32).own_val (at_list b-deques o-deques δ-deques deques) (slice_val (b-deques, o-deques) n-deques ∷ [])) ∷ ‵ ((MutSlice (named 0) (ν-frames ∷ []) R-Frame).own_val (at_list b-frames o-frames δ-frames frames) (slice_val (b-frames, o-frames) n-frames ∷ [])) ∷ ‵ ((ShrSlice (named 0) κ-values u32).own_val (at_list b-values o-values γ-values values) (slice_val (b-values, o-values) n-values ∷ [])) ∷ ‵ ((MutSlice (named 0) (ν-pool ∷ []) u32).own_val (at_list b-pool o-pool δ-pool pool) (slice_val (b-pool, o-pool) n-pool ∷ [])) ∷ ‵ ((MutSlice (named 0) (ν-work ∷ []) u32).own_val (at_list b-work o-work δ-work work) (slice_val (b-work, o-work) n-work ∷ [])) ∷ ‵ ((ShrSlice (named 0) κ-tape u8).own_val (at_list b-tape o-tape γ-tape tape) (slice_val (b-tape, o-tape) n-tape ∷ [])) ∷ ‵ ((MutSlice (named 0) (ν-answers ∷ []) u32).own_val (at_list b-answers o-answers δ-answers answers) (slice_val (b-answers, o-answers) n-answers ∷ [])) ∷ ‵ ((MutSlice (named 0) (ν-clocks ∷ []) u64).own_val (at_list b-clocks o-clocks δ-clocks clocks) (slice_val (b-clocks, o-clocks) n-clocks ∷ [])) ∷ ‵ ((MutSlice (named 0) (ν-report ∷ []) u64).own_val (at_list b-report o-report δ-report report) (slice_val (b-report, o-report) n-report ∷ [])) ∷ [])) (Asked.pre (to-step-gg ν-numbers δ-numbers ν-deques δ-deques ν-frames δ-frames κ-values q-values γ-values ν-pool δ-pool ν-work δ-work κ-tape q-tape γ-tape ν-answers δ-answers ν-clocks δ-clocks ν-report δ-report b-numbers o-numbers n-numbers numbers b-deques o-deques n-deques deques b-frames o-frames n-frames frames b-values o-values n-values values b-pool o-pool n-pool pool b-work o-work n-work work b-tape o-tape n-tape tape b-answers o-answers n-answers answers b-clocks o-clocks n-clocks clocks b-report o-report n-report report workers))
+  goes-step-gg ν-numbers δ-numbers ν-deques δ-deques ν-frames δ-frames κ-values q-values γ-values ν-pool δ-pool ν-work δ-work κ-tape q-tape γ-tape ν-answers δ-answers ν-clocks δ-clocks ν-report δ-report b-numbers o-numbers n-numbers numbers b-deques o-deques n-deques deques b-frames o-frames n-frames frames b-values o-values n-values values b-pool o-pool n-pool pool b-work o-work n-work work b-tape o-tape n-tape tape b-answers o-answers n-answers answers b-clocks o-clocks n-clocks clocks b-report o-report n-report report workers workers-good ok' = qed 𝓛 (‵ (flft (ν-numbers ∷ []) full_share) ∷ ‵ (flft (ν-deques ∷ []) full_share) ∷ ‵ (flft (ν-frames ∷ []) full_share) ∷ ‵ (flft κ-values q-values) ∷ ‵ (flft (ν-pool ∷ []) full_share) ∷ ‵ (flft (ν-work ∷ []) full_share) ∷ ‵ (flft κ-tape q-tape) ∷ ‵ (flft (ν-answers ∷ []) full_share) ∷ ‵ (flft (ν-clocks ∷ []) full_share) ∷ ‵ (flft (ν-report ∷ []) full_share) ∷ ‵ ((MutSlice (named 0) (ν-numbers ∷ []) u32).own_val (at_list b-numbers o-numbers δ-numbers numbers) (slice_val (b-numbers, o-numbers) n-numbers ∷ [])) ∷ ‵ ((MutSlice (named 0) (ν-deques ∷ []) u32).own_val (at_list b-deques o-deques δ-deques deques) (slice_val (b-deques, o-deques) n-deques ∷ [])) ∷ ‵ ((MutSlice (named 0) (ν-frames ∷ []) R-Frame).own_val (at_list b-frames o-frames δ-frames frames) (slice_val (b-frames, o-frames) n-frames ∷ [])) ∷ ‵ ((ShrSlice (named 0) κ-values u32).own_val (at_list b-values o-values γ-values values) (slice_val (b-values, o-values) n-values ∷ [])) ∷ ‵ ((MutSlice (named 0) (ν-pool ∷ []) u32).own_val (at_list b-pool o-pool δ-pool pool) (slice_val (b-pool, o-pool) n-pool ∷ [])) ∷ ‵ ((MutSlice (named 0) (ν-work ∷ []) u32).own_val (at_list b-work o-work δ-work work) (slice_val (b-work, o-work) n-work ∷ [])) ∷ ‵ ((ShrSlice (named 0) κ-tape u8).own_val (at_list b-tape o-tape γ-tape tape) (slice_val (b-tape, o-tape) n-tape ∷ [])) ∷ ‵ ((MutSlice (named 0) (ν-answers ∷ []) u32).own_val (at_list b-answers o-answers δ-answers answers) (slice_val (b-answers, o-answers) n-answers ∷ [])) ∷ ‵ ((MutSlice (named 0) (ν-clocks ∷ []) u64).own_val (at_list b-clocks o-clocks δ-clocks clocks) (slice_val (b-clocks, o-clocks) n-clocks ∷ [])) ∷ ‵ ((MutSlice (named 0) (ν-report ∷ []) u64).own_val (at_list b-report o-report δ-report report) (slice_val (b-report, o-report) n-report ∷ [])) ∷ []) ∵ says ! ok' $ nothing ! $ move ! (1 ∷ 2 ∷ 3 ∷ 4 ∷ 5 ∷ 6 ∷ 7 ∷ 8 ∷ 9 ∷ 10 ∷ 0 ∷ []) $ group ! 11 $ frame ! $
+      nothing ! $ move ! (10 ∷ 0 ∷ []) $ fjoin ! $ move ! (9 ∷ 0 ∷ []) $ fjoin ! $ move ! (8 ∷ 0 ∷ []) $ fjoin ! $ move ! (7 ∷ 0 ∷ []) $ fjoin ! $ move ! (6 ∷ 0 ∷ []) $ fjoin ! $ move ! (5 ∷ 0 ∷ []) $ fjoin ! $ move ! (4 ∷ 0 ∷ []) $ fjoin ! $ owned ! u32 (Is u32) (uint_Makes 𝓛 w32) workers _ (refl, workers-good) $ fjoin ! $ move ! (3 ∷ 0 ∷ []) $ fjoin ! $ move ! (2 ∷ 0 ∷ []) $ fjoin ! $ move ! (1 ∷ 0 ∷ []) $ fjoin ! $ done !
 
 module _ {M : Type 1} {𝓤 : Ura M} {𝓛 : Logic 𝓤} {K : Type 0} (mem : Memory → SProp 𝓤) (run : Routine → Fun 𝓤)
     {Γ : List (Item 𝓤)} {E : Env 𝓤 𝓛.H} {C : Calls 𝓤 𝓛.H} {Λ : Loops 𝓤 𝓛.H} {post' : Post 𝓤 𝓛.H} {dest' : Place} {name' : Name} {opds' : List Operand} {rest' : Body} where
   open 𝓛 use {H}
 
-  pub step-gg : K → FmC 𝓤 H 𝓛.laws C → Triple 𝓤 (C name') (Asked 𝓛 mem run) → {κ-numbers : Lft} {q-numbers : Share} {γ-numbers : GName} {κ-deques : Lft} {q-deques : Share} {γ-deques : GName} {κ-frames : Lft} {q-frames : Share} {γ-frames : GName} {κ-memory : Lft} {q-memory : Share} {γ-memory : GName} {κ-values : Lft} {q-values : Share} {γ-values : GName} {κ-pool : Lft} {q-pool : Share} {γ-pool : GName} {κ-work : Lft} {q-work : Share} {γ-work : GName} {κ-tape : Lft} {q-tape : Share} {γ-tape : GName} {κ-answers : Lft} {q-answers : Share} {γ-answers : GName} {κ-clocks : Lft} {q-clocks : Share} {γ-clocks : GName} {κ-report : Lft} {q-report : Share} {γ-report : GName} → (b-numbers o-numbers n-numbers : ℕ) (numbers : List ℕ) (b-deques o-deques n-deques : ℕ) (deques : List ℕ) (b-frames o-frames n-frames : ℕ) (frames : List Frame) (b-memory o-memory n-memory : ℕ) (memory : List ℕ) (b-values o-values n-values : ℕ) (values : List ℕ) (b-pool o-pool n-pool : ℕ) (pool : List ℕ) (b-work o-work n-work : ℕ) (work : List ℕ) (b-tape o-tape n-tape : ℕ) (tape : List ℕ) (b-answers o-answers n-answers : ℕ) (answers : List ℕ) (b-clocks o-clocks n-clocks : ℕ) (clocks : List ℕ) (b-report o-report n-report : ℕ) (report : List ℕ) (workers : ℕ) → (workers-good : workers < 2 ^ 32) → Fits (parts numbers deques frames) × (length clocks ≡ 2 * length frames) × (length report ≡ 4) × (length memory ≡ memory_words) → length numbers ≡ n-numbers → Room u32 n-numbers → length deques ≡ n-deques → Room u32 n-deques → length frames ≡ n-frames → Room R-Frame n-frames → length memory ≡ n-memory → Room u32 n-memory → length pool ≡ n-pool → Room u32 n-pool → length work ≡ n-work → Room u32 n-work → length answers ≡ n-answers → Room u32 n-answers → length clocks ≡ n-clocks → Room u64 n-clocks → length report ≡ n-report → Room u64 n-report →
-      ((ν-numbers : ℕ) (δ-numbers : GName) (ν-deques : ℕ) (δ-deques : GName) (ν-frames : ℕ) (δ-frames : GName) (ν-memory : ℕ) (δ-memory : GName) (ν-pool : ℕ) (δ-pool : GName) (ν-work : ℕ) (δ-work : GName) (ν-answers : ℕ) (δ-answers : GName) (ν-clocks : ℕ) (δ-clocks : GName) (ν-report : ℕ) (δ-report : GName) → Opds K 𝓛 (raw ((Asked 𝓛 mem run).pre (to-step-gg 𝓛 mem run ν-numbers δ-numbers ν-deques δ-deques ν-frames δ-frames ν-memory δ-memory κ-values q-values γ-values ν-pool δ-pool ν-work δ-work κ-tape q-tape γ-tape ν-answers δ-answers ν-clocks δ-clocks ν-report δ-report b-numbers o-numbers n-numbers numbers b-deques o-deques n-deques deques b-frames o-frames n-frames frames b-memory o-memory n-memory memory b-values o-values n-values values b-pool o-pool n-pool pool b-work o-work n-work work b-tape o-tape n-tape tape b-answers o-answers n-answers answers b-clocks o-clocks n-clocks clocks b-report o-report n-report report workers)) ∷ ‵ (Lent u64 κ-report (ν-report ∷ []) q-report γ-report b-report o-report δ-report report) ∷ ‵ (Lent u64 κ-clocks (ν-clocks ∷ []) q-clocks γ-clocks b-clocks o-clocks δ-clocks clocks) ∷ ‵ (Lent u32 κ-answers (ν-answers ∷ []) q-answers γ-answers b-answers o-answers δ-answers answers) ∷ ‵ ((ShrSlice (named 0) κ-tape u8).own_val (at_list b-tape o-tape γ-tape tape) (slice_val (b-tape, o-tape) n-tape ∷ [])) ∷ ‵ (Lent u32 κ-work (ν-work ∷ []) q-work γ-work b-work o-work δ-work work) ∷ ‵ (Lent u32 κ-pool (ν-pool ∷ []) q-pool γ-pool b-pool o-pool δ-pool pool) ∷ ‵ ((ShrSlice (named 0) κ-values u32).own_val (at_list b-values o-values γ-values values) (slice_val (b-values, o-values) n-values ∷ [])) ∷ ‵ (Lent u32 κ-memory (ν-memory ∷ []) q-memory γ-memory b-memory o-memory δ-memory memory) ∷ ‵ (Lent R-Frame κ-frames (ν-frames ∷ []) q-frames γ-frames b-frames o-frames δ-frames frames) ∷ ‵ (Lent u32 κ-deques (ν-deques ∷ []) q-deques γ-deques b-deques o-deques δ-deques deques) ∷ ‵ (Lent u32 κ-numbers (ν-numbers ∷ []) q-numbers γ-numbers b-numbers o-numbers δ-numbers numbers) ∷ Γ) E opds' (slice_val (b-numbers, o-numbers) n-numbers ∷ slice_val (b-deques, o-deques) n-deques ∷ slice_val (b-frames, o-frames) n-frames ∷ slice_val (b-memory, o-memory) n-memory ∷ vint w32 workers ∷ slice_val (b-values, o-values) n-values ∷ slice_val (b-pool, o-pool) n-pool ∷ slice_val (b-work, o-work) n-work ∷ slice_val (b-tape, o-tape) n-tape ∷ slice_val (b-answers, o-answers) n-answers ∷ slice_val (b-clocks, o-clocks) n-clocks ∷ slice_val (b-report, o-report) n-report ∷ [])) →
-      ((res' : ℕ) (zs-numbers : List ℕ) (zs-deques : List ℕ) (zs-frames : List Frame) (zs-memory : List ℕ) (zs-pool : List ℕ) (zs-work : List ℕ) (zs-answers : List ℕ) (zs-clocks : List ℕ) (zs-report : List ℕ) → res' < 2 ^ 32 → IsReport (report_with two_words (parts numbers deques frames) workers values pool tape (lent work answers clocks report)) zs-numbers zs-deques zs-frames zs-pool zs-work zs-answers zs-clocks zs-report res' × (zs-memory ≡ report_memory two_words (parts numbers deques frames) workers values pool tape (lent work answers clocks report)) → length zs-numbers ≡ length numbers → length zs-deques ≡ length deques → length zs-frames ≡ length frames → length zs-memory ≡ length memory → length zs-pool ≡ length pool → length zs-work ≡ length work → length zs-answers ≡ length answers → length zs-clocks ≡ length clocks → length zs-report ≡ length report → Seq K 𝓛 (‵ (Mine u32 κ-numbers q-numbers γ-numbers b-numbers o-numbers n-numbers zs-numbers) ∷ ‵ (Mine u32 κ-deques q-deques γ-deques b-deques o-deques n-deques zs-deques) ∷ ‵ (Mine R-Frame κ-frames q-frames γ-frames b-frames o-frames n-frames zs-frames) ∷ ‵ (Mine u32 κ-memory q-memory γ-memory b-memory o-memory n-memory zs-memory) ∷ ‵ (Yours u32 κ-values q-values γ-values b-values o-values n-values values) ∷ ‵ (Mine u32 κ-pool q-pool γ-pool b-pool o-pool n-pool zs-pool) ∷ ‵ (Mine u32 κ-work q-work γ-work b-work o-work n-work zs-work) ∷ ‵ (Yours u8 κ-tape q-tape γ-tape b-tape o-tape n-tape tape) ∷ ‵ (Mine u32 κ-answers q-answers γ-answers b-answers o-answers n-answers zs-answers) ∷ ‵ (Mine u64 κ-clocks q-clocks γ-clocks b-clocks o-clocks n-clocks zs-clocks) ∷ ‵ (Mine u64 κ-report q-report γ-report b-report o-report n-report zs-report) ∷ Γ) (lands C Λ E dest' (vint w32 res') rest' post')) →
-      Seq K 𝓛 (‵ (Mine u32 κ-numbers q-numbers γ-numbers b-numbers o-numbers n-numbers numbers) ∷ ‵ (Mine u32 κ-deques q-deques γ-deques b-deques o-deques n-deques deques) ∷ ‵ (Mine R-Frame κ-frames q-frames γ-frames b-frames o-frames n-frames frames) ∷ ‵ (Mine u32 κ-memory q-memory γ-memory b-memory o-memory n-memory memory) ∷ ‵ (Yours u32 κ-values q-values γ-values b-values o-values n-values values) ∷ ‵ (Mine u32 κ-pool q-pool γ-pool b-pool o-pool n-pool pool) ∷ ‵ (Mine u32 κ-work q-work γ-work b-work o-work n-work work) ∷ ‵ (Yours u8 κ-tape q-tape γ-tape b-tape o-tape n-tape tape) ∷ ‵ (Mine u32 κ-answers q-answers γ-answers b-answers o-answers n-answers answers) ∷ ‵ (Mine u64 κ-clocks q-clocks γ-clocks b-clocks o-clocks n-clocks clocks) ∷ ‵ (Mine u64 κ-report q-report γ-report b-report o-report n-report report) ∷ Γ) (runs C Λ E (seq (call name' opds' dest') rest') post')
-  step-gg t' fm' known' {κ-numbers} {q-numbers} {γ-numbers} {κ-deques} {q-deques} {γ-deques} {κ-frames} {q-frames} {γ-frames} {κ-memory} {q-memory} {γ-memory} {κ-values} {q-values} {γ-values} {κ-pool} {q-pool} {γ-pool} {κ-work} {q-work} {γ-work} {κ-tape} {q-tape} {γ-tape} {κ-answers} {q-answers} {γ-answers} {κ-clocks} {q-clocks} {γ-clocks} {κ-report} {q-report} {γ-report} b-numbers o-numbers n-numbers numbers b-deques o-deques n-deques deques b-frames o-frames n-frames frames b-memory o-memory n-memory memory b-values o-values n-values values b-pool o-pool n-pool pool b-work o-work n-work work b-tape o-tape n-tape tape b-answers o-answers n-answers answers b-clocks o-clocks n-clocks clocks b-report o-report n-report report workers workers-good ok' len-numbers room-numbers len-deques room-deques len-frames room-frames len-memory room-memory len-pool room-pool len-work room-work len-answers room-answers len-clocks room-clocks len-report room-report os' k' =
-      lend t' tt u32 b-numbers o-numbers n-numbers numbers len-numbers (λ ν-numbers δ-numbers. move t' (3 ∷ []) $ lend t' tt u32 b-deques o-deques n-deques deques len-deques (λ ν-deques δ-deques. move t' (6 ∷ []) $ lend t' tt R-Frame b-frames o-frames n-frames frames len-frames (λ ν-frames δ-frames. move t' (9 ∷ []) $ lend t' tt u32 b-memory o-memory n-memory memory len-memory (λ ν-memory δ-memory. move t' (12 ∷ []) $ give t' u32 b-values o-values n-values values $ move t' (15 ∷ []) $ lend t' tt u32 b-pool o-pool n-pool pool len-pool (λ ν-pool δ-pool. move t' (18 ∷ []) $ lend t' tt u32 b-work o-work n-work work len-work (λ ν-work δ-work. move t' (21 ∷ []) $ give t' u8 b-tape o-tape n-tape tape $ move t' (24 ∷ []) $ lend t' tt u32 b-answers o-answers n-answers answers len-answers (λ ν-answers δ-answers. move t' (27 ∷ []) $ lend t' tt u64 b-clocks o-clocks n-clocks clocks len-clocks (λ ν-clocks δ-clocks. move t' (30 ∷ []) $ lend t' tt u64 b-report o-report n-report report len-report (λ ν-report δ-report.
-      move t' (30 ∷ 27 ∷ 24 ∷ 21 ∷ 18 ∷ 15 ∷ 12 ∷ 9 ∷ 6 ∷ 3 ∷ 0 ∷ 31 ∷ 28 ∷ 25 ∷ 22 ∷ 19 ∷ 16 ∷ 13 ∷ 10 ∷ 7 ∷ 4 ∷ 1 ∷ []) $ group t' 22 $ use1 𝓛 (raw ((Asked 𝓛 mem run).pre (to-step-gg 𝓛 mem run ν-numbers δ-numbers ν-deques δ-deques ν-frames δ-frames ν-memory δ-memory κ-values q-values γ-values ν-pool δ-pool ν-work δ-work κ-tape q-tape γ-tape ν-answers δ-answers ν-clocks δ-clocks ν-report δ-report b-numbers o-numbers n-numbers numbers b-deques o-deques n-deques deques b-frames o-frames n-frames frames b-memory o-memory n-memory memory b-values o-values n-values values b-pool o-pool n-pool pool b-work o-work n-work work b-tape o-tape n-tape tape b-answers o-answers n-answers answers b-clocks o-clocks n-clocks clocks b-report o-report n-report report workers))) (goes-step-gg 𝓛 mem run ν-numbers δ-numbers ν-deques δ-deques ν-frames δ-frames ν-memory δ-memory κ-values q-values γ-values ν-pool δ-pool ν-work δ-work κ-tape q-tape γ-tape ν-answers δ-answers ν-clocks δ-clocks ν-report δ-report b-numbers o-numbers n-numbers numbers b-deques o-deques n-deques deques b-frames o-frames n-frames frames b-memory o-memory n-memory memory b-values o-values n-values values b-pool o-pool n-pool pool b-work o-work n-work work b-tape o-tape n-tape tape b-answers o-answers n-answers answers b-clocks o-clocks n-clocks clocks b-report o-report n-report report workers workers-good ok') $
-      calls_at t' fm' (Asked 𝓛 mem run) known' (to-step-gg 𝓛 mem run ν-numbers δ-numbers ν-deques δ-deques ν-frames δ-frames ν-memory δ-memory κ-values q-values γ-values ν-pool δ-pool ν-work δ-work κ-tape q-tape γ-tape ν-answers δ-answers ν-clocks δ-clocks ν-report δ-report b-numbers o-numbers n-numbers numbers b-deques o-deques n-deques deques b-frames o-frames n-frames frames b-memory o-memory n-memory memory b-values o-values n-values values b-pool o-pool n-pool pool b-work o-work n-work work b-tape o-tape n-tape tape b-answers o-answers n-answers answers b-clocks o-clocks n-clocks clocks b-report o-report n-report report workers) (os' ν-numbers δ-numbers ν-deques δ-deques ν-frames δ-frames ν-memory δ-memory ν-pool δ-pool ν-work δ-work ν-answers δ-answers ν-clocks δ-clocks ν-report δ-report) (λ w'.
-      use1 𝓛 (later (some (λ (res' : ℕ). ((‵ (flft (ν-numbers ∷ []) full_share) ⊛ (‵ (flft (ν-deques ∷ []) full_share) ⊛ (‵ (flft (ν-frames ∷ []) full_share) ⊛ (‵ (flft (ν-memory ∷ []) full_share) ⊛ (‵ (flft κ-values q-values) ⊛ (‵ (flft (ν-pool ∷ []) full_share) ⊛ (‵ (flft (ν-work ∷ []) full_share) ⊛ (‵ (flft κ-tape q-tape) ⊛ (‵ (flft (ν-answers ∷ []) full_share) ⊛ (‵ (flft (ν-clocks ∷ []) full_share) ⊛ (‵ (flft (ν-report ∷ []) full_share) ⊛ ‵ ftrue))))))))))) ⊛ ‵ (u32.own_val res' (w' ∷ []))) ⊛ raw (ensured 𝓛 callee'.ended (callee'.clauses 𝓛 mem run) ((ν-numbers ∷ []), ((ν-deques ∷ []), ((ν-frames ∷ []), ((ν-memory ∷ []), (κ-values, ((ν-pool ∷ []), ((ν-work ∷ []), (κ-tape, ((ν-answers ∷ []), ((ν-clocks ∷ []), ((ν-report ∷ []), tt))))))))))) (at_list b-numbers o-numbers δ-numbers numbers, (at_list b-deques o-deques δ-deques deques, (at_list b-frames o-frames δ-frames frames, (at_list b-memory o-memory δ-memory memory, (workers, (at_list b-values o-values γ-values values, (at_list b-pool o-pool δ-pool pool, (at_list b-work o-work δ-work work, (at_list b-tape o-tape γ-tape tape, (at_list b-answers o-answers δ-answers answers, (at_list b-clocks o-clocks δ-clocks clocks, (at_list b-report o-report δ-report report, tt)))))))))))) tt res')))) (id⊢ 𝓤 _) $ await t' tt $ pick t' (λ res'. split t' $ move t' (1 ∷ []) $
-      use1 𝓛 (some (λ (zs' : List ℕ × (List ℕ × (List Frame × (List ℕ × (Unit {0} × (Unit {0} × (List ℕ × (List ℕ × (Unit {0} × (List ℕ × (List ℕ × (List ℕ × Unit {0})))))))))))). ‵ (lasts callee'.ended ((ν-numbers ∷ []), ((ν-deques ∷ []), ((ν-frames ∷ []), ((ν-memory ∷ []), (κ-values, ((ν-pool ∷ []), ((ν-work ∷ []), (κ-tape, ((ν-answers ∷ []), ((ν-clocks ∷ []), ((ν-report ∷ []), tt))))))))))) (at_list b-numbers o-numbers δ-numbers numbers, (at_list b-deques o-deques δ-deques deques, (at_list b-frames o-frames δ-frames frames, (at_list b-memory o-memory δ-memory memory, (workers, (at_list b-values o-values γ-values values, (at_list b-pool o-pool δ-pool pool, (at_list b-work o-work δ-work work, (at_list b-tape o-tape γ-tape tape, (at_list b-answers o-answers δ-answers answers, (at_list b-clocks o-clocks δ-clocks clocks, (at_list b-report o-report δ-report report, tt)))))))))))) zs') ⊛ raw (fact 𝓤 (IsReport (report_with two_words (parts numbers deques frames) workers values pool tape (lent work answers clocks report)) zs'.0 zs'.1.0 zs'.1.1.0 zs'.1.1.1.1.1.1.0 zs'.1.1.1.1.1.1.1.0 zs'.1.1.1.1.1.1.1.1.1.0 zs'.1.1.1.1.1.1.1.1.1.1.0 zs'.1.1.1.1.1.1.1.1.1.1.1.0 res' × (zs'.1.1.1.0 ≡ report_memory two_words (parts numbers deques frames) workers values pool tape (lent work answers clocks report)))))) (id⊢ 𝓤 _) $ pick t' (λ zs'. split t' $ move t' (1 ∷ []) $ heard t' (IsReport (report_with two_words (parts numbers deques frames) workers values pool tape (lent work answers clocks report)) zs'.0 zs'.1.0 zs'.1.1.0 zs'.1.1.1.1.1.1.0 zs'.1.1.1.1.1.1.1.0 zs'.1.1.1.1.1.1.1.1.1.0 zs'.1.1.1.1.1.1.1.1.1.1.0 zs'.1.1.1.1.1.1.1.1.1.1.1.0 res' × (zs'.1.1.1.0 ≡ report_memory two_words (parts numbers deques frames) workers values pool tape (lent work answers clocks report))) (λ e'.
-      fsplit t' $ fsplit t' $ move t' (1 ∷ []) $ feq_l t' (λ same_numbers. move t' (1 ∷ []) $ fsplit t' $ fsplit t' $ move t' (1 ∷ []) $ feq_l t' (λ same-deques. move t' (1 ∷ []) $ fsplit t' $ fsplit t' $ move t' (1 ∷ []) $ feq_l t' (λ same-frames. move t' (1 ∷ []) $ fsplit t' $ fsplit t' $ move t' (1 ∷ []) $ feq_l t' (λ same_memory. move t' (1 ∷ []) $ fsplit t' $ drop t' $ fsplit t' $ drop t' $ fsplit t' $ fsplit t' $ move t' (1 ∷ []) $ feq_l t' (λ same-pool. move t' (1 ∷ []) $ fsplit t' $ fsplit t' $ move t' (1 ∷ []) $ feq_l t' (λ same_work. move t' (1 ∷ []) $ fsplit t' $ drop t' $ fsplit t' $ fsplit t' $ move t' (1 ∷ []) $ feq_l t' (λ same-answers. move t' (1 ∷ []) $ fsplit t' $ fsplit t' $ move t' (1 ∷ []) $ feq_l t' (λ same_clocks. move t' (1 ∷ []) $ fsplit t' $ fsplit t' $ move t' (1 ∷ []) $ feq_l t' (λ same_report. move t' (1 ∷ []) $ drop t' $
-      move t' (9 ∷ []) $ split t' $ move t' (1 ∷ []) $ peeks t' u32 (Is u32) (shows 𝓛 u32) res' (w' ∷ []) (λ is'. drop t' $ split t' $ move t' (1 ∷ []) $ split t' $ move t' (1 ∷ []) $ split t' $ move t' (1 ∷ []) $ split t' $ move t' (1 ∷ []) $ split t' $ move t' (1 ∷ []) $ split t' $ move t' (1 ∷ []) $ split t' $ move t' (1 ∷ []) $ split t' $ move t' (1 ∷ []) $ split t' $ move t' (1 ∷ []) $ split t' $ move t' (1 ∷ []) $ split t' $ move t' (1 ∷ []) $ drop t' $
-      move t' (0 ∷ 20 ∷ 11 ∷ []) $ home t' tt u64 b-report o-report n-report report zs'.1.1.1.1.1.1.1.1.1.1.1.0 len-report room-report same_report $ move t' (1 ∷ 19 ∷ 11 ∷ []) $ home t' tt u64 b-clocks o-clocks n-clocks clocks zs'.1.1.1.1.1.1.1.1.1.1.0 len-clocks room-clocks same_clocks $ move t' (2 ∷ 18 ∷ 11 ∷ []) $ home t' tt u32 b-answers o-answers n-answers answers zs'.1.1.1.1.1.1.1.1.1.0 len-answers room-answers same-answers $ move t' (17 ∷ 3 ∷ []) $ fjoin t' $ move t' (4 ∷ 17 ∷ 11 ∷ []) $ home t' tt u32 b-work o-work n-work work zs'.1.1.1.1.1.1.1.0 len-work room-work same_work $ move t' (5 ∷ 16 ∷ 11 ∷ []) $ home t' tt u32 b-pool o-pool n-pool pool zs'.1.1.1.1.1.1.0 len-pool room-pool same-pool $ move t' (15 ∷ 6 ∷ []) $ fjoin t' $ move t' (7 ∷ 15 ∷ 11 ∷ []) $ home t' tt u32 b-memory o-memory n-memory memory zs'.1.1.1.0 len-memory room-memory same_memory $ move t' (8 ∷ 14 ∷ 11 ∷ []) $ home t' tt R-Frame b-frames o-frames n-frames frames zs'.1.1.0 len-frames room-frames same-frames $ move t' (9 ∷ 13 ∷ 11 ∷ []) $ home t' tt u32 b-deques o-deques n-deques deques zs'.1.0 len-deques room-deques same-deques $ move t' (10 ∷ 12 ∷ 11 ∷ []) $ home t' tt u32 b-numbers o-numbers n-numbers numbers zs'.0 len-numbers room-numbers same_numbers $
-      subst (λ (v' : Val). Seq K 𝓛 (‵ (Mine u32 κ-numbers q-numbers γ-numbers b-numbers o-numbers n-numbers zs'.0) ∷ ‵ (Mine u32 κ-deques q-deques γ-deques b-deques o-deques n-deques zs'.1.0) ∷ ‵ (Mine R-Frame κ-frames q-frames γ-frames b-frames o-frames n-frames zs'.1.1.0) ∷ ‵ (Mine u32 κ-memory q-memory γ-memory b-memory o-memory n-memory zs'.1.1.1.0) ∷ ‵ (Yours u32 κ-values q-values γ-values b-values o-values n-values values) ∷ ‵ (Mine u32 κ-pool q-pool γ-pool b-pool o-pool n-pool zs'.1.1.1.1.1.1.0) ∷ ‵ (Mine u32 κ-work q-work γ-work b-work o-work n-work zs'.1.1.1.1.1.1.1.0) ∷ ‵ (Yours u8 κ-tape q-tape γ-tape b-tape o-tape n-tape tape) ∷ ‵ (Mine u32 κ-answers q-answers γ-answers b-answers o-answers n-answers zs'.1.1.1.1.1.1.1.1.1.0) ∷ ‵ (Mine u64 κ-clocks q-clocks γ-clocks b-clocks o-clocks n-clocks zs'.1.1.1.1.1.1.1.1.1.1.0) ∷ ‵ (Mine u64 κ-report q-report γ-report b-report o-report n-report zs'.1.1.1.1.1.1.1.1.1.1.1.0) ∷ Γ) (lands C Λ E dest' v' rest' post')) (sym (ap only (uint_Tells w32 res' _ is'))) (k' res' zs'.0 zs'.1.0 zs'.1.1.0 zs'.1.1.1.0 zs'.1.1.1.1.1.1.0 zs'.1.1.1.1.1.1.1.0 zs'.1.1.1.1.1.1.1.1.1.0 zs'.1.1.1.1.1.1.1.1.1.1.0 zs'.1.1.1.1.1.1.1.1.1.1.1.0 is'.1 e' same_numbers same-deques same-frames same_memory same-pool same_work same-answers same_clocks same_report))))))))))))))))))))))))
+  pub step-gg : K → FmC 𝓤 H 𝓛.laws C → Triple 𝓤 (C name') (Asked 𝓛 mem run) → {κ-numbers : Lft} {q-numbers : Share} {γ-numbers : GName} {κ-deques : Lft} {q-deques : Share} {γ-deques : GName} {κ-frames : Lft} {q-frames : Share} {γ-frames : GName} {κ-values : Lft} {q-values : Share} {γ-values : GName} {κ-pool : Lft} {q-pool : Share} {γ-pool : GName} {κ-work : Lft} {q-work : Share} {γ-work : GName} {κ-tape : Lft} {q-tape : Share} {γ-tape : GName} {κ-answers : Lft} {q-answers : Share} {γ-answers : GName} {κ-clocks : Lft} {q-clocks : Share} {γ-clocks : GName} {κ-report : Lft} {q-report : Share} {γ-report : GName} → (b-numbers o-numbers n-numbers : ℕ) (numbers : List ℕ) (b-deques o-deques n-deques : ℕ) (deques : List ℕ) (b-frames o-frames n-frames : ℕ) (frames : List Frame) (b-values o-values n-values : ℕ) (values : List ℕ) (b-pool o-pool n-pool : ℕ) (pool : List ℕ) (b-work o-work n-work : ℕ) (work : List ℕ) (b-tape o-tape n-tape : ℕ) (tape : List ℕ) (b-answers o-answers n-answers : ℕ) (answers : List ℕ) (b-clocks o-clocks n-clocks : ℕ) (clocks : List ℕ) (b-report o-report n-report : ℕ) (report : List ℕ) (workers : ℕ) → (workers-good : workers < 2 ^ 32) → Fits (parts numbers deques frames) × (length clocks ≡ 2 * length frames) × (length report ≡ 4) → length numbers ≡ n-numbers → Room u32 n-numbers → length deques ≡ n-deques → Room u32 n-deques → length frames ≡ n-frames → Room R-Frame n-frames → length pool ≡ n-pool → Room u32 n-pool → length work ≡ n-work → Room u32 n-work → length answers ≡ n-answers → Room u32 n-answers → length clocks ≡ n-clocks → Room u64 n-clocks → length report ≡ n-report → Room u64 n-report →
+      ((ν-numbers : ℕ) (δ-numbers : GName) (ν-deques : ℕ) (δ-deques : GName) (ν-frames : ℕ) (δ-frames : GName) (ν-pool : ℕ) (δ-pool : GName) (ν-work : ℕ) (δ-work : GName) (ν-answers : ℕ) (δ-answers : GName) (ν-clocks : ℕ) (δ-clocks : GName) (ν-report : ℕ) (δ-report : GName) → Opds K 𝓛 (raw ((Asked 𝓛 mem run).pre (to-step-gg 𝓛 mem run ν-numbers δ-numbers ν-deques δ-deques ν-frames δ-frames κ-values q-values γ-values ν-pool δ-pool ν-work δ-work κ-tape q-tape γ-tape ν-answers δ-answers ν-clocks δ-clocks ν-report δ-report b-numbers o-numbers n-numbers numbers b-deques o-deques n-deques deques b-frames o-frames n-frames frames b-values o-values n-values values b-pool o-pool n-pool pool b-work o-work n-work work b-tape o-tape n-tape tape b-answers o-answers n-answers answers b-clocks o-clocks n-clocks clocks b-report o-report n-report report workers)) ∷ ‵ (Lent u64 κ-report (ν-report ∷ []) q-report γ-report b-report o-report δ-report report) ∷ ‵ (Lent u64 κ-clocks (ν-clocks ∷ []) q-clocks γ-clocks b-clocks o-clocks δ-clocks clocks) ∷ ‵ (Lent u32 κ-answers (ν-answers ∷ []) q-answers γ-answers b-answers o-answers δ-answers answers) ∷ ‵ ((ShrSlice (named 0) κ-tape u8).own_val (at_list b-tape o-tape γ-tape tape) (slice_val (b-tape, o-tape) n-tape ∷ [])) ∷ ‵ (Lent u32 κ-work (ν-work ∷ []) q-work γ-work b-work o-work δ-work work) ∷ ‵ (Lent u32 κ-pool (ν-pool ∷ []) q-pool γ-pool b-pool o-pool δ-pool pool) ∷ ‵ ((ShrSlice (named 0) κ-values u32).own_val (at_list b-values o-values γ-values values) (slice_val (b-values, o-values) n-values ∷ [])) ∷ ‵ (Lent R-Frame κ-frames (ν-frames ∷ []) q-frames γ-frames b-frames o-frames δ-frames frames) ∷ ‵ (Lent u32 κ-deques (ν-deques ∷ []) q-deques γ-deques b-deques o-deques δ-deques deques) ∷ ‵ (Lent u32 κ-numbers (ν-numbers ∷ []) q-numbers γ-numbers b-numbers o-numbers δ-numbers numbers) ∷ Γ) E opds' (slice_val (b-numbers, o-numbers) n-numbers ∷ slice_val (b-deques, o-deques) n-deques ∷ slice_val (b-frames, o-frames) n-frames ∷ vint w32 workers ∷ slice_val (b-values, o-values) n-values ∷ slice_val (b-pool, o-pool) n-pool ∷ slice_val (b-work, o-work) n-work ∷ slice_val (b-tape, o-tape) n-tape ∷ slice_val (b-answers, o-answers) n-answers ∷ slice_val (b-clocks, o-clocks) n-clocks ∷ slice_val (b-report, o-report) n-report ∷ [])) →
+      ((res' : ℕ) (zs-numbers : List ℕ) (zs-deques : List ℕ) (zs-frames : List Frame) (zs-pool : List ℕ) (zs-work : List ℕ) (zs-answers : List ℕ) (zs-clocks : List ℕ) (zs-report : List ℕ) → res' < 2 ^ 32 → IsReport (report_with two_words (parts numbers deques frames) workers values pool tape (lent work answers clocks report)) zs-numbers zs-deques zs-frames zs-pool zs-work zs-answers zs-clocks zs-report res' → length zs-numbers ≡ length numbers → length zs-deques ≡ length deques → length zs-frames ≡ length frames → length zs-pool ≡ length pool → length zs-work ≡ length work → length zs-answers ≡ length answers → length zs-clocks ≡ length clocks → length zs-report ≡ length report → Seq K 𝓛 (‵ (Mine u32 κ-numbers q-numbers γ-numbers b-numbers o-numbers n-numbers zs-numbers) ∷ ‵ (Mine u32 κ-deques q-deques γ-deques b-deques o-deques n-deques zs-deques) ∷ ‵ (Mine R-Frame κ-frames q-frames γ-frames b-frames o-frames n-frames zs-frames) ∷ ‵ (Yours u32 κ-values q-values γ-values b-values o-values n-values values) ∷ ‵ (Mine u32 κ-pool q-pool γ-pool b-pool o-pool n-pool zs-pool) ∷ ‵ (Mine u32 κ-work q-work γ-work b-work o-work n-work zs-work) ∷ ‵ (Yours u8 κ-tape q-tape γ-tape b-tape o-tape n-tape tape) ∷ ‵ (Mine u32 κ-answers q-answers γ-answers b-answers o-answers n-answers zs-answers) ∷ ‵ (Mine u64 κ-clocks q-clocks γ-clocks b-clocks o-clocks n-clocks zs-clocks) ∷ ‵ (Mine u64 κ-report q-report γ-report b-report o-report n-report zs-report) ∷ Γ) (lands C Λ E dest' (vint w32 res') rest' post')) →
+      Seq K 𝓛 (‵ (Mine u32 κ-numbers q-numbers γ-numbers b-numbers o-numbers n-numbers numbers) ∷ ‵ (Mine u32 κ-deques q-deques γ-deques b-deques o-deques n-deques deques) ∷ ‵ (Mine R-Frame κ-frames q-frames γ-frames b-frames o-frames n-frames frames) ∷ ‵ (Yours u32 κ-values q-values γ-values b-values o-values n-values values) ∷ ‵ (Mine u32 κ-pool q-pool γ-pool b-pool o-pool n-pool pool) ∷ ‵ (Mine u32 κ-work q-work γ-work b-work o-work n-work work) ∷ ‵ (Yours u8 κ-tape q-tape γ-tape b-tape o-tape n-tape tape) ∷ ‵ (Mine u32 κ-answers q-answers γ-answers b-answers o-answers n-answers answers) ∷ ‵ (Mine u64 κ-clocks q-clocks γ-clocks b-clocks o-clocks n-clocks clocks) ∷ ‵ (Mine u64 κ-report q-report γ-report b-report o-report n-report report) ∷ Γ) (runs C Λ E (seq (call name' opds' dest') rest') post')
+  step-gg t' fm' known' {κ-numbers} {q-numbers} {γ-numbers} {κ-deques} {q-deques} {γ-deques} {κ-frames} {q-frames} {γ-frames} {κ-values} {q-values} {γ-values} {κ-pool} {q-pool} {γ-pool} {κ-work} {q-work} {γ-work} {κ-tape} {q-tape} {γ-tape} {κ-answers} {q-answers} {γ-answers} {κ-clocks} {q-clocks} {γ-clocks} {κ-report} {q-report} {γ-report} b-numbers o-numbers n-numbers numbers b-deques o-deques n-deques deques b-frames o-frames n-frames frames b-values o-values n-values values b-pool o-pool n-pool pool b-work o-work n-work work b-tape o-tape n-tape tape b-answers o-answers n-answers answers b-clocks o-clocks n-clocks clocks b-report o-report n-report report workers workers-good ok' len-numbers room-numbers len-deques room-deques len-frames room-frames len-pool room-pool len-work room-work len-answers room-answers len-clocks room-clocks len-report room-report os' k' =
+      lend t' tt u32 b-numbers o-numbers n-numbers numbers len-numbers (λ ν-numbers δ-numbers. move t' (3 ∷ []) $ lend t' tt u32 b-deques o-deques n-deques deques len-deques (λ ν-deques δ-deques. move t' (6 ∷ []) $ lend t' tt R-Frame b-frames o-frames n-frames frames len-frames (λ ν-frames δ-frames. move t' (9 ∷ []) $ give t' u32 b-values o-values n-values values $ move t' (12 ∷ []) $ lend t' tt u32 b-pool o-pool n-pool pool len-pool (λ ν-pool δ-pool. move t' (15 ∷ []) $ lend t' tt u32 b-work o-work n-work work len-work (λ ν-work δ-work. move t' (18 ∷ []) $ give t' u8 b-tape o-tape n-tape tape $ move t' (21 ∷ []) $ lend t' tt u32 b-answers o-answers n-answers answers len-answers (λ ν-answers δ-answers. move t' (24 ∷ []) $ lend t' tt u64 b-clocks o-clocks n-clocks clocks len-clocks (λ ν-clocks δ-clocks. move t' (27 ∷ []) $ lend t' tt u64 b-report o-report n-report report len-report (λ ν-report δ-report.
+      move t' (27 ∷ 24 ∷ 21 ∷ 18 ∷ 15 ∷ 12 ∷ 9 ∷ 6 ∷ 3 ∷ 0 ∷ 28 ∷ 25 ∷ 22 ∷ 19 ∷ 16 ∷ 13 ∷ 10 ∷ 7 ∷ 4 ∷ 1 ∷ []) $ group t' 20 $ use1 𝓛 (raw ((Asked 𝓛 mem run).pre (to-step-gg 𝓛 mem run ν-numbers δ-numbers ν-deques δ-deques ν-frames δ-frames κ-values q-values γ-values ν-pool δ-pool ν-work δ-work κ-tape q-tape γ-tape ν-answers δ-answers ν-clocks δ-clocks ν-report δ-report b-numbers o-numbers n-numbers numbers b-deques o-deques n-deques deques b-frames o-frames n-frames frames b-values o-values n-values values b-pool o-pool n-pool pool b-work o-work n-work work b-tape o-tape n-tape tape b-answers o-answers n-answers answers b-clocks o-clocks n-clocks clocks b-report o-report n-report report workers))) (goes-step-gg 𝓛 mem run ν-numbers δ-numbers ν-deques δ-deques ν-frames δ-frames κ-values q-values γ-values ν-pool δ-pool ν-work δ-work κ-tape q-tape γ-tape ν-answers δ-answers ν-clocks δ-clocks ν-report δ-report b-numbers o-numbers n-numbers numbers b-deques o-deques n-deques deques b-frames o-frames n-frames frames b-values o-values n-values values b-pool o-pool n-pool pool b-work o-work n-work work b-tape o-tape n-tape tape b-answers o-answers n-answers answers b-clocks o-clocks n-clocks clocks b-report o-report n-report report workers workers-good ok') $
+      calls_at t' fm' (Asked 𝓛 mem run) known' (to-step-gg 𝓛 mem run ν-numbers δ-numbers ν-deques δ-deques ν-frames δ-frames κ-values q-values γ-values ν-pool δ-pool ν-work δ-work κ-tape q-tape γ-tape ν-answers δ-answers ν-clocks δ-clocks ν-report δ-report b-numbers o-numbers n-numbers numbers b-deques o-deques n-deques deques b-frames o-frames n-frames frames b-values o-values n-values values b-pool o-pool n-pool pool b-work o-work n-work work b-tape o-tape n-tape tape b-answers o-answers n-answers answers b-clocks o-clocks n-clocks clocks b-report o-report n-report report workers) (os' ν-numbers δ-numbers ν-deques δ-deques ν-frames δ-frames ν-pool δ-pool ν-work δ-work ν-answers δ-answers ν-clocks δ-clocks ν-report δ-report) (λ w'.
+      use1 𝓛 (later (some (λ (res' : ℕ). ((‵ (flft (ν-numbers ∷ []) full_share) ⊛ (‵ (flft (ν-deques ∷ []) full_share) ⊛ (‵ (flft (ν-frames ∷ []) full_share) ⊛ (‵ (flft κ-values q-values) ⊛ (‵ (flft (ν-pool ∷ []) full_share) ⊛ (‵ (flft (ν-work ∷ []) full_share) ⊛ (‵ (flft κ-tape q-tape) ⊛ (‵ (flft (ν-answers ∷ []) full_share) ⊛ (‵ (flft (ν-clocks ∷ []) full_share) ⊛ (‵ (flft (ν-report ∷ []) full_share) ⊛ ‵ ftrue)))))))))) ⊛ ‵ (u32.own_val res' (w' ∷ []))) ⊛ raw (ensured 𝓛 callee'.ended (callee'.clauses 𝓛 mem run) ((ν-numbers ∷ []), ((ν-deques ∷ []), ((ν-frames ∷ []), (κ-values, ((ν-pool ∷ []), ((ν-work ∷ []), (κ-tape, ((ν-answers ∷ []), ((ν-clocks ∷ []), ((ν-report ∷ []), tt)))))))))) (at_list b-numbers o-numbers δ-numbers numbers, (at_list b-deques o-deques δ-deques deques, (at_list b-frames o-frames δ-frames frames, (workers, (at_list b-values o-values γ-values values, (at_list b-pool o-pool δ-pool pool, (at_list b-work o-work δ-work work, (at_list b-tape o-tape γ-tape tape, (at_list b-answers o-answers δ-answers answers, (at_list b-clocks o-clocks δ-clocks clocks, (at_list b-report o-report δ-report report, tt))))))))))) tt res')))) (id⊢ 𝓤 _) $ await t' tt $ pick t' (λ res'. split t' $ move t' (1 ∷ []) $
+      use1 𝓛 (some (λ (zs' : List ℕ × (List ℕ × (List Frame × (Unit {0} × (Unit {0} × (List ℕ × (List ℕ × (Unit {0} × (List ℕ × (List ℕ × (List ℕ × Unit {0}))))))))))). ‵ (lasts callee'.ended ((ν-numbers ∷ []), ((ν-deques ∷ []), ((ν-frames ∷ []), (κ-values, ((ν-pool ∷ []), ((ν-work ∷ []), (κ-tape, ((ν-answers ∷ []), ((ν-clocks ∷ []), ((ν-report ∷ []), tt)))))))))) (at_list b-numbers o-numbers δ-numbers numbers, (at_list b-deques o-deques δ-deques deques, (at_list b-frames o-frames δ-frames frames, (workers, (at_list b-values o-values γ-values values, (at_list b-pool o-pool δ-pool pool, (at_list b-work o-work δ-work work, (at_list b-tape o-tape γ-tape tape, (at_list b-answers o-answers δ-answers answers, (at_list b-clocks o-clocks δ-clocks clocks, (at_list b-report o-report δ-report report, tt))))))))))) zs') ⊛ raw (fact 𝓤 (IsReport (report_with two_words (parts numbers deques frames) workers values pool tape (lent work answers clocks report)) zs'.0 zs'.1.0 zs'.1.1.0 zs'.1.1.1.1.1.0 zs'.1.1.1.1.1.1.0 zs'.1.1.1.1.1.1.1.1.0 zs'.1.1.1.1.1.1.1.1.1.0 zs'.1.1.1.1.1.1.1.1.1.1.0 res')))) (id⊢ 𝓤 _) $ pick t' (λ zs'. split t' $ move t' (1 ∷ []) $ heard t' (IsReport (report_with two_words (parts numbers deques frames) workers values pool tape (lent work answers clocks report)) zs'.0 zs'.1.0 zs'.1.1.0 zs'.1.1.1.1.1.0 zs'.1.1.1.1.1.1.0 zs'.1.1.1.1.1.1.1.1.0 zs'.1.1.1.1.1.1.1.1.1.0 zs'.1.1.1.1.1.1.1.1.1.1.0 res') (λ e'.
+      fsplit t' $ fsplit t' $ move t' (1 ∷ []) $ feq_l t' (λ same_numbers. move t' (1 ∷ []) $ fsplit t' $ fsplit t' $ move t' (1 ∷ []) $ feq_l t' (λ same-deques. move t' (1 ∷ []) $ fsplit t' $ fsplit t' $ move t' (1 ∷ []) $ feq_l t' (λ same-frames. move t' (1 ∷ []) $ fsplit t' $ drop t' $ fsplit t' $ drop t' $ fsplit t' $ fsplit t' $ move t' (1 ∷ []) $ feq_l t' (λ same-pool. move t' (1 ∷ []) $ fsplit t' $ fsplit t' $ move t' (1 ∷ []) $ feq_l t' (λ same_work. move t' (1 ∷ []) $ fsplit t' $ drop t' $ fsplit t' $ fsplit t' $ move t' (1 ∷ []) $ feq_l t' (λ same-answers. move t' (1 ∷ []) $ fsplit t' $ fsplit t' $ move t' (1 ∷ []) $ feq_l t' (λ same_clocks. move t' (1 ∷ []) $ fsplit t' $ fsplit t' $ move t' (1 ∷ []) $ feq_l t' (λ same_report. move t' (1 ∷ []) $ drop t' $
+      move t' (8 ∷ []) $ split t' $ move t' (1 ∷ []) $ peeks t' u32 (Is u32) (shows 𝓛 u32) res' (w' ∷ []) (λ is'. drop t' $ split t' $ move t' (1 ∷ []) $ split t' $ move t' (1 ∷ []) $ split t' $ move t' (1 ∷ []) $ split t' $ move t' (1 ∷ []) $ split t' $ move t' (1 ∷ []) $ split t' $ move t' (1 ∷ []) $ split t' $ move t' (1 ∷ []) $ split t' $ move t' (1 ∷ []) $ split t' $ move t' (1 ∷ []) $ split t' $ move t' (1 ∷ []) $ drop t' $
+      move t' (0 ∷ 18 ∷ 10 ∷ []) $ home t' tt u64 b-report o-report n-report report zs'.1.1.1.1.1.1.1.1.1.1.0 len-report room-report same_report $ move t' (1 ∷ 17 ∷ 10 ∷ []) $ home t' tt u64 b-clocks o-clocks n-clocks clocks zs'.1.1.1.1.1.1.1.1.1.0 len-clocks room-clocks same_clocks $ move t' (2 ∷ 16 ∷ 10 ∷ []) $ home t' tt u32 b-answers o-answers n-answers answers zs'.1.1.1.1.1.1.1.1.0 len-answers room-answers same-answers $ move t' (15 ∷ 3 ∷ []) $ fjoin t' $ move t' (4 ∷ 15 ∷ 10 ∷ []) $ home t' tt u32 b-work o-work n-work work zs'.1.1.1.1.1.1.0 len-work room-work same_work $ move t' (5 ∷ 14 ∷ 10 ∷ []) $ home t' tt u32 b-pool o-pool n-pool pool zs'.1.1.1.1.1.0 len-pool room-pool same-pool $ move t' (13 ∷ 6 ∷ []) $ fjoin t' $ move t' (7 ∷ 13 ∷ 10 ∷ []) $ home t' tt R-Frame b-frames o-frames n-frames frames zs'.1.1.0 len-frames room-frames same-frames $ move t' (8 ∷ 12 ∷ 10 ∷ []) $ home t' tt u32 b-deques o-deques n-deques deques zs'.1.0 len-deques room-deques same-deques $ move t' (9 ∷ 11 ∷ 10 ∷ []) $ home t' tt u32 b-numbers o-numbers n-numbers numbers zs'.0 len-numbers room-numbers same_numbers $
+      subst (λ (v' : Val). Seq K 𝓛 (‵ (Mine u32 κ-numbers q-numbers γ-numbers b-numbers o-numbers n-numbers zs'.0) ∷ ‵ (Mine u32 κ-deques q-deques γ-deques b-deques o-deques n-deques zs'.1.0) ∷ ‵ (Mine R-Frame κ-frames q-frames γ-frames b-frames o-frames n-frames zs'.1.1.0) ∷ ‵ (Yours u32 κ-values q-values γ-values b-values o-values n-values values) ∷ ‵ (Mine u32 κ-pool q-pool γ-pool b-pool o-pool n-pool zs'.1.1.1.1.1.0) ∷ ‵ (Mine u32 κ-work q-work γ-work b-work o-work n-work zs'.1.1.1.1.1.1.0) ∷ ‵ (Yours u8 κ-tape q-tape γ-tape b-tape o-tape n-tape tape) ∷ ‵ (Mine u32 κ-answers q-answers γ-answers b-answers o-answers n-answers zs'.1.1.1.1.1.1.1.1.0) ∷ ‵ (Mine u64 κ-clocks q-clocks γ-clocks b-clocks o-clocks n-clocks zs'.1.1.1.1.1.1.1.1.1.0) ∷ ‵ (Mine u64 κ-report q-report γ-report b-report o-report n-report zs'.1.1.1.1.1.1.1.1.1.1.0) ∷ Γ) (lands C Λ E dest' v' rest' post')) (sym (ap only (uint_Tells w32 res' _ is'))) (k' res' zs'.0 zs'.1.0 zs'.1.1.0 zs'.1.1.1.1.1.0 zs'.1.1.1.1.1.1.0 zs'.1.1.1.1.1.1.1.1.0 zs'.1.1.1.1.1.1.1.1.1.0 zs'.1.1.1.1.1.1.1.1.1.1.0 is'.1 e' same_numbers same-deques same-frames same-pool same_work same-answers same_clocks same_report))))))))))))))))))))))

@@ -1,9 +1,13 @@
 -- Written by tools/walk: the call of `engine::reporting::run_timed` as a step of a walk. Do not edit: write it again.
 -- The operands are read in the context [what the callee asks; the loans; Γ], where an entry of Γ stands one further on than before the call.
-use Rattle.std.proofs.Common.{◌≡◌, ℕ, ◌*◌, ◌/◌, ◌^◌, ◌<◌, ◌≤◌, Bool, List, [], ◌∷◌, length, get_or, sym, refl, ap, subst, w8, w16, w32, w64}
+use mathlib.Core.Path.{◌≡◌, refl, sym, ap, subst}
+use Prim.Native.Nat.{ℕ, ◌<◌, ◌^◌}
+use mathlib.Core.List.{List, [], ◌∷◌}
+use mathlib.Core.Bool.{Bool}
+use lib.ListN.{length}
 use seplogic.Ra.Ura.{Ura}
 use seplogic.Ra.TreeShare.{full_share}
-use mir.Syntax.{Name, Place, Opd as Operand, Body, named, seq, call}
+use mir.Syntax.{Name, Place, Opd as Operand, Body, named, w8, w16, w32, w64, seq, call}
 use mir.Val.{Val, vint, vbool, vunit}
 use base.Logic.{SProp, ent, id⊢}
 use base.Fml.{Lft, GName, Share, ftrue, flft}
@@ -28,14 +32,14 @@ use denote.Triple.Statement.{Contract, Triple}
 use denote.Triple.Call.{calls_at, calls_at_last}
 use denote.Triple.Clauses.{ensured, lasts}
 use denote.Triple.Walked.{says}
+use Prim.Native.Nat.{◌*◌, ◌/◌, ◌≤◌}
+use lib.ListN.{get_or}
 use Rattle.semantics.specs.Entries.{core_of, records_result, records_of, run_on}
 use Rattle.semantics.specs.Promises.{parts, Fits}
-use Rattle.semantics.specs.Ranges.{Kept, Remembers}
-use Rattle.semantics.specs.Remembering.{memory_over}
+use Rattle.semantics.specs.Ranges.{Kept}
 use Rattle.semantics.specs.Timing.{timed_over}
 use Rattle.timing.specs.Turns.{timing}
 use Rattle.engine.specs.Promises.{IsRun}
-use Rattle.soundness.specs.Layout.{two_words}
 use Rattle.frames.specs.contracts.Frame as M-Frame
 use Rattle.frames.proofs.Frame.TheLaws as L-Frame
 use Rattle.frames.specs.declared.Frame.{Frame}
@@ -44,6 +48,7 @@ use Rattle.timing.proofs.Tally.TheLaws as L-Tally
 use Rattle.timing.specs.declared.Tally.{Tally}
 use Rattle.frames.proofs.Lent.{at_list, Mine, Yours, Lent, Shown, lend, home, show, back, give}
 use Rattle.engine.specs.contracts.reporting.run_timed as callee'
+use Rattle.soundness.specs.Layout.{two_words}
 
 abbrev R-Frame : RattleType
 R-Frame = M-Frame.the_row
@@ -61,28 +66,28 @@ module _ {M : Type 1} {𝓤 : Ura M} (𝓛 : Logic 𝓤) (mem : Memory → SProp
   abbrev pub Asked : Contract 𝓤
   Asked = triple_of 𝓛 callee'.signature (callee'.spec 𝓛 mem run)
 
-  abbrev pub to-step-g : (ν-numbers : ℕ) (δ-numbers : GName) (ν-deques : ℕ) (δ-deques : GName) (ν-frames : ℕ) (δ-frames : GName) (ν-pool : ℕ) (δ-pool : GName) (ν-memory : ℕ) (δ-memory : GName) (κ-tape : Lft) (q-tape : Share) (γ-tape : GName) (ν-answers : ℕ) (δ-answers : GName) (ν-clocks : ℕ) (δ-clocks : GName) (b-numbers o-numbers n-numbers : ℕ) (numbers : List ℕ) (b-deques o-deques n-deques : ℕ) (deques : List ℕ) (b-frames o-frames n-frames : ℕ) (frames : List Frame) (b-pool o-pool n-pool : ℕ) (pool : List ℕ) (b-memory o-memory n-memory : ℕ) (memory : List ℕ) (b-tape o-tape n-tape : ℕ) (tape : List ℕ) (b-answers o-answers n-answers : ℕ) (answers : List ℕ) (b-clocks o-clocks n-clocks : ℕ) (clocks : List ℕ) (free_count : ℕ) → Asked.Ghost
-  to-step-g ν-numbers δ-numbers ν-deques δ-deques ν-frames δ-frames ν-pool δ-pool ν-memory δ-memory κ-tape q-tape γ-tape ν-answers δ-answers ν-clocks δ-clocks b-numbers o-numbers n-numbers numbers b-deques o-deques n-deques deques b-frames o-frames n-frames frames b-pool o-pool n-pool pool b-memory o-memory n-memory memory b-tape o-tape n-tape tape b-answers o-answers n-answers answers b-clocks o-clocks n-clocks clocks free_count = ((((ν-numbers ∷ []), ((ν-deques ∷ []), ((ν-frames ∷ []), ((ν-pool ∷ []), ((ν-memory ∷ []), (κ-tape, ((ν-answers ∷ []), ((ν-clocks ∷ []), tt)))))))), (full_share, (full_share, (full_share, (full_share, (full_share, (q-tape, (full_share, (full_share, tt)))))))), tt, (at_list b-numbers o-numbers δ-numbers numbers, (at_list b-deques o-deques δ-deques deques, (at_list b-frames o-frames δ-frames frames, (at_list b-pool o-pool δ-pool pool, (at_list b-memory o-memory δ-memory memory, (at_list b-tape o-tape γ-tape tape, (at_list b-answers o-answers δ-answers answers, (at_list b-clocks o-clocks δ-clocks clocks, (free_count, tt))))))))), (slice_val (b-numbers, o-numbers) n-numbers ∷ [], (slice_val (b-deques, o-deques) n-deques ∷ [], (slice_val (b-frames, o-frames) n-frames ∷ [], (slice_val (b-pool, o-pool) n-pool ∷ [], (slice_val (b-memory, o-memory) n-memory ∷ [], (slice_val (b-tape, o-tape) n-tape ∷ [], (slice_val (b-answers, o-answers) n-answers ∷ [], (slice_val (b-clocks, o-clocks) n-clocks ∷ [], (vint w32 free_count ∷ [], tt)))))))))), tt)
+  abbrev pub to-step-g : (ν-numbers : ℕ) (δ-numbers : GName) (ν-deques : ℕ) (δ-deques : GName) (ν-frames : ℕ) (δ-frames : GName) (ν-pool : ℕ) (δ-pool : GName) (κ-tape : Lft) (q-tape : Share) (γ-tape : GName) (ν-answers : ℕ) (δ-answers : GName) (ν-clocks : ℕ) (δ-clocks : GName) (b-numbers o-numbers n-numbers : ℕ) (numbers : List ℕ) (b-deques o-deques n-deques : ℕ) (deques : List ℕ) (b-frames o-frames n-frames : ℕ) (frames : List Frame) (b-pool o-pool n-pool : ℕ) (pool : List ℕ) (b-tape o-tape n-tape : ℕ) (tape : List ℕ) (b-answers o-answers n-answers : ℕ) (answers : List ℕ) (b-clocks o-clocks n-clocks : ℕ) (clocks : List ℕ) (free_count : ℕ) → Asked.Ghost
+  to-step-g ν-numbers δ-numbers ν-deques δ-deques ν-frames δ-frames ν-pool δ-pool κ-tape q-tape γ-tape ν-answers δ-answers ν-clocks δ-clocks b-numbers o-numbers n-numbers numbers b-deques o-deques n-deques deques b-frames o-frames n-frames frames b-pool o-pool n-pool pool b-tape o-tape n-tape tape b-answers o-answers n-answers answers b-clocks o-clocks n-clocks clocks free_count = ((((ν-numbers ∷ []), ((ν-deques ∷ []), ((ν-frames ∷ []), ((ν-pool ∷ []), (κ-tape, ((ν-answers ∷ []), ((ν-clocks ∷ []), tt))))))), (full_share, (full_share, (full_share, (full_share, (q-tape, (full_share, (full_share, tt))))))), tt, (at_list b-numbers o-numbers δ-numbers numbers, (at_list b-deques o-deques δ-deques deques, (at_list b-frames o-frames δ-frames frames, (at_list b-pool o-pool δ-pool pool, (at_list b-tape o-tape γ-tape tape, (at_list b-answers o-answers δ-answers answers, (at_list b-clocks o-clocks δ-clocks clocks, (free_count, tt)))))))), (slice_val (b-numbers, o-numbers) n-numbers ∷ [], (slice_val (b-deques, o-deques) n-deques ∷ [], (slice_val (b-frames, o-frames) n-frames ∷ [], (slice_val (b-pool, o-pool) n-pool ∷ [], (slice_val (b-tape, o-tape) n-tape ∷ [], (slice_val (b-answers, o-answers) n-answers ∷ [], (slice_val (b-clocks, o-clocks) n-clocks ∷ [], (vint w32 free_count ∷ [], tt))))))))), tt)
 
-  pub goes-step-g : (ν-numbers : ℕ) (δ-numbers : GName) (ν-deques : ℕ) (δ-deques : GName) (ν-frames : ℕ) (δ-frames : GName) (ν-pool : ℕ) (δ-pool : GName) (ν-memory : ℕ) (δ-memory : GName) (κ-tape : Lft) (q-tape : Share) (γ-tape : GName) (ν-answers : ℕ) (δ-answers : GName) (ν-clocks : ℕ) (δ-clocks : GName) (b-numbers o-numbers n-numbers : ℕ) (numbers : List ℕ) (b-deques o-deques n-deques : ℕ) (deques : List ℕ) (b-frames o-frames n-frames : ℕ) (frames : List Frame) (b-pool o-pool n-pool : ℕ) (pool : List ℕ) (b-memory o-memory n-memory : ℕ) (memory : List ℕ) (b-tape o-tape n-tape : ℕ) (tape : List ℕ) (b-answers o-answers n-answers : ℕ) (answers : List ℕ) (b-clocks o-clocks n-clocks : ℕ) (clocks : List ℕ) (free_count : ℕ) → (free-count-good : free_count < 2 ^ 32) (ok' : Fits (parts numbers deques frames) × Kept two_words (core_of (parts numbers deques frames) pool free_count) × (2 * (length tape / 8) ≤ length answers) × (length clocks ≡ 2 * length frames) × ((j : ℕ) → get_or clocks j 0 ≤ 0) × Remembers two_words (core_of (parts numbers deques frames) pool free_count) memory) → ent 𝓤 (⋆ 𝓛 (‵ (flft (ν-numbers ∷ []) full_share) ∷ ‵ (flft (ν-deques ∷ []) full_share) ∷ ‵ (flft (ν-frames ∷ []) full_share) ∷ ‵ (flft (ν-pool ∷ []) full_share) ∷ ‵ (flft (ν-memory ∷ []) full_share) ∷ ‵ (flft κ-tape q-tape) ∷ ‵ (flft (ν-answers ∷ []) full_share) ∷ ‵ (flft (ν-clocks ∷ []) full_share) ∷ ‵ ((MutSlice (named 0) (ν-numbers ∷ []) u32).own_val (at_list b-numbers o-numbers δ-numbers numbers) (slice_val (b-numbers, o-numbers) n-numbers ∷ [])) ∷ ‵ ((MutSlice (named 0) (ν-deques ∷ []) u32).own_val (at_list b-deques o-deques δ-deques deques) (slice_val (b-deques, o-deques) n-deques ∷ [])) ∷ ‵ ((MutSlice (named 0) (ν-frames ∷ []) R-Frame).own_val (at_list b-frames o-frames δ-frames frames) (slice_val (b-frames, o-frames) n-frames ∷ [])) ∷ ‵ ((MutSlice (named 0) (ν-pool ∷ []) u32).own_val (at_list b-pool o-pool δ-pool pool) (slice_val (b-pool, o-pool) n-pool ∷ [])) ∷ ‵ ((MutSlice (named 0) (ν-memory ∷ []) u32).own_val (at_list b-memory o-memory δ-memory memory) (slice_val (b-memory, o-memory) n-memory ∷ [])) ∷ ‵ ((ShrSlice (named 0) κ-tape u8).own_val (at_list b-tape o-tape γ-tape tape) (slice_val (b-tape, o-tape) n-tape ∷ [])) ∷ ‵ ((MutSlice (named 0) (ν-answers ∷ []) u32).own_val (at_list b-answers o-answers δ-answers answers) (slice_val (b-answers, o-answers) n-answers ∷ [])) ∷ ‵ ((MutSlice (named 0) (ν-clocks ∷ []) u64).own_val (at_list b-clocks o-clocks δ-clocks clocks) (slice_val (b-clocks, o-clocks) n-clocks ∷ [])) ∷ [])) (Asked.pre (to-step-g ν-numbers δ-numbers ν-deques δ-deques ν-frames δ-frames ν-pool δ-pool ν-memory δ-memory κ-tape q-tape γ-tape ν-answers δ-answers ν-clocks δ-clocks b-numbers o-numbers n-numbers numbers b-deques o-deques n-deques deques b-frames o-frames n-frames frames b-pool o-pool n-pool pool b-memory o-memory n-memory memory b-tape o-tape n-tape tape b-answers o-answers n-answers answers b-clocks o-clocks n-clocks clocks free_count))
-  goes-step-g ν-numbers δ-numbers ν-deques δ-deques ν-frames δ-frames ν-pool δ-pool ν-memory δ-memory κ-tape q-tape γ-tape ν-answers δ-answers ν-clocks δ-clocks b-numbers o-numbers n-numbers numbers b-deques o-deques n-deques deques b-frames o-frames n-frames frames b-pool o-pool n-pool pool b-memory o-memory n-memory memory b-tape o-tape n-tape tape b-answers o-answers n-answers answers b-clocks o-clocks n-clocks clocks free_count free-count-good ok' = qed 𝓛 (‵ (flft (ν-numbers ∷ []) full_share) ∷ ‵ (flft (ν-deques ∷ []) full_share) ∷ ‵ (flft (ν-frames ∷ []) full_share) ∷ ‵ (flft (ν-pool ∷ []) full_share) ∷ ‵ (flft (ν-memory ∷ []) full_share) ∷ ‵ (flft κ-tape q-tape) ∷ ‵ (flft (ν-answers ∷ []) full_share) ∷ ‵ (flft (ν-clocks ∷ []) full_share) ∷ ‵ ((MutSlice (named 0) (ν-numbers ∷ []) u32).own_val (at_list b-numbers o-numbers δ-numbers numbers) (slice_val (b-numbers, o-numbers) n-numbers ∷ [])) ∷ ‵ ((MutSlice (named 0) (ν-deques ∷ []) u32).own_val (at_list b-deques o-deques δ-deques deques) (slice_val (b-deques, o-deques) n-deques ∷ [])) ∷ ‵ ((MutSlice (named 0) (ν-frames ∷ []) R-Frame).own_val (at_list b-frames o-frames δ-frames frames) (slice_val (b-frames, o-frames) n-frames ∷ [])) ∷ ‵ ((MutSlice (named 0) (ν-pool ∷ []) u32).own_val (at_list b-pool o-pool δ-pool pool) (slice_val (b-pool, o-pool) n-pool ∷ [])) ∷ ‵ ((MutSlice (named 0) (ν-memory ∷ []) u32).own_val (at_list b-memory o-memory δ-memory memory) (slice_val (b-memory, o-memory) n-memory ∷ [])) ∷ ‵ ((ShrSlice (named 0) κ-tape u8).own_val (at_list b-tape o-tape γ-tape tape) (slice_val (b-tape, o-tape) n-tape ∷ [])) ∷ ‵ ((MutSlice (named 0) (ν-answers ∷ []) u32).own_val (at_list b-answers o-answers δ-answers answers) (slice_val (b-answers, o-answers) n-answers ∷ [])) ∷ ‵ ((MutSlice (named 0) (ν-clocks ∷ []) u64).own_val (at_list b-clocks o-clocks δ-clocks clocks) (slice_val (b-clocks, o-clocks) n-clocks ∷ [])) ∷ []) ∵ says ! ok' $ nothing ! $ move ! (1 ∷ 2 ∷ 3 ∷ 4 ∷ 5 ∷ 6 ∷ 7 ∷ 8 ∷ 0 ∷ []) $ group ! 9 $ frame ! $
-      nothing ! $ owned ! u32 (Is u32) (uint_Makes 𝓛 w32) free_count _ (refl, free-count-good) $ fjoin ! $ move ! (8 ∷ 0 ∷ []) $ fjoin ! $ move ! (7 ∷ 0 ∷ []) $ fjoin ! $ move ! (6 ∷ 0 ∷ []) $ fjoin ! $ move ! (5 ∷ 0 ∷ []) $ fjoin ! $ move ! (4 ∷ 0 ∷ []) $ fjoin ! $ move ! (3 ∷ 0 ∷ []) $ fjoin ! $ move ! (2 ∷ 0 ∷ []) $ fjoin ! $ move ! (1 ∷ 0 ∷ []) $ fjoin ! $ done !
+  pub goes-step-g : (ν-numbers : ℕ) (δ-numbers : GName) (ν-deques : ℕ) (δ-deques : GName) (ν-frames : ℕ) (δ-frames : GName) (ν-pool : ℕ) (δ-pool : GName) (κ-tape : Lft) (q-tape : Share) (γ-tape : GName) (ν-answers : ℕ) (δ-answers : GName) (ν-clocks : ℕ) (δ-clocks : GName) (b-numbers o-numbers n-numbers : ℕ) (numbers : List ℕ) (b-deques o-deques n-deques : ℕ) (deques : List ℕ) (b-frames o-frames n-frames : ℕ) (frames : List Frame) (b-pool o-pool n-pool : ℕ) (pool : List ℕ) (b-tape o-tape n-tape : ℕ) (tape : List ℕ) (b-answers o-answers n-answers : ℕ) (answers : List ℕ) (b-clocks o-clocks n-clocks : ℕ) (clocks : List ℕ) (free_count : ℕ) → (free-count-good : free_count < 2 ^ 32) (ok' : Fits (parts numbers deques frames) × Kept two_words (core_of (parts numbers deques frames) pool free_count) × (2 * (length tape / 8) ≤ length answers) × (length clocks ≡ 2 * length frames) × ((j : ℕ) → get_or clocks j 0 ≤ 0)) → ent 𝓤 (⋆ 𝓛 (‵ (flft (ν-numbers ∷ []) full_share) ∷ ‵ (flft (ν-deques ∷ []) full_share) ∷ ‵ (flft (ν-frames ∷ []) full_share) ∷ ‵ (flft (ν-pool ∷ []) full_share) ∷ ‵ (flft κ-tape q-tape) ∷ ‵ (flft (ν-answers ∷ []) full_share) ∷ ‵ (flft (ν-clocks ∷ []) full_share) ∷ ‵ ((MutSlice (named 0) (ν-numbers ∷ []) u32).own_val (at_list b-numbers o-numbers δ-numbers numbers) (slice_val (b-numbers, o-numbers) n-numbers ∷ [])) ∷ ‵ ((MutSlice (named 0) (ν-deques ∷ []) u32).own_val (at_list b-deques o-deques δ-deques deques) (slice_val (b-deques, o-deques) n-deques ∷ [])) ∷ ‵ ((MutSlice (named 0) (ν-frames ∷ []) R-Frame).own_val (at_list b-frames o-frames δ-frames frames) (slice_val (b-frames, o-frames) n-frames ∷ [])) ∷ ‵ ((MutSlice (named 0) (ν-pool ∷ []) u32).own_val (at_list b-pool o-pool δ-pool pool) (slice_val (b-pool, o-pool) n-pool ∷ [])) ∷ ‵ ((ShrSlice (named 0) κ-tape u8).own_val (at_list b-tape o-tape γ-tape tape) (slice_val (b-tape, o-tape) n-tape ∷ [])) ∷ ‵ ((MutSlice (named 0) (ν-answers ∷ []) u32).own_val (at_list b-answers o-answers δ-answers answers) (slice_val (b-answers, o-answers) n-answers ∷ [])) ∷ ‵ ((MutSlice (named 0) (ν-clocks ∷ []) u64).own_val (at_list b-clocks o-clocks δ-clocks clocks) (slice_val (b-clocks, o-clocks) n-clocks ∷ [])) ∷ [])) (Asked.pre (to-step-g ν-numbers δ-numbers ν-deques δ-deques ν-frames δ-frames ν-pool δ-pool κ-tape q-tape γ-tape ν-answers δ-answers ν-clocks δ-clocks b-numbers o-numbers n-numbers numbers b-deques o-deques n-deques deques b-frames o-frames n-frames frames b-pool o-pool n-pool pool b-tape o-tape n-tape tape b-answers o-answers n-answers answers b-clocks o-clocks n-clocks clocks free_count))
+  goes-step-g ν-numbers δ-numbers ν-deques δ-deques ν-frames δ-frames ν-pool δ-pool κ-tape q-tape γ-tape ν-answers δ-answers ν-clocks δ-clocks b-numbers o-numbers n-numbers numbers b-deques o-deques n-deques deques b-frames o-frames n-frames frames b-pool o-pool n-pool pool b-tape o-tape n-tape tape b-answers o-answers n-answers answers b-clocks o-clocks n-clocks clocks free_count free-count-good ok' = qed 𝓛 (‵ (flft (ν-numbers ∷ []) full_share) ∷ ‵ (flft (ν-deques ∷ []) full_share) ∷ ‵ (flft (ν-frames ∷ []) full_share) ∷ ‵ (flft (ν-pool ∷ []) full_share) ∷ ‵ (flft κ-tape q-tape) ∷ ‵ (flft (ν-answers ∷ []) full_share) ∷ ‵ (flft (ν-clocks ∷ []) full_share) ∷ ‵ ((MutSlice (named 0) (ν-numbers ∷ []) u32).own_val (at_list b-numbers o-numbers δ-numbers numbers) (slice_val (b-numbers, o-numbers) n-numbers ∷ [])) ∷ ‵ ((MutSlice (named 0) (ν-deques ∷ []) u32).own_val (at_list b-deques o-deques δ-deques deques) (slice_val (b-deques, o-deques) n-deques ∷ [])) ∷ ‵ ((MutSlice (named 0) (ν-frames ∷ []) R-Frame).own_val (at_list b-frames o-frames δ-frames frames) (slice_val (b-frames, o-frames) n-frames ∷ [])) ∷ ‵ ((MutSlice (named 0) (ν-pool ∷ []) u32).own_val (at_list b-pool o-pool δ-pool pool) (slice_val (b-pool, o-pool) n-pool ∷ [])) ∷ ‵ ((ShrSlice (named 0) κ-tape u8).own_val (at_list b-tape o-tape γ-tape tape) (slice_val (b-tape, o-tape) n-tape ∷ [])) ∷ ‵ ((MutSlice (named 0) (ν-answers ∷ []) u32).own_val (at_list b-answers o-answers δ-answers answers) (slice_val (b-answers, o-answers) n-answers ∷ [])) ∷ ‵ ((MutSlice (named 0) (ν-clocks ∷ []) u64).own_val (at_list b-clocks o-clocks δ-clocks clocks) (slice_val (b-clocks, o-clocks) n-clocks ∷ [])) ∷ []) ∵ says ! ok' $ nothing ! $ move ! (1 ∷ 2 ∷ 3 ∷ 4 ∷ 5 ∷ 6 ∷ 7 ∷ 0 ∷ []) $ group ! 8 $ frame ! $
+      nothing ! $ owned ! u32 (Is u32) (uint_Makes 𝓛 w32) free_count _ (refl, free-count-good) $ fjoin ! $ move ! (7 ∷ 0 ∷ []) $ fjoin ! $ move ! (6 ∷ 0 ∷ []) $ fjoin ! $ move ! (5 ∷ 0 ∷ []) $ fjoin ! $ move ! (4 ∷ 0 ∷ []) $ fjoin ! $ move ! (3 ∷ 0 ∷ []) $ fjoin ! $ move ! (2 ∷ 0 ∷ []) $ fjoin ! $ move ! (1 ∷ 0 ∷ []) $ fjoin ! $ done !
 
 module _ {M : Type 1} {𝓤 : Ura M} {𝓛 : Logic 𝓤} {K : Type 0} (mem : Memory → SProp 𝓤) (run : Routine → Fun 𝓤)
     {Γ : List (Item 𝓤)} {E : Env 𝓤 𝓛.H} {C : Calls 𝓤 𝓛.H} {Λ : Loops 𝓤 𝓛.H} {post' : Post 𝓤 𝓛.H} {dest' : Place} {name' : Name} {opds' : List Operand} {rest' : Body} where
   open 𝓛 use {H}
 
-  pub step-g : K → FmC 𝓤 H 𝓛.laws C → Triple 𝓤 (C name') (Asked 𝓛 mem run) → {κ-numbers : Lft} {q-numbers : Share} {γ-numbers : GName} {κ-deques : Lft} {q-deques : Share} {γ-deques : GName} {κ-frames : Lft} {q-frames : Share} {γ-frames : GName} {κ-pool : Lft} {q-pool : Share} {γ-pool : GName} {κ-memory : Lft} {q-memory : Share} {γ-memory : GName} {κ-tape : Lft} {q-tape : Share} {γ-tape : GName} {κ-answers : Lft} {q-answers : Share} {γ-answers : GName} {κ-clocks : Lft} {q-clocks : Share} {γ-clocks : GName} → (b-numbers o-numbers n-numbers : ℕ) (numbers : List ℕ) (b-deques o-deques n-deques : ℕ) (deques : List ℕ) (b-frames o-frames n-frames : ℕ) (frames : List Frame) (b-pool o-pool n-pool : ℕ) (pool : List ℕ) (b-memory o-memory n-memory : ℕ) (memory : List ℕ) (b-tape o-tape n-tape : ℕ) (tape : List ℕ) (b-answers o-answers n-answers : ℕ) (answers : List ℕ) (b-clocks o-clocks n-clocks : ℕ) (clocks : List ℕ) (free_count : ℕ) → (free-count-good : free_count < 2 ^ 32) → Fits (parts numbers deques frames) × Kept two_words (core_of (parts numbers deques frames) pool free_count) × (2 * (length tape / 8) ≤ length answers) × (length clocks ≡ 2 * length frames) × ((j : ℕ) → get_or clocks j 0 ≤ 0) × Remembers two_words (core_of (parts numbers deques frames) pool free_count) memory → length numbers ≡ n-numbers → Room u32 n-numbers → length deques ≡ n-deques → Room u32 n-deques → length frames ≡ n-frames → Room R-Frame n-frames → length pool ≡ n-pool → Room u32 n-pool → length memory ≡ n-memory → Room u32 n-memory → length answers ≡ n-answers → Room u32 n-answers → length clocks ≡ n-clocks → Room u64 n-clocks →
-      ((ν-numbers : ℕ) (δ-numbers : GName) (ν-deques : ℕ) (δ-deques : GName) (ν-frames : ℕ) (δ-frames : GName) (ν-pool : ℕ) (δ-pool : GName) (ν-memory : ℕ) (δ-memory : GName) (ν-answers : ℕ) (δ-answers : GName) (ν-clocks : ℕ) (δ-clocks : GName) → Opds K 𝓛 (raw ((Asked 𝓛 mem run).pre (to-step-g 𝓛 mem run ν-numbers δ-numbers ν-deques δ-deques ν-frames δ-frames ν-pool δ-pool ν-memory δ-memory κ-tape q-tape γ-tape ν-answers δ-answers ν-clocks δ-clocks b-numbers o-numbers n-numbers numbers b-deques o-deques n-deques deques b-frames o-frames n-frames frames b-pool o-pool n-pool pool b-memory o-memory n-memory memory b-tape o-tape n-tape tape b-answers o-answers n-answers answers b-clocks o-clocks n-clocks clocks free_count)) ∷ ‵ (Lent u64 κ-clocks (ν-clocks ∷ []) q-clocks γ-clocks b-clocks o-clocks δ-clocks clocks) ∷ ‵ (Lent u32 κ-answers (ν-answers ∷ []) q-answers γ-answers b-answers o-answers δ-answers answers) ∷ ‵ ((ShrSlice (named 0) κ-tape u8).own_val (at_list b-tape o-tape γ-tape tape) (slice_val (b-tape, o-tape) n-tape ∷ [])) ∷ ‵ (Lent u32 κ-memory (ν-memory ∷ []) q-memory γ-memory b-memory o-memory δ-memory memory) ∷ ‵ (Lent u32 κ-pool (ν-pool ∷ []) q-pool γ-pool b-pool o-pool δ-pool pool) ∷ ‵ (Lent R-Frame κ-frames (ν-frames ∷ []) q-frames γ-frames b-frames o-frames δ-frames frames) ∷ ‵ (Lent u32 κ-deques (ν-deques ∷ []) q-deques γ-deques b-deques o-deques δ-deques deques) ∷ ‵ (Lent u32 κ-numbers (ν-numbers ∷ []) q-numbers γ-numbers b-numbers o-numbers δ-numbers numbers) ∷ Γ) E opds' (slice_val (b-numbers, o-numbers) n-numbers ∷ slice_val (b-deques, o-deques) n-deques ∷ slice_val (b-frames, o-frames) n-frames ∷ slice_val (b-pool, o-pool) n-pool ∷ slice_val (b-memory, o-memory) n-memory ∷ slice_val (b-tape, o-tape) n-tape ∷ slice_val (b-answers, o-answers) n-answers ∷ slice_val (b-clocks, o-clocks) n-clocks ∷ vint w32 free_count ∷ [])) →
-      ((res' : Tally) (zs-numbers : List ℕ) (zs-deques : List ℕ) (zs-frames : List Frame) (zs-pool : List ℕ) (zs-memory : List ℕ) (zs-answers : List ℕ) (zs-clocks : List ℕ) → Is R-Tally res' (val-Tally res' ∷ []) → IsRun (run_on two_words (records_result (core_of (parts numbers deques frames) pool free_count) answers) 0 (records_of tape)) zs-numbers zs-deques zs-frames zs-pool zs-answers × (timing zs-clocks res'.work res'.span ≡ timed_over two_words (core_of (parts numbers deques frames) pool free_count) (records_of tape) (timing clocks 0 0)) × (zs-memory ≡ memory_over two_words (core_of (parts numbers deques frames) pool free_count) memory (records_of tape)) → length zs-numbers ≡ length numbers → length zs-deques ≡ length deques → length zs-frames ≡ length frames → length zs-pool ≡ length pool → length zs-memory ≡ length memory → length zs-answers ≡ length answers → length zs-clocks ≡ length clocks → Seq K 𝓛 (‵ (Mine u32 κ-numbers q-numbers γ-numbers b-numbers o-numbers n-numbers zs-numbers) ∷ ‵ (Mine u32 κ-deques q-deques γ-deques b-deques o-deques n-deques zs-deques) ∷ ‵ (Mine R-Frame κ-frames q-frames γ-frames b-frames o-frames n-frames zs-frames) ∷ ‵ (Mine u32 κ-pool q-pool γ-pool b-pool o-pool n-pool zs-pool) ∷ ‵ (Mine u32 κ-memory q-memory γ-memory b-memory o-memory n-memory zs-memory) ∷ ‵ (Yours u8 κ-tape q-tape γ-tape b-tape o-tape n-tape tape) ∷ ‵ (Mine u32 κ-answers q-answers γ-answers b-answers o-answers n-answers zs-answers) ∷ ‵ (Mine u64 κ-clocks q-clocks γ-clocks b-clocks o-clocks n-clocks zs-clocks) ∷ Γ) (lands C Λ E dest' (val-Tally res') rest' post')) →
-      Seq K 𝓛 (‵ (Mine u32 κ-numbers q-numbers γ-numbers b-numbers o-numbers n-numbers numbers) ∷ ‵ (Mine u32 κ-deques q-deques γ-deques b-deques o-deques n-deques deques) ∷ ‵ (Mine R-Frame κ-frames q-frames γ-frames b-frames o-frames n-frames frames) ∷ ‵ (Mine u32 κ-pool q-pool γ-pool b-pool o-pool n-pool pool) ∷ ‵ (Mine u32 κ-memory q-memory γ-memory b-memory o-memory n-memory memory) ∷ ‵ (Yours u8 κ-tape q-tape γ-tape b-tape o-tape n-tape tape) ∷ ‵ (Mine u32 κ-answers q-answers γ-answers b-answers o-answers n-answers answers) ∷ ‵ (Mine u64 κ-clocks q-clocks γ-clocks b-clocks o-clocks n-clocks clocks) ∷ Γ) (runs C Λ E (seq (call name' opds' dest') rest') post')
-  step-g t' fm' known' {κ-numbers} {q-numbers} {γ-numbers} {κ-deques} {q-deques} {γ-deques} {κ-frames} {q-frames} {γ-frames} {κ-pool} {q-pool} {γ-pool} {κ-memory} {q-memory} {γ-memory} {κ-tape} {q-tape} {γ-tape} {κ-answers} {q-answers} {γ-answers} {κ-clocks} {q-clocks} {γ-clocks} b-numbers o-numbers n-numbers numbers b-deques o-deques n-deques deques b-frames o-frames n-frames frames b-pool o-pool n-pool pool b-memory o-memory n-memory memory b-tape o-tape n-tape tape b-answers o-answers n-answers answers b-clocks o-clocks n-clocks clocks free_count free-count-good ok' len-numbers room-numbers len-deques room-deques len-frames room-frames len-pool room-pool len-memory room-memory len-answers room-answers len-clocks room-clocks os' k' =
-      lend t' tt u32 b-numbers o-numbers n-numbers numbers len-numbers (λ ν-numbers δ-numbers. move t' (3 ∷ []) $ lend t' tt u32 b-deques o-deques n-deques deques len-deques (λ ν-deques δ-deques. move t' (6 ∷ []) $ lend t' tt R-Frame b-frames o-frames n-frames frames len-frames (λ ν-frames δ-frames. move t' (9 ∷ []) $ lend t' tt u32 b-pool o-pool n-pool pool len-pool (λ ν-pool δ-pool. move t' (12 ∷ []) $ lend t' tt u32 b-memory o-memory n-memory memory len-memory (λ ν-memory δ-memory. move t' (15 ∷ []) $ give t' u8 b-tape o-tape n-tape tape $ move t' (18 ∷ []) $ lend t' tt u32 b-answers o-answers n-answers answers len-answers (λ ν-answers δ-answers. move t' (21 ∷ []) $ lend t' tt u64 b-clocks o-clocks n-clocks clocks len-clocks (λ ν-clocks δ-clocks.
-      move t' (21 ∷ 18 ∷ 15 ∷ 12 ∷ 9 ∷ 6 ∷ 3 ∷ 0 ∷ 22 ∷ 19 ∷ 16 ∷ 13 ∷ 10 ∷ 7 ∷ 4 ∷ 1 ∷ []) $ group t' 16 $ use1 𝓛 (raw ((Asked 𝓛 mem run).pre (to-step-g 𝓛 mem run ν-numbers δ-numbers ν-deques δ-deques ν-frames δ-frames ν-pool δ-pool ν-memory δ-memory κ-tape q-tape γ-tape ν-answers δ-answers ν-clocks δ-clocks b-numbers o-numbers n-numbers numbers b-deques o-deques n-deques deques b-frames o-frames n-frames frames b-pool o-pool n-pool pool b-memory o-memory n-memory memory b-tape o-tape n-tape tape b-answers o-answers n-answers answers b-clocks o-clocks n-clocks clocks free_count))) (goes-step-g 𝓛 mem run ν-numbers δ-numbers ν-deques δ-deques ν-frames δ-frames ν-pool δ-pool ν-memory δ-memory κ-tape q-tape γ-tape ν-answers δ-answers ν-clocks δ-clocks b-numbers o-numbers n-numbers numbers b-deques o-deques n-deques deques b-frames o-frames n-frames frames b-pool o-pool n-pool pool b-memory o-memory n-memory memory b-tape o-tape n-tape tape b-answers o-answers n-answers answers b-clocks o-clocks n-clocks clocks free_count free-count-good ok') $
-      calls_at t' fm' (Asked 𝓛 mem run) known' (to-step-g 𝓛 mem run ν-numbers δ-numbers ν-deques δ-deques ν-frames δ-frames ν-pool δ-pool ν-memory δ-memory κ-tape q-tape γ-tape ν-answers δ-answers ν-clocks δ-clocks b-numbers o-numbers n-numbers numbers b-deques o-deques n-deques deques b-frames o-frames n-frames frames b-pool o-pool n-pool pool b-memory o-memory n-memory memory b-tape o-tape n-tape tape b-answers o-answers n-answers answers b-clocks o-clocks n-clocks clocks free_count) (os' ν-numbers δ-numbers ν-deques δ-deques ν-frames δ-frames ν-pool δ-pool ν-memory δ-memory ν-answers δ-answers ν-clocks δ-clocks) (λ w'.
-      use1 𝓛 (later (some (λ (res' : Tally). ((‵ (flft (ν-numbers ∷ []) full_share) ⊛ (‵ (flft (ν-deques ∷ []) full_share) ⊛ (‵ (flft (ν-frames ∷ []) full_share) ⊛ (‵ (flft (ν-pool ∷ []) full_share) ⊛ (‵ (flft (ν-memory ∷ []) full_share) ⊛ (‵ (flft κ-tape q-tape) ⊛ (‵ (flft (ν-answers ∷ []) full_share) ⊛ (‵ (flft (ν-clocks ∷ []) full_share) ⊛ ‵ ftrue)))))))) ⊛ ‵ (R-Tally.own res' (w' ∷ []))) ⊛ raw (ensured 𝓛 callee'.ended (callee'.clauses 𝓛 mem run) ((ν-numbers ∷ []), ((ν-deques ∷ []), ((ν-frames ∷ []), ((ν-pool ∷ []), ((ν-memory ∷ []), (κ-tape, ((ν-answers ∷ []), ((ν-clocks ∷ []), tt)))))))) (at_list b-numbers o-numbers δ-numbers numbers, (at_list b-deques o-deques δ-deques deques, (at_list b-frames o-frames δ-frames frames, (at_list b-pool o-pool δ-pool pool, (at_list b-memory o-memory δ-memory memory, (at_list b-tape o-tape γ-tape tape, (at_list b-answers o-answers δ-answers answers, (at_list b-clocks o-clocks δ-clocks clocks, (free_count, tt))))))))) tt res')))) (id⊢ 𝓤 _) $ await t' tt $ pick t' (λ res'. split t' $ move t' (1 ∷ []) $
-      use1 𝓛 (some (λ (zs' : List ℕ × (List ℕ × (List Frame × (List ℕ × (List ℕ × (Unit {0} × (List ℕ × (List ℕ × (Unit {0} × Unit {0}))))))))). ‵ (lasts callee'.ended ((ν-numbers ∷ []), ((ν-deques ∷ []), ((ν-frames ∷ []), ((ν-pool ∷ []), ((ν-memory ∷ []), (κ-tape, ((ν-answers ∷ []), ((ν-clocks ∷ []), tt)))))))) (at_list b-numbers o-numbers δ-numbers numbers, (at_list b-deques o-deques δ-deques deques, (at_list b-frames o-frames δ-frames frames, (at_list b-pool o-pool δ-pool pool, (at_list b-memory o-memory δ-memory memory, (at_list b-tape o-tape γ-tape tape, (at_list b-answers o-answers δ-answers answers, (at_list b-clocks o-clocks δ-clocks clocks, (free_count, tt))))))))) zs') ⊛ raw (fact 𝓤 (IsRun (run_on two_words (records_result (core_of (parts numbers deques frames) pool free_count) answers) 0 (records_of tape)) zs'.0 zs'.1.0 zs'.1.1.0 zs'.1.1.1.0 zs'.1.1.1.1.1.1.0 × (timing zs'.1.1.1.1.1.1.1.0 res'.work res'.span ≡ timed_over two_words (core_of (parts numbers deques frames) pool free_count) (records_of tape) (timing clocks 0 0)) × (zs'.1.1.1.1.0 ≡ memory_over two_words (core_of (parts numbers deques frames) pool free_count) memory (records_of tape)))))) (id⊢ 𝓤 _) $ pick t' (λ zs'. split t' $ move t' (1 ∷ []) $ heard t' (IsRun (run_on two_words (records_result (core_of (parts numbers deques frames) pool free_count) answers) 0 (records_of tape)) zs'.0 zs'.1.0 zs'.1.1.0 zs'.1.1.1.0 zs'.1.1.1.1.1.1.0 × (timing zs'.1.1.1.1.1.1.1.0 res'.work res'.span ≡ timed_over two_words (core_of (parts numbers deques frames) pool free_count) (records_of tape) (timing clocks 0 0)) × (zs'.1.1.1.1.0 ≡ memory_over two_words (core_of (parts numbers deques frames) pool free_count) memory (records_of tape))) (λ e'.
-      fsplit t' $ fsplit t' $ move t' (1 ∷ []) $ feq_l t' (λ same_numbers. move t' (1 ∷ []) $ fsplit t' $ fsplit t' $ move t' (1 ∷ []) $ feq_l t' (λ same-deques. move t' (1 ∷ []) $ fsplit t' $ fsplit t' $ move t' (1 ∷ []) $ feq_l t' (λ same-frames. move t' (1 ∷ []) $ fsplit t' $ fsplit t' $ move t' (1 ∷ []) $ feq_l t' (λ same-pool. move t' (1 ∷ []) $ fsplit t' $ fsplit t' $ move t' (1 ∷ []) $ feq_l t' (λ same_memory. move t' (1 ∷ []) $ fsplit t' $ drop t' $ fsplit t' $ fsplit t' $ move t' (1 ∷ []) $ feq_l t' (λ same-answers. move t' (1 ∷ []) $ fsplit t' $ fsplit t' $ move t' (1 ∷ []) $ feq_l t' (λ same_clocks. move t' (1 ∷ []) $ fsplit t' $ drop t' $ drop t' $
-      move t' (7 ∷ []) $ split t' $ move t' (1 ∷ []) $ peeks t' R-Tally (Is R-Tally) (shows 𝓛 R-Tally) res' (w' ∷ []) (λ is'. drop t' $ split t' $ move t' (1 ∷ []) $ split t' $ move t' (1 ∷ []) $ split t' $ move t' (1 ∷ []) $ split t' $ move t' (1 ∷ []) $ split t' $ move t' (1 ∷ []) $ split t' $ move t' (1 ∷ []) $ split t' $ move t' (1 ∷ []) $ split t' $ move t' (1 ∷ []) $ drop t' $
-      move t' (0 ∷ 15 ∷ 8 ∷ []) $ home t' tt u64 b-clocks o-clocks n-clocks clocks zs'.1.1.1.1.1.1.1.0 len-clocks room-clocks same_clocks $ move t' (1 ∷ 14 ∷ 8 ∷ []) $ home t' tt u32 b-answers o-answers n-answers answers zs'.1.1.1.1.1.1.0 len-answers room-answers same-answers $ move t' (13 ∷ 2 ∷ []) $ fjoin t' $ move t' (3 ∷ 13 ∷ 8 ∷ []) $ home t' tt u32 b-memory o-memory n-memory memory zs'.1.1.1.1.0 len-memory room-memory same_memory $ move t' (4 ∷ 12 ∷ 8 ∷ []) $ home t' tt u32 b-pool o-pool n-pool pool zs'.1.1.1.0 len-pool room-pool same-pool $ move t' (5 ∷ 11 ∷ 8 ∷ []) $ home t' tt R-Frame b-frames o-frames n-frames frames zs'.1.1.0 len-frames room-frames same-frames $ move t' (6 ∷ 10 ∷ 8 ∷ []) $ home t' tt u32 b-deques o-deques n-deques deques zs'.1.0 len-deques room-deques same-deques $ move t' (7 ∷ 9 ∷ 8 ∷ []) $ home t' tt u32 b-numbers o-numbers n-numbers numbers zs'.0 len-numbers room-numbers same_numbers $
-      subst (λ (v' : Val). Seq K 𝓛 (‵ (Mine u32 κ-numbers q-numbers γ-numbers b-numbers o-numbers n-numbers zs'.0) ∷ ‵ (Mine u32 κ-deques q-deques γ-deques b-deques o-deques n-deques zs'.1.0) ∷ ‵ (Mine R-Frame κ-frames q-frames γ-frames b-frames o-frames n-frames zs'.1.1.0) ∷ ‵ (Mine u32 κ-pool q-pool γ-pool b-pool o-pool n-pool zs'.1.1.1.0) ∷ ‵ (Mine u32 κ-memory q-memory γ-memory b-memory o-memory n-memory zs'.1.1.1.1.0) ∷ ‵ (Yours u8 κ-tape q-tape γ-tape b-tape o-tape n-tape tape) ∷ ‵ (Mine u32 κ-answers q-answers γ-answers b-answers o-answers n-answers zs'.1.1.1.1.1.1.0) ∷ ‵ (Mine u64 κ-clocks q-clocks γ-clocks b-clocks o-clocks n-clocks zs'.1.1.1.1.1.1.1.0) ∷ Γ) (lands C Λ E dest' v' rest' post')) (sym (ap only (LL.tells M-Tally.the_type L-Tally.the_laws res' _ is'))) (k' res' zs'.0 zs'.1.0 zs'.1.1.0 zs'.1.1.1.0 zs'.1.1.1.1.0 zs'.1.1.1.1.1.1.0 zs'.1.1.1.1.1.1.1.0 (subst (Is R-Tally res') (LL.tells M-Tally.the_type L-Tally.the_laws res' _ is') is') e' same_numbers same-deques same-frames same-pool same_memory same-answers same_clocks))))))))))))))))))))
+  pub step-g : K → FmC 𝓤 H 𝓛.laws C → Triple 𝓤 (C name') (Asked 𝓛 mem run) → {κ-numbers : Lft} {q-numbers : Share} {γ-numbers : GName} {κ-deques : Lft} {q-deques : Share} {γ-deques : GName} {κ-frames : Lft} {q-frames : Share} {γ-frames : GName} {κ-pool : Lft} {q-pool : Share} {γ-pool : GName} {κ-tape : Lft} {q-tape : Share} {γ-tape : GName} {κ-answers : Lft} {q-answers : Share} {γ-answers : GName} {κ-clocks : Lft} {q-clocks : Share} {γ-clocks : GName} → (b-numbers o-numbers n-numbers : ℕ) (numbers : List ℕ) (b-deques o-deques n-deques : ℕ) (deques : List ℕ) (b-frames o-frames n-frames : ℕ) (frames : List Frame) (b-pool o-pool n-pool : ℕ) (pool : List ℕ) (b-tape o-tape n-tape : ℕ) (tape : List ℕ) (b-answers o-answers n-answers : ℕ) (answers : List ℕ) (b-clocks o-clocks n-clocks : ℕ) (clocks : List ℕ) (free_count : ℕ) → (free-count-good : free_count < 2 ^ 32) → Fits (parts numbers deques frames) × Kept two_words (core_of (parts numbers deques frames) pool free_count) × (2 * (length tape / 8) ≤ length answers) × (length clocks ≡ 2 * length frames) × ((j : ℕ) → get_or clocks j 0 ≤ 0) → length numbers ≡ n-numbers → Room u32 n-numbers → length deques ≡ n-deques → Room u32 n-deques → length frames ≡ n-frames → Room R-Frame n-frames → length pool ≡ n-pool → Room u32 n-pool → length answers ≡ n-answers → Room u32 n-answers → length clocks ≡ n-clocks → Room u64 n-clocks →
+      ((ν-numbers : ℕ) (δ-numbers : GName) (ν-deques : ℕ) (δ-deques : GName) (ν-frames : ℕ) (δ-frames : GName) (ν-pool : ℕ) (δ-pool : GName) (ν-answers : ℕ) (δ-answers : GName) (ν-clocks : ℕ) (δ-clocks : GName) → Opds K 𝓛 (raw ((Asked 𝓛 mem run).pre (to-step-g 𝓛 mem run ν-numbers δ-numbers ν-deques δ-deques ν-frames δ-frames ν-pool δ-pool κ-tape q-tape γ-tape ν-answers δ-answers ν-clocks δ-clocks b-numbers o-numbers n-numbers numbers b-deques o-deques n-deques deques b-frames o-frames n-frames frames b-pool o-pool n-pool pool b-tape o-tape n-tape tape b-answers o-answers n-answers answers b-clocks o-clocks n-clocks clocks free_count)) ∷ ‵ (Lent u64 κ-clocks (ν-clocks ∷ []) q-clocks γ-clocks b-clocks o-clocks δ-clocks clocks) ∷ ‵ (Lent u32 κ-answers (ν-answers ∷ []) q-answers γ-answers b-answers o-answers δ-answers answers) ∷ ‵ ((ShrSlice (named 0) κ-tape u8).own_val (at_list b-tape o-tape γ-tape tape) (slice_val (b-tape, o-tape) n-tape ∷ [])) ∷ ‵ (Lent u32 κ-pool (ν-pool ∷ []) q-pool γ-pool b-pool o-pool δ-pool pool) ∷ ‵ (Lent R-Frame κ-frames (ν-frames ∷ []) q-frames γ-frames b-frames o-frames δ-frames frames) ∷ ‵ (Lent u32 κ-deques (ν-deques ∷ []) q-deques γ-deques b-deques o-deques δ-deques deques) ∷ ‵ (Lent u32 κ-numbers (ν-numbers ∷ []) q-numbers γ-numbers b-numbers o-numbers δ-numbers numbers) ∷ Γ) E opds' (slice_val (b-numbers, o-numbers) n-numbers ∷ slice_val (b-deques, o-deques) n-deques ∷ slice_val (b-frames, o-frames) n-frames ∷ slice_val (b-pool, o-pool) n-pool ∷ slice_val (b-tape, o-tape) n-tape ∷ slice_val (b-answers, o-answers) n-answers ∷ slice_val (b-clocks, o-clocks) n-clocks ∷ vint w32 free_count ∷ [])) →
+      ((res' : Tally) (zs-numbers : List ℕ) (zs-deques : List ℕ) (zs-frames : List Frame) (zs-pool : List ℕ) (zs-answers : List ℕ) (zs-clocks : List ℕ) → Is R-Tally res' (val-Tally res' ∷ []) → IsRun (run_on two_words (records_result (core_of (parts numbers deques frames) pool free_count) answers) 0 (records_of tape)) zs-numbers zs-deques zs-frames zs-pool zs-answers × (timing zs-clocks res'.work res'.span ≡ timed_over two_words (core_of (parts numbers deques frames) pool free_count) (records_of tape) (timing clocks 0 0)) → length zs-numbers ≡ length numbers → length zs-deques ≡ length deques → length zs-frames ≡ length frames → length zs-pool ≡ length pool → length zs-answers ≡ length answers → length zs-clocks ≡ length clocks → Seq K 𝓛 (‵ (Mine u32 κ-numbers q-numbers γ-numbers b-numbers o-numbers n-numbers zs-numbers) ∷ ‵ (Mine u32 κ-deques q-deques γ-deques b-deques o-deques n-deques zs-deques) ∷ ‵ (Mine R-Frame κ-frames q-frames γ-frames b-frames o-frames n-frames zs-frames) ∷ ‵ (Mine u32 κ-pool q-pool γ-pool b-pool o-pool n-pool zs-pool) ∷ ‵ (Yours u8 κ-tape q-tape γ-tape b-tape o-tape n-tape tape) ∷ ‵ (Mine u32 κ-answers q-answers γ-answers b-answers o-answers n-answers zs-answers) ∷ ‵ (Mine u64 κ-clocks q-clocks γ-clocks b-clocks o-clocks n-clocks zs-clocks) ∷ Γ) (lands C Λ E dest' (val-Tally res') rest' post')) →
+      Seq K 𝓛 (‵ (Mine u32 κ-numbers q-numbers γ-numbers b-numbers o-numbers n-numbers numbers) ∷ ‵ (Mine u32 κ-deques q-deques γ-deques b-deques o-deques n-deques deques) ∷ ‵ (Mine R-Frame κ-frames q-frames γ-frames b-frames o-frames n-frames frames) ∷ ‵ (Mine u32 κ-pool q-pool γ-pool b-pool o-pool n-pool pool) ∷ ‵ (Yours u8 κ-tape q-tape γ-tape b-tape o-tape n-tape tape) ∷ ‵ (Mine u32 κ-answers q-answers γ-answers b-answers o-answers n-answers answers) ∷ ‵ (Mine u64 κ-clocks q-clocks γ-clocks b-clocks o-clocks n-clocks clocks) ∷ Γ) (runs C Λ E (seq (call name' opds' dest') rest') post')
+  step-g t' fm' known' {κ-numbers} {q-numbers} {γ-numbers} {κ-deques} {q-deques} {γ-deques} {κ-frames} {q-frames} {γ-frames} {κ-pool} {q-pool} {γ-pool} {κ-tape} {q-tape} {γ-tape} {κ-answers} {q-answers} {γ-answers} {κ-clocks} {q-clocks} {γ-clocks} b-numbers o-numbers n-numbers numbers b-deques o-deques n-deques deques b-frames o-frames n-frames frames b-pool o-pool n-pool pool b-tape o-tape n-tape tape b-answers o-answers n-answers answers b-clocks o-clocks n-clocks clocks free_count free-count-good ok' len-numbers room-numbers len-deques room-deques len-frames room-frames len-pool room-pool len-answers room-answers len-clocks room-clocks os' k' =
+      lend t' tt u32 b-numbers o-numbers n-numbers numbers len-numbers (λ ν-numbers δ-numbers. move t' (3 ∷ []) $ lend t' tt u32 b-deques o-deques n-deques deques len-deques (λ ν-deques δ-deques. move t' (6 ∷ []) $ lend t' tt R-Frame b-frames o-frames n-frames frames len-frames (λ ν-frames δ-frames. move t' (9 ∷ []) $ lend t' tt u32 b-pool o-pool n-pool pool len-pool (λ ν-pool δ-pool. move t' (12 ∷ []) $ give t' u8 b-tape o-tape n-tape tape $ move t' (15 ∷ []) $ lend t' tt u32 b-answers o-answers n-answers answers len-answers (λ ν-answers δ-answers. move t' (18 ∷ []) $ lend t' tt u64 b-clocks o-clocks n-clocks clocks len-clocks (λ ν-clocks δ-clocks.
+      move t' (18 ∷ 15 ∷ 12 ∷ 9 ∷ 6 ∷ 3 ∷ 0 ∷ 19 ∷ 16 ∷ 13 ∷ 10 ∷ 7 ∷ 4 ∷ 1 ∷ []) $ group t' 14 $ use1 𝓛 (raw ((Asked 𝓛 mem run).pre (to-step-g 𝓛 mem run ν-numbers δ-numbers ν-deques δ-deques ν-frames δ-frames ν-pool δ-pool κ-tape q-tape γ-tape ν-answers δ-answers ν-clocks δ-clocks b-numbers o-numbers n-numbers numbers b-deques o-deques n-deques deques b-frames o-frames n-frames frames b-pool o-pool n-pool pool b-tape o-tape n-tape tape b-answers o-answers n-answers answers b-clocks o-clocks n-clocks clocks free_count))) (goes-step-g 𝓛 mem run ν-numbers δ-numbers ν-deques δ-deques ν-frames δ-frames ν-pool δ-pool κ-tape q-tape γ-tape ν-answers δ-answers ν-clocks δ-clocks b-numbers o-numbers n-numbers numbers b-deques o-deques n-deques deques b-frames o-frames n-frames frames b-pool o-pool n-pool pool b-tape o-tape n-tape tape b-answers o-answers n-answers answers b-clocks o-clocks n-clocks clocks free_count free-count-good ok') $
+      calls_at t' fm' (Asked 𝓛 mem run) known' (to-step-g 𝓛 mem run ν-numbers δ-numbers ν-deques δ-deques ν-frames δ-frames ν-pool δ-pool κ-tape q-tape γ-tape ν-answers δ-answers ν-clocks δ-clocks b-numbers o-numbers n-numbers numbers b-deques o-deques n-deques deques b-frames o-frames n-frames frames b-pool o-pool n-pool pool b-tape o-tape n-tape tape b-answers o-answers n-answers answers b-clocks o-clocks n-clocks clocks free_count) (os' ν-numbers δ-numbers ν-deques δ-deques ν-frames δ-frames ν-pool δ-pool ν-answers δ-answers ν-clocks δ-clocks) (λ w'.
+      use1 𝓛 (later (some (λ (res' : Tally). ((‵ (flft (ν-numbers ∷ []) full_share) ⊛ (‵ (flft (ν-deques ∷ []) full_share) ⊛ (‵ (flft (ν-frames ∷ []) full_share) ⊛ (‵ (flft (ν-pool ∷ []) full_share) ⊛ (‵ (flft κ-tape q-tape) ⊛ (‵ (flft (ν-answers ∷ []) full_share) ⊛ (‵ (flft (ν-clocks ∷ []) full_share) ⊛ ‵ ftrue))))))) ⊛ ‵ (R-Tally.own res' (w' ∷ []))) ⊛ raw (ensured 𝓛 callee'.ended (callee'.clauses 𝓛 mem run) ((ν-numbers ∷ []), ((ν-deques ∷ []), ((ν-frames ∷ []), ((ν-pool ∷ []), (κ-tape, ((ν-answers ∷ []), ((ν-clocks ∷ []), tt))))))) (at_list b-numbers o-numbers δ-numbers numbers, (at_list b-deques o-deques δ-deques deques, (at_list b-frames o-frames δ-frames frames, (at_list b-pool o-pool δ-pool pool, (at_list b-tape o-tape γ-tape tape, (at_list b-answers o-answers δ-answers answers, (at_list b-clocks o-clocks δ-clocks clocks, (free_count, tt)))))))) tt res')))) (id⊢ 𝓤 _) $ await t' tt $ pick t' (λ res'. split t' $ move t' (1 ∷ []) $
+      use1 𝓛 (some (λ (zs' : List ℕ × (List ℕ × (List Frame × (List ℕ × (Unit {0} × (List ℕ × (List ℕ × (Unit {0} × Unit {0})))))))). ‵ (lasts callee'.ended ((ν-numbers ∷ []), ((ν-deques ∷ []), ((ν-frames ∷ []), ((ν-pool ∷ []), (κ-tape, ((ν-answers ∷ []), ((ν-clocks ∷ []), tt))))))) (at_list b-numbers o-numbers δ-numbers numbers, (at_list b-deques o-deques δ-deques deques, (at_list b-frames o-frames δ-frames frames, (at_list b-pool o-pool δ-pool pool, (at_list b-tape o-tape γ-tape tape, (at_list b-answers o-answers δ-answers answers, (at_list b-clocks o-clocks δ-clocks clocks, (free_count, tt)))))))) zs') ⊛ raw (fact 𝓤 (IsRun (run_on two_words (records_result (core_of (parts numbers deques frames) pool free_count) answers) 0 (records_of tape)) zs'.0 zs'.1.0 zs'.1.1.0 zs'.1.1.1.0 zs'.1.1.1.1.1.0 × (timing zs'.1.1.1.1.1.1.0 res'.work res'.span ≡ timed_over two_words (core_of (parts numbers deques frames) pool free_count) (records_of tape) (timing clocks 0 0)))))) (id⊢ 𝓤 _) $ pick t' (λ zs'. split t' $ move t' (1 ∷ []) $ heard t' (IsRun (run_on two_words (records_result (core_of (parts numbers deques frames) pool free_count) answers) 0 (records_of tape)) zs'.0 zs'.1.0 zs'.1.1.0 zs'.1.1.1.0 zs'.1.1.1.1.1.0 × (timing zs'.1.1.1.1.1.1.0 res'.work res'.span ≡ timed_over two_words (core_of (parts numbers deques frames) pool free_count) (records_of tape) (timing clocks 0 0))) (λ e'.
+      fsplit t' $ fsplit t' $ move t' (1 ∷ []) $ feq_l t' (λ same_numbers. move t' (1 ∷ []) $ fsplit t' $ fsplit t' $ move t' (1 ∷ []) $ feq_l t' (λ same-deques. move t' (1 ∷ []) $ fsplit t' $ fsplit t' $ move t' (1 ∷ []) $ feq_l t' (λ same-frames. move t' (1 ∷ []) $ fsplit t' $ fsplit t' $ move t' (1 ∷ []) $ feq_l t' (λ same-pool. move t' (1 ∷ []) $ fsplit t' $ drop t' $ fsplit t' $ fsplit t' $ move t' (1 ∷ []) $ feq_l t' (λ same-answers. move t' (1 ∷ []) $ fsplit t' $ fsplit t' $ move t' (1 ∷ []) $ feq_l t' (λ same_clocks. move t' (1 ∷ []) $ fsplit t' $ drop t' $ drop t' $
+      move t' (6 ∷ []) $ split t' $ move t' (1 ∷ []) $ peeks t' R-Tally (Is R-Tally) (shows 𝓛 R-Tally) res' (w' ∷ []) (λ is'. drop t' $ split t' $ move t' (1 ∷ []) $ split t' $ move t' (1 ∷ []) $ split t' $ move t' (1 ∷ []) $ split t' $ move t' (1 ∷ []) $ split t' $ move t' (1 ∷ []) $ split t' $ move t' (1 ∷ []) $ split t' $ move t' (1 ∷ []) $ drop t' $
+      move t' (0 ∷ 13 ∷ 7 ∷ []) $ home t' tt u64 b-clocks o-clocks n-clocks clocks zs'.1.1.1.1.1.1.0 len-clocks room-clocks same_clocks $ move t' (1 ∷ 12 ∷ 7 ∷ []) $ home t' tt u32 b-answers o-answers n-answers answers zs'.1.1.1.1.1.0 len-answers room-answers same-answers $ move t' (11 ∷ 2 ∷ []) $ fjoin t' $ move t' (3 ∷ 11 ∷ 7 ∷ []) $ home t' tt u32 b-pool o-pool n-pool pool zs'.1.1.1.0 len-pool room-pool same-pool $ move t' (4 ∷ 10 ∷ 7 ∷ []) $ home t' tt R-Frame b-frames o-frames n-frames frames zs'.1.1.0 len-frames room-frames same-frames $ move t' (5 ∷ 9 ∷ 7 ∷ []) $ home t' tt u32 b-deques o-deques n-deques deques zs'.1.0 len-deques room-deques same-deques $ move t' (6 ∷ 8 ∷ 7 ∷ []) $ home t' tt u32 b-numbers o-numbers n-numbers numbers zs'.0 len-numbers room-numbers same_numbers $
+      subst (λ (v' : Val). Seq K 𝓛 (‵ (Mine u32 κ-numbers q-numbers γ-numbers b-numbers o-numbers n-numbers zs'.0) ∷ ‵ (Mine u32 κ-deques q-deques γ-deques b-deques o-deques n-deques zs'.1.0) ∷ ‵ (Mine R-Frame κ-frames q-frames γ-frames b-frames o-frames n-frames zs'.1.1.0) ∷ ‵ (Mine u32 κ-pool q-pool γ-pool b-pool o-pool n-pool zs'.1.1.1.0) ∷ ‵ (Yours u8 κ-tape q-tape γ-tape b-tape o-tape n-tape tape) ∷ ‵ (Mine u32 κ-answers q-answers γ-answers b-answers o-answers n-answers zs'.1.1.1.1.1.0) ∷ ‵ (Mine u64 κ-clocks q-clocks γ-clocks b-clocks o-clocks n-clocks zs'.1.1.1.1.1.1.0) ∷ Γ) (lands C Λ E dest' v' rest' post')) (sym (ap only (LL.tells M-Tally.the_type L-Tally.the_laws res' _ is'))) (k' res' zs'.0 zs'.1.0 zs'.1.1.0 zs'.1.1.1.0 zs'.1.1.1.1.1.0 zs'.1.1.1.1.1.1.0 (subst (Is R-Tally res') (LL.tells M-Tally.the_type L-Tally.the_laws res' _ is') is') e' same_numbers same-deques same-frames same-pool same-answers same_clocks))))))))))))))))))

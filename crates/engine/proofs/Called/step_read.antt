@@ -1,9 +1,13 @@
 -- Written by tools/walk: the call of `engine::kinds::step_read` as a step of a walk. Do not edit: write it again.
 -- The operands are read in the context [what the callee asks; the loans; Γ], where an entry of Γ stands one further on than before the call.
-use Rattle.std.proofs.Common.{◌≡◌, ℕ, ◌^◌, ◌<◌, Bool, List, [], ◌∷◌, length, sym, refl, ap, subst, w8, w16, w32, w64}
+use mathlib.Core.Path.{◌≡◌, refl, sym, ap, subst}
+use Prim.Native.Nat.{ℕ, ◌<◌, ◌^◌}
+use mathlib.Core.List.{List, [], ◌∷◌}
+use mathlib.Core.Bool.{Bool}
+use lib.ListN.{length}
 use seplogic.Ra.Ura.{Ura}
 use seplogic.Ra.TreeShare.{full_share}
-use mir.Syntax.{Name, Place, Opd as Operand, Body, named, seq, call}
+use mir.Syntax.{Name, Place, Opd as Operand, Body, named, w8, w16, w32, w64, seq, call}
 use mir.Val.{Val, vint, vbool, vunit}
 use base.Logic.{SProp, ent, id⊢}
 use base.Fml.{Lft, GName, Share, ftrue, flft}
@@ -30,20 +34,20 @@ use denote.Triple.Clauses.{ensured, lasts}
 use denote.Triple.Walked.{says}
 use Rattle.model.specs.declared.Step.TheVariants.{Read}
 use Rattle.semantics.specs.Core.{step_on}
-use Rattle.semantics.specs.Ranges.{Ready, Recalls}
-use Rattle.engine.specs.Promises.{core, LeavesVisited}
-use Rattle.soundness.specs.Layout.{two_words}
+use Rattle.semantics.specs.Ranges.{Ready}
+use Rattle.engine.specs.Promises.{core, LeavesOthers}
 use Rattle.semantics.specs.contracts.Head as M-Head
 use Rattle.semantics.proofs.Head.TheLaws as L-Head
 use Rattle.semantics.specs.declared.Head.{Head}
 use Rattle.frames.specs.contracts.Frame as M-Frame
 use Rattle.frames.proofs.Frame.TheLaws as L-Frame
 use Rattle.frames.specs.declared.Frame.{Frame}
-use Rattle.engine.specs.contracts.Visited as M-Visited
-use Rattle.engine.proofs.Visited.TheLaws as L-Visited
-use Rattle.engine.specs.declared.Visited.{Visited}
+use Rattle.engine.specs.contracts.Out as M-Out
+use Rattle.engine.proofs.Out.TheLaws as L-Out
+use Rattle.engine.specs.declared.Out.{Out}
 use Rattle.frames.proofs.Lent.{at_list, Mine, Yours, Lent, Shown, lend, home, show, back, give}
 use Rattle.engine.specs.contracts.kinds.step_read as callee'
+use Rattle.soundness.specs.Layout.{two_words}
 
 abbrev R-Head : RattleType
 R-Head = M-Head.the_row
@@ -57,38 +61,38 @@ R-Frame = M-Frame.the_row
 abbrev val-Frame : Frame → Val
 val-Frame d = LL.val M-Frame.the_type L-Frame.the_laws d
 
-abbrev R-Visited : RattleType
-R-Visited = M-Visited.the_row
+abbrev R-Out : RattleType
+R-Out = M-Out.the_row
 
-abbrev val-Visited : Visited → Val
-val-Visited d = LL.val M-Visited.the_type L-Visited.the_laws d
+abbrev val-Out : Out → Val
+val-Out d = LL.val M-Out.the_type L-Out.the_laws d
 
 module _ {M : Type 1} {𝓤 : Ura M} (𝓛 : Logic 𝓤) (mem : Memory → SProp 𝓤) (run : Routine → Fun 𝓤) where
   abbrev pub Asked : Contract 𝓤
   Asked = triple_of 𝓛 callee'.signature (callee'.spec 𝓛 mem run)
 
-  abbrev pub to_step : (ν-deques : ℕ) (δ-deques : GName) (ν-frames : ℕ) (δ-frames : GName) (ν-pool : ℕ) (δ-pool : GName) (ν-memory : ℕ) (δ-memory : GName) (b-deques o-deques n-deques : ℕ) (deques : List ℕ) (b-frames o-frames n-frames : ℕ) (frames : List Frame) (b-pool o-pool n-pool : ℕ) (pool : List ℕ) (b-memory o-memory n-memory : ℕ) (memory : List ℕ) (h : Head) (w : ℕ) (x : ℕ) → Asked.Ghost
-  to_step ν-deques δ-deques ν-frames δ-frames ν-pool δ-pool ν-memory δ-memory b-deques o-deques n-deques deques b-frames o-frames n-frames frames b-pool o-pool n-pool pool b-memory o-memory n-memory memory h w x = ((((ν-deques ∷ []), ((ν-frames ∷ []), ((ν-pool ∷ []), ((ν-memory ∷ []), tt)))), (full_share, (full_share, (full_share, (full_share, tt)))), tt, (h, (at_list b-deques o-deques δ-deques deques, (at_list b-frames o-frames δ-frames frames, (at_list b-pool o-pool δ-pool pool, (at_list b-memory o-memory δ-memory memory, (w, (x, tt))))))), (val-Head h ∷ [], (slice_val (b-deques, o-deques) n-deques ∷ [], (slice_val (b-frames, o-frames) n-frames ∷ [], (slice_val (b-pool, o-pool) n-pool ∷ [], (slice_val (b-memory, o-memory) n-memory ∷ [], (vint w32 w ∷ [], (vint w32 x ∷ [], tt)))))))), tt)
+  abbrev pub to_step : (ν-deques : ℕ) (δ-deques : GName) (ν-frames : ℕ) (δ-frames : GName) (ν-pool : ℕ) (δ-pool : GName) (b-deques o-deques n-deques : ℕ) (deques : List ℕ) (b-frames o-frames n-frames : ℕ) (frames : List Frame) (b-pool o-pool n-pool : ℕ) (pool : List ℕ) (h : Head) (w : ℕ) (x : ℕ) → Asked.Ghost
+  to_step ν-deques δ-deques ν-frames δ-frames ν-pool δ-pool b-deques o-deques n-deques deques b-frames o-frames n-frames frames b-pool o-pool n-pool pool h w x = ((((ν-deques ∷ []), ((ν-frames ∷ []), ((ν-pool ∷ []), tt))), (full_share, (full_share, (full_share, tt))), tt, (h, (at_list b-deques o-deques δ-deques deques, (at_list b-frames o-frames δ-frames frames, (at_list b-pool o-pool δ-pool pool, (w, (x, tt)))))), (val-Head h ∷ [], (slice_val (b-deques, o-deques) n-deques ∷ [], (slice_val (b-frames, o-frames) n-frames ∷ [], (slice_val (b-pool, o-pool) n-pool ∷ [], (vint w32 w ∷ [], (vint w32 x ∷ [], tt))))))), tt)
 
-  pub goes_step : (ν-deques : ℕ) (δ-deques : GName) (ν-frames : ℕ) (δ-frames : GName) (ν-pool : ℕ) (δ-pool : GName) (ν-memory : ℕ) (δ-memory : GName) (b-deques o-deques n-deques : ℕ) (deques : List ℕ) (b-frames o-frames n-frames : ℕ) (frames : List Frame) (b-pool o-pool n-pool : ℕ) (pool : List ℕ) (b-memory o-memory n-memory : ℕ) (memory : List ℕ) (h : Head) (w : ℕ) (x : ℕ) → (h-good : Is R-Head h (val-Head h ∷ [])) (w-good : w < 2 ^ 32) (x-good : x < 2 ^ 32) (ok' : Ready (core h [] deques frames pool) × Recalls (core h [] deques frames pool) memory) → ent 𝓤 (⋆ 𝓛 (‵ (flft (ν-deques ∷ []) full_share) ∷ ‵ (flft (ν-frames ∷ []) full_share) ∷ ‵ (flft (ν-pool ∷ []) full_share) ∷ ‵ (flft (ν-memory ∷ []) full_share) ∷ ‵ ((MutSlice (named 0) (ν-deques ∷ []) u32).own_val (at_list b-deques o-deques δ-deques deques) (slice_val (b-deques, o-deques) n-deques ∷ [])) ∷ ‵ ((MutSlice (named 0) (ν-frames ∷ []) R-Frame).own_val (at_list b-frames o-frames δ-frames frames) (slice_val (b-frames, o-frames) n-frames ∷ [])) ∷ ‵ ((MutSlice (named 0) (ν-pool ∷ []) u32).own_val (at_list b-pool o-pool δ-pool pool) (slice_val (b-pool, o-pool) n-pool ∷ [])) ∷ ‵ ((MutSlice (named 0) (ν-memory ∷ []) u32).own_val (at_list b-memory o-memory δ-memory memory) (slice_val (b-memory, o-memory) n-memory ∷ [])) ∷ [])) (Asked.pre (to_step ν-deques δ-deques ν-frames δ-frames ν-pool δ-pool ν-memory δ-memory b-deques o-deques n-deques deques b-frames o-frames n-frames frames b-pool o-pool n-pool pool b-memory o-memory n-memory memory h w x))
-  goes_step ν-deques δ-deques ν-frames δ-frames ν-pool δ-pool ν-memory δ-memory b-deques o-deques n-deques deques b-frames o-frames n-frames frames b-pool o-pool n-pool pool b-memory o-memory n-memory memory h w x h-good w-good x-good ok' = qed 𝓛 (‵ (flft (ν-deques ∷ []) full_share) ∷ ‵ (flft (ν-frames ∷ []) full_share) ∷ ‵ (flft (ν-pool ∷ []) full_share) ∷ ‵ (flft (ν-memory ∷ []) full_share) ∷ ‵ ((MutSlice (named 0) (ν-deques ∷ []) u32).own_val (at_list b-deques o-deques δ-deques deques) (slice_val (b-deques, o-deques) n-deques ∷ [])) ∷ ‵ ((MutSlice (named 0) (ν-frames ∷ []) R-Frame).own_val (at_list b-frames o-frames δ-frames frames) (slice_val (b-frames, o-frames) n-frames ∷ [])) ∷ ‵ ((MutSlice (named 0) (ν-pool ∷ []) u32).own_val (at_list b-pool o-pool δ-pool pool) (slice_val (b-pool, o-pool) n-pool ∷ [])) ∷ ‵ ((MutSlice (named 0) (ν-memory ∷ []) u32).own_val (at_list b-memory o-memory δ-memory memory) (slice_val (b-memory, o-memory) n-memory ∷ [])) ∷ []) ∵ says ! ok' $ nothing ! $ move ! (1 ∷ 2 ∷ 3 ∷ 4 ∷ 0 ∷ []) $ group ! 5 $ frame ! $
-      nothing ! $ owned ! u32 (Is u32) (uint_Makes 𝓛 w32) x _ (refl, x-good) $ fjoin ! $ owned ! u32 (Is u32) (uint_Makes 𝓛 w32) w _ (refl, w-good) $ fjoin ! $ move ! (4 ∷ 0 ∷ []) $ fjoin ! $ move ! (3 ∷ 0 ∷ []) $ fjoin ! $ move ! (2 ∷ 0 ∷ []) $ fjoin ! $ move ! (1 ∷ 0 ∷ []) $ fjoin ! $ owned ! R-Head (Is R-Head) (LL.makes M-Head.the_type L-Head.the_plain 𝓛) h _ h-good $ fjoin ! $ done !
+  pub goes_step : (ν-deques : ℕ) (δ-deques : GName) (ν-frames : ℕ) (δ-frames : GName) (ν-pool : ℕ) (δ-pool : GName) (b-deques o-deques n-deques : ℕ) (deques : List ℕ) (b-frames o-frames n-frames : ℕ) (frames : List Frame) (b-pool o-pool n-pool : ℕ) (pool : List ℕ) (h : Head) (w : ℕ) (x : ℕ) → (h-good : Is R-Head h (val-Head h ∷ [])) (w-good : w < 2 ^ 32) (x-good : x < 2 ^ 32) (ok' : Ready (core h [] deques frames pool)) → ent 𝓤 (⋆ 𝓛 (‵ (flft (ν-deques ∷ []) full_share) ∷ ‵ (flft (ν-frames ∷ []) full_share) ∷ ‵ (flft (ν-pool ∷ []) full_share) ∷ ‵ ((MutSlice (named 0) (ν-deques ∷ []) u32).own_val (at_list b-deques o-deques δ-deques deques) (slice_val (b-deques, o-deques) n-deques ∷ [])) ∷ ‵ ((MutSlice (named 0) (ν-frames ∷ []) R-Frame).own_val (at_list b-frames o-frames δ-frames frames) (slice_val (b-frames, o-frames) n-frames ∷ [])) ∷ ‵ ((MutSlice (named 0) (ν-pool ∷ []) u32).own_val (at_list b-pool o-pool δ-pool pool) (slice_val (b-pool, o-pool) n-pool ∷ [])) ∷ [])) (Asked.pre (to_step ν-deques δ-deques ν-frames δ-frames ν-pool δ-pool b-deques o-deques n-deques deques b-frames o-frames n-frames frames b-pool o-pool n-pool pool h w x))
+  goes_step ν-deques δ-deques ν-frames δ-frames ν-pool δ-pool b-deques o-deques n-deques deques b-frames o-frames n-frames frames b-pool o-pool n-pool pool h w x h-good w-good x-good ok' = qed 𝓛 (‵ (flft (ν-deques ∷ []) full_share) ∷ ‵ (flft (ν-frames ∷ []) full_share) ∷ ‵ (flft (ν-pool ∷ []) full_share) ∷ ‵ ((MutSlice (named 0) (ν-deques ∷ []) u32).own_val (at_list b-deques o-deques δ-deques deques) (slice_val (b-deques, o-deques) n-deques ∷ [])) ∷ ‵ ((MutSlice (named 0) (ν-frames ∷ []) R-Frame).own_val (at_list b-frames o-frames δ-frames frames) (slice_val (b-frames, o-frames) n-frames ∷ [])) ∷ ‵ ((MutSlice (named 0) (ν-pool ∷ []) u32).own_val (at_list b-pool o-pool δ-pool pool) (slice_val (b-pool, o-pool) n-pool ∷ [])) ∷ []) ∵ says ! ok' $ nothing ! $ move ! (1 ∷ 2 ∷ 3 ∷ 0 ∷ []) $ group ! 4 $ frame ! $
+      nothing ! $ owned ! u32 (Is u32) (uint_Makes 𝓛 w32) x _ (refl, x-good) $ fjoin ! $ owned ! u32 (Is u32) (uint_Makes 𝓛 w32) w _ (refl, w-good) $ fjoin ! $ move ! (3 ∷ 0 ∷ []) $ fjoin ! $ move ! (2 ∷ 0 ∷ []) $ fjoin ! $ move ! (1 ∷ 0 ∷ []) $ fjoin ! $ owned ! R-Head (Is R-Head) (LL.makes M-Head.the_type L-Head.the_plain 𝓛) h _ h-good $ fjoin ! $ done !
 
 module _ {M : Type 1} {𝓤 : Ura M} {𝓛 : Logic 𝓤} {K : Type 0} (mem : Memory → SProp 𝓤) (run : Routine → Fun 𝓤)
     {Γ : List (Item 𝓤)} {E : Env 𝓤 𝓛.H} {C : Calls 𝓤 𝓛.H} {Λ : Loops 𝓤 𝓛.H} {post' : Post 𝓤 𝓛.H} {dest' : Place} {name' : Name} {opds' : List Operand} {rest' : Body} where
   open 𝓛 use {H}
 
-  pub step : K → FmC 𝓤 H 𝓛.laws C → Triple 𝓤 (C name') (Asked 𝓛 mem run) → {κ-deques : Lft} {q-deques : Share} {γ-deques : GName} {κ-frames : Lft} {q-frames : Share} {γ-frames : GName} {κ-pool : Lft} {q-pool : Share} {γ-pool : GName} {κ-memory : Lft} {q-memory : Share} {γ-memory : GName} → (b-deques o-deques n-deques : ℕ) (deques : List ℕ) (b-frames o-frames n-frames : ℕ) (frames : List Frame) (b-pool o-pool n-pool : ℕ) (pool : List ℕ) (b-memory o-memory n-memory : ℕ) (memory : List ℕ) (h : Head) (w : ℕ) (x : ℕ) → (h-good : Is R-Head h (val-Head h ∷ [])) → (w-good : w < 2 ^ 32) → (x-good : x < 2 ^ 32) → Ready (core h [] deques frames pool) × Recalls (core h [] deques frames pool) memory → length deques ≡ n-deques → Room u32 n-deques → length frames ≡ n-frames → Room R-Frame n-frames → length pool ≡ n-pool → Room u32 n-pool → length memory ≡ n-memory → Room u32 n-memory →
-      ((ν-deques : ℕ) (δ-deques : GName) (ν-frames : ℕ) (δ-frames : GName) (ν-pool : ℕ) (δ-pool : GName) (ν-memory : ℕ) (δ-memory : GName) → Opds K 𝓛 (raw ((Asked 𝓛 mem run).pre (to_step 𝓛 mem run ν-deques δ-deques ν-frames δ-frames ν-pool δ-pool ν-memory δ-memory b-deques o-deques n-deques deques b-frames o-frames n-frames frames b-pool o-pool n-pool pool b-memory o-memory n-memory memory h w x)) ∷ ‵ (Lent u32 κ-memory (ν-memory ∷ []) q-memory γ-memory b-memory o-memory δ-memory memory) ∷ ‵ (Lent u32 κ-pool (ν-pool ∷ []) q-pool γ-pool b-pool o-pool δ-pool pool) ∷ ‵ (Lent R-Frame κ-frames (ν-frames ∷ []) q-frames γ-frames b-frames o-frames δ-frames frames) ∷ ‵ (Lent u32 κ-deques (ν-deques ∷ []) q-deques γ-deques b-deques o-deques δ-deques deques) ∷ Γ) E opds' (val-Head h ∷ slice_val (b-deques, o-deques) n-deques ∷ slice_val (b-frames, o-frames) n-frames ∷ slice_val (b-pool, o-pool) n-pool ∷ slice_val (b-memory, o-memory) n-memory ∷ vint w32 w ∷ vint w32 x ∷ [])) →
-      ((res' : Visited) (zs-deques : List ℕ) (zs-frames : List Frame) (zs-pool : List ℕ) (zs-memory : List ℕ) → Is R-Visited res' (val-Visited res' ∷ []) → LeavesVisited (step_on two_words) (Read w x) h res' deques frames pool memory zs-deques zs-frames zs-pool zs-memory → length zs-deques ≡ length deques → length zs-frames ≡ length frames → length zs-pool ≡ length pool → length zs-memory ≡ length memory → Seq K 𝓛 (‵ (Mine u32 κ-deques q-deques γ-deques b-deques o-deques n-deques zs-deques) ∷ ‵ (Mine R-Frame κ-frames q-frames γ-frames b-frames o-frames n-frames zs-frames) ∷ ‵ (Mine u32 κ-pool q-pool γ-pool b-pool o-pool n-pool zs-pool) ∷ ‵ (Mine u32 κ-memory q-memory γ-memory b-memory o-memory n-memory zs-memory) ∷ Γ) (lands C Λ E dest' (val-Visited res') rest' post')) →
-      Seq K 𝓛 (‵ (Mine u32 κ-deques q-deques γ-deques b-deques o-deques n-deques deques) ∷ ‵ (Mine R-Frame κ-frames q-frames γ-frames b-frames o-frames n-frames frames) ∷ ‵ (Mine u32 κ-pool q-pool γ-pool b-pool o-pool n-pool pool) ∷ ‵ (Mine u32 κ-memory q-memory γ-memory b-memory o-memory n-memory memory) ∷ Γ) (runs C Λ E (seq (call name' opds' dest') rest') post')
-  step t' fm' known' {κ-deques} {q-deques} {γ-deques} {κ-frames} {q-frames} {γ-frames} {κ-pool} {q-pool} {γ-pool} {κ-memory} {q-memory} {γ-memory} b-deques o-deques n-deques deques b-frames o-frames n-frames frames b-pool o-pool n-pool pool b-memory o-memory n-memory memory h w x h-good w-good x-good ok' len-deques room-deques len-frames room-frames len-pool room-pool len-memory room-memory os' k' =
-      lend t' tt u32 b-deques o-deques n-deques deques len-deques (λ ν-deques δ-deques. move t' (3 ∷ []) $ lend t' tt R-Frame b-frames o-frames n-frames frames len-frames (λ ν-frames δ-frames. move t' (6 ∷ []) $ lend t' tt u32 b-pool o-pool n-pool pool len-pool (λ ν-pool δ-pool. move t' (9 ∷ []) $ lend t' tt u32 b-memory o-memory n-memory memory len-memory (λ ν-memory δ-memory.
-      move t' (9 ∷ 6 ∷ 3 ∷ 0 ∷ 10 ∷ 7 ∷ 4 ∷ 1 ∷ []) $ group t' 8 $ use1 𝓛 (raw ((Asked 𝓛 mem run).pre (to_step 𝓛 mem run ν-deques δ-deques ν-frames δ-frames ν-pool δ-pool ν-memory δ-memory b-deques o-deques n-deques deques b-frames o-frames n-frames frames b-pool o-pool n-pool pool b-memory o-memory n-memory memory h w x))) (goes_step 𝓛 mem run ν-deques δ-deques ν-frames δ-frames ν-pool δ-pool ν-memory δ-memory b-deques o-deques n-deques deques b-frames o-frames n-frames frames b-pool o-pool n-pool pool b-memory o-memory n-memory memory h w x h-good w-good x-good ok') $
-      calls_at t' fm' (Asked 𝓛 mem run) known' (to_step 𝓛 mem run ν-deques δ-deques ν-frames δ-frames ν-pool δ-pool ν-memory δ-memory b-deques o-deques n-deques deques b-frames o-frames n-frames frames b-pool o-pool n-pool pool b-memory o-memory n-memory memory h w x) (os' ν-deques δ-deques ν-frames δ-frames ν-pool δ-pool ν-memory δ-memory) (λ w'.
-      use1 𝓛 (later (some (λ (res' : Visited). ((‵ (flft (ν-deques ∷ []) full_share) ⊛ (‵ (flft (ν-frames ∷ []) full_share) ⊛ (‵ (flft (ν-pool ∷ []) full_share) ⊛ (‵ (flft (ν-memory ∷ []) full_share) ⊛ ‵ ftrue)))) ⊛ ‵ (R-Visited.own res' (w' ∷ []))) ⊛ raw (ensured 𝓛 callee'.ended (callee'.clauses 𝓛 mem run) ((ν-deques ∷ []), ((ν-frames ∷ []), ((ν-pool ∷ []), ((ν-memory ∷ []), tt)))) (h, (at_list b-deques o-deques δ-deques deques, (at_list b-frames o-frames δ-frames frames, (at_list b-pool o-pool δ-pool pool, (at_list b-memory o-memory δ-memory memory, (w, (x, tt))))))) tt res')))) (id⊢ 𝓤 _) $ await t' tt $ pick t' (λ res'. split t' $ move t' (1 ∷ []) $
-      use1 𝓛 (some (λ (zs' : Unit {0} × (List ℕ × (List Frame × (List ℕ × (List ℕ × (Unit {0} × (Unit {0} × Unit {0}))))))). ‵ (lasts callee'.ended ((ν-deques ∷ []), ((ν-frames ∷ []), ((ν-pool ∷ []), ((ν-memory ∷ []), tt)))) (h, (at_list b-deques o-deques δ-deques deques, (at_list b-frames o-frames δ-frames frames, (at_list b-pool o-pool δ-pool pool, (at_list b-memory o-memory δ-memory memory, (w, (x, tt))))))) zs') ⊛ raw (fact 𝓤 (LeavesVisited (step_on two_words) (Read w x) h res' deques frames pool memory zs'.1.0 zs'.1.1.0 zs'.1.1.1.0 zs'.1.1.1.1.0)))) (id⊢ 𝓤 _) $ pick t' (λ zs'. split t' $ move t' (1 ∷ []) $ heard t' (LeavesVisited (step_on two_words) (Read w x) h res' deques frames pool memory zs'.1.0 zs'.1.1.0 zs'.1.1.1.0 zs'.1.1.1.1.0) (λ e'.
-      fsplit t' $ drop t' $ fsplit t' $ fsplit t' $ move t' (1 ∷ []) $ feq_l t' (λ same-deques. move t' (1 ∷ []) $ fsplit t' $ fsplit t' $ move t' (1 ∷ []) $ feq_l t' (λ same-frames. move t' (1 ∷ []) $ fsplit t' $ fsplit t' $ move t' (1 ∷ []) $ feq_l t' (λ same-pool. move t' (1 ∷ []) $ fsplit t' $ fsplit t' $ move t' (1 ∷ []) $ feq_l t' (λ same_memory. move t' (1 ∷ []) $ fsplit t' $ drop t' $ fsplit t' $ drop t' $ drop t' $
-      move t' (4 ∷ []) $ split t' $ move t' (1 ∷ []) $ peeks t' R-Visited (Is R-Visited) (shows 𝓛 R-Visited) res' (w' ∷ []) (λ is'. drop t' $ split t' $ move t' (1 ∷ []) $ split t' $ move t' (1 ∷ []) $ split t' $ move t' (1 ∷ []) $ split t' $ move t' (1 ∷ []) $ drop t' $
-      move t' (0 ∷ 8 ∷ 4 ∷ []) $ home t' tt u32 b-memory o-memory n-memory memory zs'.1.1.1.1.0 len-memory room-memory same_memory $ move t' (1 ∷ 7 ∷ 4 ∷ []) $ home t' tt u32 b-pool o-pool n-pool pool zs'.1.1.1.0 len-pool room-pool same-pool $ move t' (2 ∷ 6 ∷ 4 ∷ []) $ home t' tt R-Frame b-frames o-frames n-frames frames zs'.1.1.0 len-frames room-frames same-frames $ move t' (3 ∷ 5 ∷ 4 ∷ []) $ home t' tt u32 b-deques o-deques n-deques deques zs'.1.0 len-deques room-deques same-deques $
-      subst (λ (v' : Val). Seq K 𝓛 (‵ (Mine u32 κ-deques q-deques γ-deques b-deques o-deques n-deques zs'.1.0) ∷ ‵ (Mine R-Frame κ-frames q-frames γ-frames b-frames o-frames n-frames zs'.1.1.0) ∷ ‵ (Mine u32 κ-pool q-pool γ-pool b-pool o-pool n-pool zs'.1.1.1.0) ∷ ‵ (Mine u32 κ-memory q-memory γ-memory b-memory o-memory n-memory zs'.1.1.1.1.0) ∷ Γ) (lands C Λ E dest' v' rest' post')) (sym (ap only (LL.tells M-Visited.the_type L-Visited.the_laws res' _ is'))) (k' res' zs'.1.0 zs'.1.1.0 zs'.1.1.1.0 zs'.1.1.1.1.0 (subst (Is R-Visited res') (LL.tells M-Visited.the_type L-Visited.the_laws res' _ is') is') e' same-deques same-frames same-pool same_memory))))))))))))))
+  pub step : K → FmC 𝓤 H 𝓛.laws C → Triple 𝓤 (C name') (Asked 𝓛 mem run) → {κ-deques : Lft} {q-deques : Share} {γ-deques : GName} {κ-frames : Lft} {q-frames : Share} {γ-frames : GName} {κ-pool : Lft} {q-pool : Share} {γ-pool : GName} → (b-deques o-deques n-deques : ℕ) (deques : List ℕ) (b-frames o-frames n-frames : ℕ) (frames : List Frame) (b-pool o-pool n-pool : ℕ) (pool : List ℕ) (h : Head) (w : ℕ) (x : ℕ) → (h-good : Is R-Head h (val-Head h ∷ [])) → (w-good : w < 2 ^ 32) → (x-good : x < 2 ^ 32) → Ready (core h [] deques frames pool) → length deques ≡ n-deques → Room u32 n-deques → length frames ≡ n-frames → Room R-Frame n-frames → length pool ≡ n-pool → Room u32 n-pool →
+      ((ν-deques : ℕ) (δ-deques : GName) (ν-frames : ℕ) (δ-frames : GName) (ν-pool : ℕ) (δ-pool : GName) → Opds K 𝓛 (raw ((Asked 𝓛 mem run).pre (to_step 𝓛 mem run ν-deques δ-deques ν-frames δ-frames ν-pool δ-pool b-deques o-deques n-deques deques b-frames o-frames n-frames frames b-pool o-pool n-pool pool h w x)) ∷ ‵ (Lent u32 κ-pool (ν-pool ∷ []) q-pool γ-pool b-pool o-pool δ-pool pool) ∷ ‵ (Lent R-Frame κ-frames (ν-frames ∷ []) q-frames γ-frames b-frames o-frames δ-frames frames) ∷ ‵ (Lent u32 κ-deques (ν-deques ∷ []) q-deques γ-deques b-deques o-deques δ-deques deques) ∷ Γ) E opds' (val-Head h ∷ slice_val (b-deques, o-deques) n-deques ∷ slice_val (b-frames, o-frames) n-frames ∷ slice_val (b-pool, o-pool) n-pool ∷ vint w32 w ∷ vint w32 x ∷ [])) →
+      ((res' : Out) (zs-deques : List ℕ) (zs-frames : List Frame) (zs-pool : List ℕ) → Is R-Out res' (val-Out res' ∷ []) → LeavesOthers h res' deques frames pool zs-deques zs-frames zs-pool (λ c. step_on two_words c (Read w x)) → length zs-deques ≡ length deques → length zs-frames ≡ length frames → length zs-pool ≡ length pool → Seq K 𝓛 (‵ (Mine u32 κ-deques q-deques γ-deques b-deques o-deques n-deques zs-deques) ∷ ‵ (Mine R-Frame κ-frames q-frames γ-frames b-frames o-frames n-frames zs-frames) ∷ ‵ (Mine u32 κ-pool q-pool γ-pool b-pool o-pool n-pool zs-pool) ∷ Γ) (lands C Λ E dest' (val-Out res') rest' post')) →
+      Seq K 𝓛 (‵ (Mine u32 κ-deques q-deques γ-deques b-deques o-deques n-deques deques) ∷ ‵ (Mine R-Frame κ-frames q-frames γ-frames b-frames o-frames n-frames frames) ∷ ‵ (Mine u32 κ-pool q-pool γ-pool b-pool o-pool n-pool pool) ∷ Γ) (runs C Λ E (seq (call name' opds' dest') rest') post')
+  step t' fm' known' {κ-deques} {q-deques} {γ-deques} {κ-frames} {q-frames} {γ-frames} {κ-pool} {q-pool} {γ-pool} b-deques o-deques n-deques deques b-frames o-frames n-frames frames b-pool o-pool n-pool pool h w x h-good w-good x-good ok' len-deques room-deques len-frames room-frames len-pool room-pool os' k' =
+      lend t' tt u32 b-deques o-deques n-deques deques len-deques (λ ν-deques δ-deques. move t' (3 ∷ []) $ lend t' tt R-Frame b-frames o-frames n-frames frames len-frames (λ ν-frames δ-frames. move t' (6 ∷ []) $ lend t' tt u32 b-pool o-pool n-pool pool len-pool (λ ν-pool δ-pool.
+      move t' (6 ∷ 3 ∷ 0 ∷ 7 ∷ 4 ∷ 1 ∷ []) $ group t' 6 $ use1 𝓛 (raw ((Asked 𝓛 mem run).pre (to_step 𝓛 mem run ν-deques δ-deques ν-frames δ-frames ν-pool δ-pool b-deques o-deques n-deques deques b-frames o-frames n-frames frames b-pool o-pool n-pool pool h w x))) (goes_step 𝓛 mem run ν-deques δ-deques ν-frames δ-frames ν-pool δ-pool b-deques o-deques n-deques deques b-frames o-frames n-frames frames b-pool o-pool n-pool pool h w x h-good w-good x-good ok') $
+      calls_at t' fm' (Asked 𝓛 mem run) known' (to_step 𝓛 mem run ν-deques δ-deques ν-frames δ-frames ν-pool δ-pool b-deques o-deques n-deques deques b-frames o-frames n-frames frames b-pool o-pool n-pool pool h w x) (os' ν-deques δ-deques ν-frames δ-frames ν-pool δ-pool) (λ w'.
+      use1 𝓛 (later (some (λ (res' : Out). ((‵ (flft (ν-deques ∷ []) full_share) ⊛ (‵ (flft (ν-frames ∷ []) full_share) ⊛ (‵ (flft (ν-pool ∷ []) full_share) ⊛ ‵ ftrue))) ⊛ ‵ (R-Out.own res' (w' ∷ []))) ⊛ raw (ensured 𝓛 callee'.ended (callee'.clauses 𝓛 mem run) ((ν-deques ∷ []), ((ν-frames ∷ []), ((ν-pool ∷ []), tt))) (h, (at_list b-deques o-deques δ-deques deques, (at_list b-frames o-frames δ-frames frames, (at_list b-pool o-pool δ-pool pool, (w, (x, tt)))))) tt res')))) (id⊢ 𝓤 _) $ await t' tt $ pick t' (λ res'. split t' $ move t' (1 ∷ []) $
+      use1 𝓛 (some (λ (zs' : Unit {0} × (List ℕ × (List Frame × (List ℕ × (Unit {0} × (Unit {0} × Unit {0})))))). ‵ (lasts callee'.ended ((ν-deques ∷ []), ((ν-frames ∷ []), ((ν-pool ∷ []), tt))) (h, (at_list b-deques o-deques δ-deques deques, (at_list b-frames o-frames δ-frames frames, (at_list b-pool o-pool δ-pool pool, (w, (x, tt)))))) zs') ⊛ raw (fact 𝓤 (LeavesOthers h res' deques frames pool zs'.1.0 zs'.1.1.0 zs'.1.1.1.0 (λ c. step_on two_words c (Read w x)))))) (id⊢ 𝓤 _) $ pick t' (λ zs'. split t' $ move t' (1 ∷ []) $ heard t' (LeavesOthers h res' deques frames pool zs'.1.0 zs'.1.1.0 zs'.1.1.1.0 (λ c. step_on two_words c (Read w x))) (λ e'.
+      fsplit t' $ drop t' $ fsplit t' $ fsplit t' $ move t' (1 ∷ []) $ feq_l t' (λ same-deques. move t' (1 ∷ []) $ fsplit t' $ fsplit t' $ move t' (1 ∷ []) $ feq_l t' (λ same-frames. move t' (1 ∷ []) $ fsplit t' $ fsplit t' $ move t' (1 ∷ []) $ feq_l t' (λ same-pool. move t' (1 ∷ []) $ fsplit t' $ drop t' $ fsplit t' $ drop t' $ drop t' $
+      move t' (3 ∷ []) $ split t' $ move t' (1 ∷ []) $ peeks t' R-Out (Is R-Out) (shows 𝓛 R-Out) res' (w' ∷ []) (λ is'. drop t' $ split t' $ move t' (1 ∷ []) $ split t' $ move t' (1 ∷ []) $ split t' $ move t' (1 ∷ []) $ drop t' $
+      move t' (0 ∷ 6 ∷ 3 ∷ []) $ home t' tt u32 b-pool o-pool n-pool pool zs'.1.1.1.0 len-pool room-pool same-pool $ move t' (1 ∷ 5 ∷ 3 ∷ []) $ home t' tt R-Frame b-frames o-frames n-frames frames zs'.1.1.0 len-frames room-frames same-frames $ move t' (2 ∷ 4 ∷ 3 ∷ []) $ home t' tt u32 b-deques o-deques n-deques deques zs'.1.0 len-deques room-deques same-deques $
+      subst (λ (v' : Val). Seq K 𝓛 (‵ (Mine u32 κ-deques q-deques γ-deques b-deques o-deques n-deques zs'.1.0) ∷ ‵ (Mine R-Frame κ-frames q-frames γ-frames b-frames o-frames n-frames zs'.1.1.0) ∷ ‵ (Mine u32 κ-pool q-pool γ-pool b-pool o-pool n-pool zs'.1.1.1.0) ∷ Γ) (lands C Λ E dest' v' rest' post')) (sym (ap only (LL.tells M-Out.the_type L-Out.the_laws res' _ is'))) (k' res' zs'.1.0 zs'.1.1.0 zs'.1.1.1.0 (subst (Is R-Out res') (LL.tells M-Out.the_type L-Out.the_laws res' _ is') is') e' same-deques same-frames same-pool))))))))))))

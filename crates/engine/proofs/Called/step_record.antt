@@ -1,9 +1,13 @@
 -- Written by tools/walk: the call of `engine::records::step_record` as a step of a walk. Do not edit: write it again.
 -- The operands are read in the context [what the callee asks; the loans; Γ], where an entry of Γ stands one further on than before the call.
-use Rattle.std.proofs.Common.{◌≡◌, ℕ, ◌+◌, ◌^◌, ◌<◌, ◌≤◌, Bool, List, [], ◌∷◌, length, sym, refl, ap, subst, w8, w16, w32, w64}
+use mathlib.Core.Path.{◌≡◌, refl, sym, ap, subst}
+use Prim.Native.Nat.{ℕ, ◌<◌, ◌^◌}
+use mathlib.Core.List.{List, [], ◌∷◌}
+use mathlib.Core.Bool.{Bool}
+use lib.ListN.{length}
 use seplogic.Ra.Ura.{Ura}
 use seplogic.Ra.TreeShare.{full_share}
-use mir.Syntax.{Name, Place, Opd as Operand, Body, named, seq, call}
+use mir.Syntax.{Name, Place, Opd as Operand, Body, named, w8, w16, w32, w64, seq, call}
 use mir.Val.{Val, vint, vbool, vunit}
 use base.Logic.{SProp, ent, id⊢}
 use base.Fml.{Lft, GName, Share, ftrue, flft}
@@ -28,23 +32,24 @@ use denote.Triple.Statement.{Contract, Triple}
 use denote.Triple.Call.{calls_at, calls_at_last}
 use denote.Triple.Clauses.{ensured, lasts}
 use denote.Triple.Walked.{says}
+use Prim.Native.Nat.{◌+◌, ◌≤◌}
 use Rattle.soundness.specs.Numbers.{numbers_in, totals_in, number_count}
 use Rattle.model.specs.Record.{decode_at}
 use Rattle.semantics.specs.Entries.{record_on}
-use Rattle.semantics.specs.Ranges.{Ready, Recalls}
-use Rattle.engine.specs.Promises.{core, Leaves, RemembersRecord}
-use Rattle.soundness.specs.Layout.{two_words}
+use Rattle.semantics.specs.Ranges.{Ready}
+use Rattle.engine.specs.Promises.{core, Leaves}
 use Rattle.semantics.specs.contracts.Head as M-Head
 use Rattle.semantics.proofs.Head.TheLaws as L-Head
 use Rattle.semantics.specs.declared.Head.{Head}
 use Rattle.frames.specs.contracts.Frame as M-Frame
 use Rattle.frames.proofs.Frame.TheLaws as L-Frame
 use Rattle.frames.specs.declared.Frame.{Frame}
-use Rattle.engine.specs.contracts.Visited as M-Visited
-use Rattle.engine.proofs.Visited.TheLaws as L-Visited
-use Rattle.engine.specs.declared.Visited.{Visited}
+use Rattle.engine.specs.contracts.Out as M-Out
+use Rattle.engine.proofs.Out.TheLaws as L-Out
+use Rattle.engine.specs.declared.Out.{Out}
 use Rattle.frames.proofs.Lent.{at_list, Mine, Yours, Lent, Shown, lend, home, show, back, give}
 use Rattle.engine.specs.contracts.records.step_record as callee'
+use Rattle.soundness.specs.Layout.{two_words}
 
 abbrev R-Head : RattleType
 R-Head = M-Head.the_row
@@ -58,38 +63,38 @@ R-Frame = M-Frame.the_row
 abbrev val-Frame : Frame → Val
 val-Frame d = LL.val M-Frame.the_type L-Frame.the_laws d
 
-abbrev R-Visited : RattleType
-R-Visited = M-Visited.the_row
+abbrev R-Out : RattleType
+R-Out = M-Out.the_row
 
-abbrev val-Visited : Visited → Val
-val-Visited d = LL.val M-Visited.the_type L-Visited.the_laws d
+abbrev val-Out : Out → Val
+val-Out d = LL.val M-Out.the_type L-Out.the_laws d
 
 module _ {M : Type 1} {𝓤 : Ura M} (𝓛 : Logic 𝓤) (mem : Memory → SProp 𝓤) (run : Routine → Fun 𝓤) where
   abbrev pub Asked : Contract 𝓤
   Asked = triple_of 𝓛 callee'.signature (callee'.spec 𝓛 mem run)
 
-  abbrev pub to-step-g : (ν-numbers : ℕ) (δ-numbers : GName) (ν-deques : ℕ) (δ-deques : GName) (ν-frames : ℕ) (δ-frames : GName) (ν-pool : ℕ) (δ-pool : GName) (ν-memory : ℕ) (δ-memory : GName) (κ-tape : Lft) (q-tape : Share) (γ-tape : GName) (b-numbers o-numbers n-numbers : ℕ) (numbers : List ℕ) (b-deques o-deques n-deques : ℕ) (deques : List ℕ) (b-frames o-frames n-frames : ℕ) (frames : List Frame) (b-pool o-pool n-pool : ℕ) (pool : List ℕ) (b-memory o-memory n-memory : ℕ) (memory : List ℕ) (b-tape o-tape n-tape : ℕ) (tape : List ℕ) (h : Head) (at : ℕ) → Asked.Ghost
-  to-step-g ν-numbers δ-numbers ν-deques δ-deques ν-frames δ-frames ν-pool δ-pool ν-memory δ-memory κ-tape q-tape γ-tape b-numbers o-numbers n-numbers numbers b-deques o-deques n-deques deques b-frames o-frames n-frames frames b-pool o-pool n-pool pool b-memory o-memory n-memory memory b-tape o-tape n-tape tape h at = ((((ν-numbers ∷ []), ((ν-deques ∷ []), ((ν-frames ∷ []), ((ν-pool ∷ []), ((ν-memory ∷ []), (κ-tape, tt)))))), (full_share, (full_share, (full_share, (full_share, (full_share, (q-tape, tt)))))), tt, (h, (at_list b-numbers o-numbers δ-numbers numbers, (at_list b-deques o-deques δ-deques deques, (at_list b-frames o-frames δ-frames frames, (at_list b-pool o-pool δ-pool pool, (at_list b-memory o-memory δ-memory memory, (at_list b-tape o-tape γ-tape tape, (at, tt)))))))), (val-Head h ∷ [], (slice_val (b-numbers, o-numbers) n-numbers ∷ [], (slice_val (b-deques, o-deques) n-deques ∷ [], (slice_val (b-frames, o-frames) n-frames ∷ [], (slice_val (b-pool, o-pool) n-pool ∷ [], (slice_val (b-memory, o-memory) n-memory ∷ [], (slice_val (b-tape, o-tape) n-tape ∷ [], (vint w64 at ∷ [], tt))))))))), tt)
+  abbrev pub to-step-g : (ν-numbers : ℕ) (δ-numbers : GName) (ν-deques : ℕ) (δ-deques : GName) (ν-frames : ℕ) (δ-frames : GName) (ν-pool : ℕ) (δ-pool : GName) (κ-tape : Lft) (q-tape : Share) (γ-tape : GName) (b-numbers o-numbers n-numbers : ℕ) (numbers : List ℕ) (b-deques o-deques n-deques : ℕ) (deques : List ℕ) (b-frames o-frames n-frames : ℕ) (frames : List Frame) (b-pool o-pool n-pool : ℕ) (pool : List ℕ) (b-tape o-tape n-tape : ℕ) (tape : List ℕ) (h : Head) (at : ℕ) → Asked.Ghost
+  to-step-g ν-numbers δ-numbers ν-deques δ-deques ν-frames δ-frames ν-pool δ-pool κ-tape q-tape γ-tape b-numbers o-numbers n-numbers numbers b-deques o-deques n-deques deques b-frames o-frames n-frames frames b-pool o-pool n-pool pool b-tape o-tape n-tape tape h at = ((((ν-numbers ∷ []), ((ν-deques ∷ []), ((ν-frames ∷ []), ((ν-pool ∷ []), (κ-tape, tt))))), (full_share, (full_share, (full_share, (full_share, (q-tape, tt))))), tt, (h, (at_list b-numbers o-numbers δ-numbers numbers, (at_list b-deques o-deques δ-deques deques, (at_list b-frames o-frames δ-frames frames, (at_list b-pool o-pool δ-pool pool, (at_list b-tape o-tape γ-tape tape, (at, tt))))))), (val-Head h ∷ [], (slice_val (b-numbers, o-numbers) n-numbers ∷ [], (slice_val (b-deques, o-deques) n-deques ∷ [], (slice_val (b-frames, o-frames) n-frames ∷ [], (slice_val (b-pool, o-pool) n-pool ∷ [], (slice_val (b-tape, o-tape) n-tape ∷ [], (vint w64 at ∷ [], tt)))))))), tt)
 
-  pub goes-step-g : (ν-numbers : ℕ) (δ-numbers : GName) (ν-deques : ℕ) (δ-deques : GName) (ν-frames : ℕ) (δ-frames : GName) (ν-pool : ℕ) (δ-pool : GName) (ν-memory : ℕ) (δ-memory : GName) (κ-tape : Lft) (q-tape : Share) (γ-tape : GName) (b-numbers o-numbers n-numbers : ℕ) (numbers : List ℕ) (b-deques o-deques n-deques : ℕ) (deques : List ℕ) (b-frames o-frames n-frames : ℕ) (frames : List Frame) (b-pool o-pool n-pool : ℕ) (pool : List ℕ) (b-memory o-memory n-memory : ℕ) (memory : List ℕ) (b-tape o-tape n-tape : ℕ) (tape : List ℕ) (h : Head) (at : ℕ) → (h-good : Is R-Head h (val-Head h ∷ [])) (at-good : at < 2 ^ 64) (ok' : (length numbers ≡ number_count) × Ready (core h (totals_in numbers) deques frames pool) × Recalls (core h (totals_in numbers) deques frames pool) memory × (at + 8 ≤ length tape)) → ent 𝓤 (⋆ 𝓛 (‵ (flft (ν-numbers ∷ []) full_share) ∷ ‵ (flft (ν-deques ∷ []) full_share) ∷ ‵ (flft (ν-frames ∷ []) full_share) ∷ ‵ (flft (ν-pool ∷ []) full_share) ∷ ‵ (flft (ν-memory ∷ []) full_share) ∷ ‵ (flft κ-tape q-tape) ∷ ‵ ((MutSlice (named 0) (ν-numbers ∷ []) u32).own_val (at_list b-numbers o-numbers δ-numbers numbers) (slice_val (b-numbers, o-numbers) n-numbers ∷ [])) ∷ ‵ ((MutSlice (named 0) (ν-deques ∷ []) u32).own_val (at_list b-deques o-deques δ-deques deques) (slice_val (b-deques, o-deques) n-deques ∷ [])) ∷ ‵ ((MutSlice (named 0) (ν-frames ∷ []) R-Frame).own_val (at_list b-frames o-frames δ-frames frames) (slice_val (b-frames, o-frames) n-frames ∷ [])) ∷ ‵ ((MutSlice (named 0) (ν-pool ∷ []) u32).own_val (at_list b-pool o-pool δ-pool pool) (slice_val (b-pool, o-pool) n-pool ∷ [])) ∷ ‵ ((MutSlice (named 0) (ν-memory ∷ []) u32).own_val (at_list b-memory o-memory δ-memory memory) (slice_val (b-memory, o-memory) n-memory ∷ [])) ∷ ‵ ((ShrSlice (named 0) κ-tape u8).own_val (at_list b-tape o-tape γ-tape tape) (slice_val (b-tape, o-tape) n-tape ∷ [])) ∷ [])) (Asked.pre (to-step-g ν-numbers δ-numbers ν-deques δ-deques ν-frames δ-frames ν-pool δ-pool ν-memory δ-memory κ-tape q-tape γ-tape b-numbers o-numbers n-numbers numbers b-deques o-deques n-deques deques b-frames o-frames n-frames frames b-pool o-pool n-pool pool b-memory o-memory n-memory memory b-tape o-tape n-tape tape h at))
-  goes-step-g ν-numbers δ-numbers ν-deques δ-deques ν-frames δ-frames ν-pool δ-pool ν-memory δ-memory κ-tape q-tape γ-tape b-numbers o-numbers n-numbers numbers b-deques o-deques n-deques deques b-frames o-frames n-frames frames b-pool o-pool n-pool pool b-memory o-memory n-memory memory b-tape o-tape n-tape tape h at h-good at-good ok' = qed 𝓛 (‵ (flft (ν-numbers ∷ []) full_share) ∷ ‵ (flft (ν-deques ∷ []) full_share) ∷ ‵ (flft (ν-frames ∷ []) full_share) ∷ ‵ (flft (ν-pool ∷ []) full_share) ∷ ‵ (flft (ν-memory ∷ []) full_share) ∷ ‵ (flft κ-tape q-tape) ∷ ‵ ((MutSlice (named 0) (ν-numbers ∷ []) u32).own_val (at_list b-numbers o-numbers δ-numbers numbers) (slice_val (b-numbers, o-numbers) n-numbers ∷ [])) ∷ ‵ ((MutSlice (named 0) (ν-deques ∷ []) u32).own_val (at_list b-deques o-deques δ-deques deques) (slice_val (b-deques, o-deques) n-deques ∷ [])) ∷ ‵ ((MutSlice (named 0) (ν-frames ∷ []) R-Frame).own_val (at_list b-frames o-frames δ-frames frames) (slice_val (b-frames, o-frames) n-frames ∷ [])) ∷ ‵ ((MutSlice (named 0) (ν-pool ∷ []) u32).own_val (at_list b-pool o-pool δ-pool pool) (slice_val (b-pool, o-pool) n-pool ∷ [])) ∷ ‵ ((MutSlice (named 0) (ν-memory ∷ []) u32).own_val (at_list b-memory o-memory δ-memory memory) (slice_val (b-memory, o-memory) n-memory ∷ [])) ∷ ‵ ((ShrSlice (named 0) κ-tape u8).own_val (at_list b-tape o-tape γ-tape tape) (slice_val (b-tape, o-tape) n-tape ∷ [])) ∷ []) ∵ says ! ok' $ nothing ! $ move ! (1 ∷ 2 ∷ 3 ∷ 4 ∷ 5 ∷ 6 ∷ 0 ∷ []) $ group ! 7 $ frame ! $
-      nothing ! $ owned ! usize (Is usize) (uint_Makes 𝓛 w64) at _ (refl, at-good) $ fjoin ! $ move ! (6 ∷ 0 ∷ []) $ fjoin ! $ move ! (5 ∷ 0 ∷ []) $ fjoin ! $ move ! (4 ∷ 0 ∷ []) $ fjoin ! $ move ! (3 ∷ 0 ∷ []) $ fjoin ! $ move ! (2 ∷ 0 ∷ []) $ fjoin ! $ move ! (1 ∷ 0 ∷ []) $ fjoin ! $ owned ! R-Head (Is R-Head) (LL.makes M-Head.the_type L-Head.the_plain 𝓛) h _ h-good $ fjoin ! $ done !
+  pub goes-step-g : (ν-numbers : ℕ) (δ-numbers : GName) (ν-deques : ℕ) (δ-deques : GName) (ν-frames : ℕ) (δ-frames : GName) (ν-pool : ℕ) (δ-pool : GName) (κ-tape : Lft) (q-tape : Share) (γ-tape : GName) (b-numbers o-numbers n-numbers : ℕ) (numbers : List ℕ) (b-deques o-deques n-deques : ℕ) (deques : List ℕ) (b-frames o-frames n-frames : ℕ) (frames : List Frame) (b-pool o-pool n-pool : ℕ) (pool : List ℕ) (b-tape o-tape n-tape : ℕ) (tape : List ℕ) (h : Head) (at : ℕ) → (h-good : Is R-Head h (val-Head h ∷ [])) (at-good : at < 2 ^ 64) (ok' : (length numbers ≡ number_count) × Ready (core h (totals_in numbers) deques frames pool) × (at + 8 ≤ length tape)) → ent 𝓤 (⋆ 𝓛 (‵ (flft (ν-numbers ∷ []) full_share) ∷ ‵ (flft (ν-deques ∷ []) full_share) ∷ ‵ (flft (ν-frames ∷ []) full_share) ∷ ‵ (flft (ν-pool ∷ []) full_share) ∷ ‵ (flft κ-tape q-tape) ∷ ‵ ((MutSlice (named 0) (ν-numbers ∷ []) u32).own_val (at_list b-numbers o-numbers δ-numbers numbers) (slice_val (b-numbers, o-numbers) n-numbers ∷ [])) ∷ ‵ ((MutSlice (named 0) (ν-deques ∷ []) u32).own_val (at_list b-deques o-deques δ-deques deques) (slice_val (b-deques, o-deques) n-deques ∷ [])) ∷ ‵ ((MutSlice (named 0) (ν-frames ∷ []) R-Frame).own_val (at_list b-frames o-frames δ-frames frames) (slice_val (b-frames, o-frames) n-frames ∷ [])) ∷ ‵ ((MutSlice (named 0) (ν-pool ∷ []) u32).own_val (at_list b-pool o-pool δ-pool pool) (slice_val (b-pool, o-pool) n-pool ∷ [])) ∷ ‵ ((ShrSlice (named 0) κ-tape u8).own_val (at_list b-tape o-tape γ-tape tape) (slice_val (b-tape, o-tape) n-tape ∷ [])) ∷ [])) (Asked.pre (to-step-g ν-numbers δ-numbers ν-deques δ-deques ν-frames δ-frames ν-pool δ-pool κ-tape q-tape γ-tape b-numbers o-numbers n-numbers numbers b-deques o-deques n-deques deques b-frames o-frames n-frames frames b-pool o-pool n-pool pool b-tape o-tape n-tape tape h at))
+  goes-step-g ν-numbers δ-numbers ν-deques δ-deques ν-frames δ-frames ν-pool δ-pool κ-tape q-tape γ-tape b-numbers o-numbers n-numbers numbers b-deques o-deques n-deques deques b-frames o-frames n-frames frames b-pool o-pool n-pool pool b-tape o-tape n-tape tape h at h-good at-good ok' = qed 𝓛 (‵ (flft (ν-numbers ∷ []) full_share) ∷ ‵ (flft (ν-deques ∷ []) full_share) ∷ ‵ (flft (ν-frames ∷ []) full_share) ∷ ‵ (flft (ν-pool ∷ []) full_share) ∷ ‵ (flft κ-tape q-tape) ∷ ‵ ((MutSlice (named 0) (ν-numbers ∷ []) u32).own_val (at_list b-numbers o-numbers δ-numbers numbers) (slice_val (b-numbers, o-numbers) n-numbers ∷ [])) ∷ ‵ ((MutSlice (named 0) (ν-deques ∷ []) u32).own_val (at_list b-deques o-deques δ-deques deques) (slice_val (b-deques, o-deques) n-deques ∷ [])) ∷ ‵ ((MutSlice (named 0) (ν-frames ∷ []) R-Frame).own_val (at_list b-frames o-frames δ-frames frames) (slice_val (b-frames, o-frames) n-frames ∷ [])) ∷ ‵ ((MutSlice (named 0) (ν-pool ∷ []) u32).own_val (at_list b-pool o-pool δ-pool pool) (slice_val (b-pool, o-pool) n-pool ∷ [])) ∷ ‵ ((ShrSlice (named 0) κ-tape u8).own_val (at_list b-tape o-tape γ-tape tape) (slice_val (b-tape, o-tape) n-tape ∷ [])) ∷ []) ∵ says ! ok' $ nothing ! $ move ! (1 ∷ 2 ∷ 3 ∷ 4 ∷ 5 ∷ 0 ∷ []) $ group ! 6 $ frame ! $
+      nothing ! $ owned ! usize (Is usize) (uint_Makes 𝓛 w64) at _ (refl, at-good) $ fjoin ! $ move ! (5 ∷ 0 ∷ []) $ fjoin ! $ move ! (4 ∷ 0 ∷ []) $ fjoin ! $ move ! (3 ∷ 0 ∷ []) $ fjoin ! $ move ! (2 ∷ 0 ∷ []) $ fjoin ! $ move ! (1 ∷ 0 ∷ []) $ fjoin ! $ owned ! R-Head (Is R-Head) (LL.makes M-Head.the_type L-Head.the_plain 𝓛) h _ h-good $ fjoin ! $ done !
 
 module _ {M : Type 1} {𝓤 : Ura M} {𝓛 : Logic 𝓤} {K : Type 0} (mem : Memory → SProp 𝓤) (run : Routine → Fun 𝓤)
     {Γ : List (Item 𝓤)} {E : Env 𝓤 𝓛.H} {C : Calls 𝓤 𝓛.H} {Λ : Loops 𝓤 𝓛.H} {post' : Post 𝓤 𝓛.H} {dest' : Place} {name' : Name} {opds' : List Operand} {rest' : Body} where
   open 𝓛 use {H}
 
-  pub step-g : K → FmC 𝓤 H 𝓛.laws C → Triple 𝓤 (C name') (Asked 𝓛 mem run) → {κ-numbers : Lft} {q-numbers : Share} {γ-numbers : GName} {κ-deques : Lft} {q-deques : Share} {γ-deques : GName} {κ-frames : Lft} {q-frames : Share} {γ-frames : GName} {κ-pool : Lft} {q-pool : Share} {γ-pool : GName} {κ-memory : Lft} {q-memory : Share} {γ-memory : GName} {κ-tape : Lft} {q-tape : Share} {γ-tape : GName} → (b-numbers o-numbers n-numbers : ℕ) (numbers : List ℕ) (b-deques o-deques n-deques : ℕ) (deques : List ℕ) (b-frames o-frames n-frames : ℕ) (frames : List Frame) (b-pool o-pool n-pool : ℕ) (pool : List ℕ) (b-memory o-memory n-memory : ℕ) (memory : List ℕ) (b-tape o-tape n-tape : ℕ) (tape : List ℕ) (h : Head) (at : ℕ) → (h-good : Is R-Head h (val-Head h ∷ [])) → (at-good : at < 2 ^ 64) → (length numbers ≡ number_count) × Ready (core h (totals_in numbers) deques frames pool) × Recalls (core h (totals_in numbers) deques frames pool) memory × (at + 8 ≤ length tape) → length numbers ≡ n-numbers → Room u32 n-numbers → length deques ≡ n-deques → Room u32 n-deques → length frames ≡ n-frames → Room R-Frame n-frames → length pool ≡ n-pool → Room u32 n-pool → length memory ≡ n-memory → Room u32 n-memory →
-      ((ν-numbers : ℕ) (δ-numbers : GName) (ν-deques : ℕ) (δ-deques : GName) (ν-frames : ℕ) (δ-frames : GName) (ν-pool : ℕ) (δ-pool : GName) (ν-memory : ℕ) (δ-memory : GName) → Opds K 𝓛 (raw ((Asked 𝓛 mem run).pre (to-step-g 𝓛 mem run ν-numbers δ-numbers ν-deques δ-deques ν-frames δ-frames ν-pool δ-pool ν-memory δ-memory κ-tape q-tape γ-tape b-numbers o-numbers n-numbers numbers b-deques o-deques n-deques deques b-frames o-frames n-frames frames b-pool o-pool n-pool pool b-memory o-memory n-memory memory b-tape o-tape n-tape tape h at)) ∷ ‵ ((ShrSlice (named 0) κ-tape u8).own_val (at_list b-tape o-tape γ-tape tape) (slice_val (b-tape, o-tape) n-tape ∷ [])) ∷ ‵ (Lent u32 κ-memory (ν-memory ∷ []) q-memory γ-memory b-memory o-memory δ-memory memory) ∷ ‵ (Lent u32 κ-pool (ν-pool ∷ []) q-pool γ-pool b-pool o-pool δ-pool pool) ∷ ‵ (Lent R-Frame κ-frames (ν-frames ∷ []) q-frames γ-frames b-frames o-frames δ-frames frames) ∷ ‵ (Lent u32 κ-deques (ν-deques ∷ []) q-deques γ-deques b-deques o-deques δ-deques deques) ∷ ‵ (Lent u32 κ-numbers (ν-numbers ∷ []) q-numbers γ-numbers b-numbers o-numbers δ-numbers numbers) ∷ Γ) E opds' (val-Head h ∷ slice_val (b-numbers, o-numbers) n-numbers ∷ slice_val (b-deques, o-deques) n-deques ∷ slice_val (b-frames, o-frames) n-frames ∷ slice_val (b-pool, o-pool) n-pool ∷ slice_val (b-memory, o-memory) n-memory ∷ slice_val (b-tape, o-tape) n-tape ∷ vint w64 at ∷ [])) →
-      ((res' : Visited) (zs-numbers : List ℕ) (zs-deques : List ℕ) (zs-frames : List Frame) (zs-pool : List ℕ) (zs-memory : List ℕ) → Is R-Visited res' (val-Visited res' ∷ []) → (numbers_in zs-numbers ≡ numbers_in numbers) × Leaves h res'.out (totals_in zs-numbers) zs-deques zs-frames zs-pool (record_on two_words (core h (totals_in numbers) deques frames pool) (decode_at tape at)) × RemembersRecord (core h (totals_in numbers) deques frames pool) memory (decode_at tape at) zs-memory res'.visits → length zs-numbers ≡ length numbers → length zs-deques ≡ length deques → length zs-frames ≡ length frames → length zs-pool ≡ length pool → length zs-memory ≡ length memory → Seq K 𝓛 (‵ (Mine u32 κ-numbers q-numbers γ-numbers b-numbers o-numbers n-numbers zs-numbers) ∷ ‵ (Mine u32 κ-deques q-deques γ-deques b-deques o-deques n-deques zs-deques) ∷ ‵ (Mine R-Frame κ-frames q-frames γ-frames b-frames o-frames n-frames zs-frames) ∷ ‵ (Mine u32 κ-pool q-pool γ-pool b-pool o-pool n-pool zs-pool) ∷ ‵ (Mine u32 κ-memory q-memory γ-memory b-memory o-memory n-memory zs-memory) ∷ ‵ (Yours u8 κ-tape q-tape γ-tape b-tape o-tape n-tape tape) ∷ Γ) (lands C Λ E dest' (val-Visited res') rest' post')) →
-      Seq K 𝓛 (‵ (Mine u32 κ-numbers q-numbers γ-numbers b-numbers o-numbers n-numbers numbers) ∷ ‵ (Mine u32 κ-deques q-deques γ-deques b-deques o-deques n-deques deques) ∷ ‵ (Mine R-Frame κ-frames q-frames γ-frames b-frames o-frames n-frames frames) ∷ ‵ (Mine u32 κ-pool q-pool γ-pool b-pool o-pool n-pool pool) ∷ ‵ (Mine u32 κ-memory q-memory γ-memory b-memory o-memory n-memory memory) ∷ ‵ (Yours u8 κ-tape q-tape γ-tape b-tape o-tape n-tape tape) ∷ Γ) (runs C Λ E (seq (call name' opds' dest') rest') post')
-  step-g t' fm' known' {κ-numbers} {q-numbers} {γ-numbers} {κ-deques} {q-deques} {γ-deques} {κ-frames} {q-frames} {γ-frames} {κ-pool} {q-pool} {γ-pool} {κ-memory} {q-memory} {γ-memory} {κ-tape} {q-tape} {γ-tape} b-numbers o-numbers n-numbers numbers b-deques o-deques n-deques deques b-frames o-frames n-frames frames b-pool o-pool n-pool pool b-memory o-memory n-memory memory b-tape o-tape n-tape tape h at h-good at-good ok' len-numbers room-numbers len-deques room-deques len-frames room-frames len-pool room-pool len-memory room-memory os' k' =
-      lend t' tt u32 b-numbers o-numbers n-numbers numbers len-numbers (λ ν-numbers δ-numbers. move t' (3 ∷ []) $ lend t' tt u32 b-deques o-deques n-deques deques len-deques (λ ν-deques δ-deques. move t' (6 ∷ []) $ lend t' tt R-Frame b-frames o-frames n-frames frames len-frames (λ ν-frames δ-frames. move t' (9 ∷ []) $ lend t' tt u32 b-pool o-pool n-pool pool len-pool (λ ν-pool δ-pool. move t' (12 ∷ []) $ lend t' tt u32 b-memory o-memory n-memory memory len-memory (λ ν-memory δ-memory. move t' (15 ∷ []) $ give t' u8 b-tape o-tape n-tape tape $
-      move t' (15 ∷ 12 ∷ 9 ∷ 6 ∷ 3 ∷ 0 ∷ 16 ∷ 13 ∷ 10 ∷ 7 ∷ 4 ∷ 1 ∷ []) $ group t' 12 $ use1 𝓛 (raw ((Asked 𝓛 mem run).pre (to-step-g 𝓛 mem run ν-numbers δ-numbers ν-deques δ-deques ν-frames δ-frames ν-pool δ-pool ν-memory δ-memory κ-tape q-tape γ-tape b-numbers o-numbers n-numbers numbers b-deques o-deques n-deques deques b-frames o-frames n-frames frames b-pool o-pool n-pool pool b-memory o-memory n-memory memory b-tape o-tape n-tape tape h at))) (goes-step-g 𝓛 mem run ν-numbers δ-numbers ν-deques δ-deques ν-frames δ-frames ν-pool δ-pool ν-memory δ-memory κ-tape q-tape γ-tape b-numbers o-numbers n-numbers numbers b-deques o-deques n-deques deques b-frames o-frames n-frames frames b-pool o-pool n-pool pool b-memory o-memory n-memory memory b-tape o-tape n-tape tape h at h-good at-good ok') $
-      calls_at t' fm' (Asked 𝓛 mem run) known' (to-step-g 𝓛 mem run ν-numbers δ-numbers ν-deques δ-deques ν-frames δ-frames ν-pool δ-pool ν-memory δ-memory κ-tape q-tape γ-tape b-numbers o-numbers n-numbers numbers b-deques o-deques n-deques deques b-frames o-frames n-frames frames b-pool o-pool n-pool pool b-memory o-memory n-memory memory b-tape o-tape n-tape tape h at) (os' ν-numbers δ-numbers ν-deques δ-deques ν-frames δ-frames ν-pool δ-pool ν-memory δ-memory) (λ w'.
-      use1 𝓛 (later (some (λ (res' : Visited). ((‵ (flft (ν-numbers ∷ []) full_share) ⊛ (‵ (flft (ν-deques ∷ []) full_share) ⊛ (‵ (flft (ν-frames ∷ []) full_share) ⊛ (‵ (flft (ν-pool ∷ []) full_share) ⊛ (‵ (flft (ν-memory ∷ []) full_share) ⊛ (‵ (flft κ-tape q-tape) ⊛ ‵ ftrue)))))) ⊛ ‵ (R-Visited.own res' (w' ∷ []))) ⊛ raw (ensured 𝓛 callee'.ended (callee'.clauses 𝓛 mem run) ((ν-numbers ∷ []), ((ν-deques ∷ []), ((ν-frames ∷ []), ((ν-pool ∷ []), ((ν-memory ∷ []), (κ-tape, tt)))))) (h, (at_list b-numbers o-numbers δ-numbers numbers, (at_list b-deques o-deques δ-deques deques, (at_list b-frames o-frames δ-frames frames, (at_list b-pool o-pool δ-pool pool, (at_list b-memory o-memory δ-memory memory, (at_list b-tape o-tape γ-tape tape, (at, tt)))))))) tt res')))) (id⊢ 𝓤 _) $ await t' tt $ pick t' (λ res'. split t' $ move t' (1 ∷ []) $
-      use1 𝓛 (some (λ (zs' : Unit {0} × (List ℕ × (List ℕ × (List Frame × (List ℕ × (List ℕ × (Unit {0} × (Unit {0} × Unit {0})))))))). ‵ (lasts callee'.ended ((ν-numbers ∷ []), ((ν-deques ∷ []), ((ν-frames ∷ []), ((ν-pool ∷ []), ((ν-memory ∷ []), (κ-tape, tt)))))) (h, (at_list b-numbers o-numbers δ-numbers numbers, (at_list b-deques o-deques δ-deques deques, (at_list b-frames o-frames δ-frames frames, (at_list b-pool o-pool δ-pool pool, (at_list b-memory o-memory δ-memory memory, (at_list b-tape o-tape γ-tape tape, (at, tt)))))))) zs') ⊛ raw (fact 𝓤 ((numbers_in zs'.1.0 ≡ numbers_in numbers) × Leaves h res'.out (totals_in zs'.1.0) zs'.1.1.0 zs'.1.1.1.0 zs'.1.1.1.1.0 (record_on two_words (core h (totals_in numbers) deques frames pool) (decode_at tape at)) × RemembersRecord (core h (totals_in numbers) deques frames pool) memory (decode_at tape at) zs'.1.1.1.1.1.0 res'.visits)))) (id⊢ 𝓤 _) $ pick t' (λ zs'. split t' $ move t' (1 ∷ []) $ heard t' ((numbers_in zs'.1.0 ≡ numbers_in numbers) × Leaves h res'.out (totals_in zs'.1.0) zs'.1.1.0 zs'.1.1.1.0 zs'.1.1.1.1.0 (record_on two_words (core h (totals_in numbers) deques frames pool) (decode_at tape at)) × RemembersRecord (core h (totals_in numbers) deques frames pool) memory (decode_at tape at) zs'.1.1.1.1.1.0 res'.visits) (λ e'.
-      fsplit t' $ drop t' $ fsplit t' $ fsplit t' $ move t' (1 ∷ []) $ feq_l t' (λ same_numbers. move t' (1 ∷ []) $ fsplit t' $ fsplit t' $ move t' (1 ∷ []) $ feq_l t' (λ same-deques. move t' (1 ∷ []) $ fsplit t' $ fsplit t' $ move t' (1 ∷ []) $ feq_l t' (λ same-frames. move t' (1 ∷ []) $ fsplit t' $ fsplit t' $ move t' (1 ∷ []) $ feq_l t' (λ same-pool. move t' (1 ∷ []) $ fsplit t' $ fsplit t' $ move t' (1 ∷ []) $ feq_l t' (λ same_memory. move t' (1 ∷ []) $ fsplit t' $ drop t' $ fsplit t' $ drop t' $ drop t' $
-      move t' (5 ∷ []) $ split t' $ move t' (1 ∷ []) $ peeks t' R-Visited (Is R-Visited) (shows 𝓛 R-Visited) res' (w' ∷ []) (λ is'. drop t' $ split t' $ move t' (1 ∷ []) $ split t' $ move t' (1 ∷ []) $ split t' $ move t' (1 ∷ []) $ split t' $ move t' (1 ∷ []) $ split t' $ move t' (1 ∷ []) $ split t' $ move t' (1 ∷ []) $ drop t' $
-      move t' (11 ∷ 0 ∷ []) $ fjoin t' $ move t' (1 ∷ 11 ∷ 6 ∷ []) $ home t' tt u32 b-memory o-memory n-memory memory zs'.1.1.1.1.1.0 len-memory room-memory same_memory $ move t' (2 ∷ 10 ∷ 6 ∷ []) $ home t' tt u32 b-pool o-pool n-pool pool zs'.1.1.1.1.0 len-pool room-pool same-pool $ move t' (3 ∷ 9 ∷ 6 ∷ []) $ home t' tt R-Frame b-frames o-frames n-frames frames zs'.1.1.1.0 len-frames room-frames same-frames $ move t' (4 ∷ 8 ∷ 6 ∷ []) $ home t' tt u32 b-deques o-deques n-deques deques zs'.1.1.0 len-deques room-deques same-deques $ move t' (5 ∷ 7 ∷ 6 ∷ []) $ home t' tt u32 b-numbers o-numbers n-numbers numbers zs'.1.0 len-numbers room-numbers same_numbers $
-      subst (λ (v' : Val). Seq K 𝓛 (‵ (Mine u32 κ-numbers q-numbers γ-numbers b-numbers o-numbers n-numbers zs'.1.0) ∷ ‵ (Mine u32 κ-deques q-deques γ-deques b-deques o-deques n-deques zs'.1.1.0) ∷ ‵ (Mine R-Frame κ-frames q-frames γ-frames b-frames o-frames n-frames zs'.1.1.1.0) ∷ ‵ (Mine u32 κ-pool q-pool γ-pool b-pool o-pool n-pool zs'.1.1.1.1.0) ∷ ‵ (Mine u32 κ-memory q-memory γ-memory b-memory o-memory n-memory zs'.1.1.1.1.1.0) ∷ ‵ (Yours u8 κ-tape q-tape γ-tape b-tape o-tape n-tape tape) ∷ Γ) (lands C Λ E dest' v' rest' post')) (sym (ap only (LL.tells M-Visited.the_type L-Visited.the_laws res' _ is'))) (k' res' zs'.1.0 zs'.1.1.0 zs'.1.1.1.0 zs'.1.1.1.1.0 zs'.1.1.1.1.1.0 (subst (Is R-Visited res') (LL.tells M-Visited.the_type L-Visited.the_laws res' _ is') is') e' same_numbers same-deques same-frames same-pool same_memory))))))))))))))))
+  pub step-g : K → FmC 𝓤 H 𝓛.laws C → Triple 𝓤 (C name') (Asked 𝓛 mem run) → {κ-numbers : Lft} {q-numbers : Share} {γ-numbers : GName} {κ-deques : Lft} {q-deques : Share} {γ-deques : GName} {κ-frames : Lft} {q-frames : Share} {γ-frames : GName} {κ-pool : Lft} {q-pool : Share} {γ-pool : GName} {κ-tape : Lft} {q-tape : Share} {γ-tape : GName} → (b-numbers o-numbers n-numbers : ℕ) (numbers : List ℕ) (b-deques o-deques n-deques : ℕ) (deques : List ℕ) (b-frames o-frames n-frames : ℕ) (frames : List Frame) (b-pool o-pool n-pool : ℕ) (pool : List ℕ) (b-tape o-tape n-tape : ℕ) (tape : List ℕ) (h : Head) (at : ℕ) → (h-good : Is R-Head h (val-Head h ∷ [])) → (at-good : at < 2 ^ 64) → (length numbers ≡ number_count) × Ready (core h (totals_in numbers) deques frames pool) × (at + 8 ≤ length tape) → length numbers ≡ n-numbers → Room u32 n-numbers → length deques ≡ n-deques → Room u32 n-deques → length frames ≡ n-frames → Room R-Frame n-frames → length pool ≡ n-pool → Room u32 n-pool →
+      ((ν-numbers : ℕ) (δ-numbers : GName) (ν-deques : ℕ) (δ-deques : GName) (ν-frames : ℕ) (δ-frames : GName) (ν-pool : ℕ) (δ-pool : GName) → Opds K 𝓛 (raw ((Asked 𝓛 mem run).pre (to-step-g 𝓛 mem run ν-numbers δ-numbers ν-deques δ-deques ν-frames δ-frames ν-pool δ-pool κ-tape q-tape γ-tape b-numbers o-numbers n-numbers numbers b-deques o-deques n-deques deques b-frames o-frames n-frames frames b-pool o-pool n-pool pool b-tape o-tape n-tape tape h at)) ∷ ‵ ((ShrSlice (named 0) κ-tape u8).own_val (at_list b-tape o-tape γ-tape tape) (slice_val (b-tape, o-tape) n-tape ∷ [])) ∷ ‵ (Lent u32 κ-pool (ν-pool ∷ []) q-pool γ-pool b-pool o-pool δ-pool pool) ∷ ‵ (Lent R-Frame κ-frames (ν-frames ∷ []) q-frames γ-frames b-frames o-frames δ-frames frames) ∷ ‵ (Lent u32 κ-deques (ν-deques ∷ []) q-deques γ-deques b-deques o-deques δ-deques deques) ∷ ‵ (Lent u32 κ-numbers (ν-numbers ∷ []) q-numbers γ-numbers b-numbers o-numbers δ-numbers numbers) ∷ Γ) E opds' (val-Head h ∷ slice_val (b-numbers, o-numbers) n-numbers ∷ slice_val (b-deques, o-deques) n-deques ∷ slice_val (b-frames, o-frames) n-frames ∷ slice_val (b-pool, o-pool) n-pool ∷ slice_val (b-tape, o-tape) n-tape ∷ vint w64 at ∷ [])) →
+      ((res' : Out) (zs-numbers : List ℕ) (zs-deques : List ℕ) (zs-frames : List Frame) (zs-pool : List ℕ) → Is R-Out res' (val-Out res' ∷ []) → (numbers_in zs-numbers ≡ numbers_in numbers) × Leaves h res' (totals_in zs-numbers) zs-deques zs-frames zs-pool (record_on two_words (core h (totals_in numbers) deques frames pool) (decode_at tape at)) → length zs-numbers ≡ length numbers → length zs-deques ≡ length deques → length zs-frames ≡ length frames → length zs-pool ≡ length pool → Seq K 𝓛 (‵ (Mine u32 κ-numbers q-numbers γ-numbers b-numbers o-numbers n-numbers zs-numbers) ∷ ‵ (Mine u32 κ-deques q-deques γ-deques b-deques o-deques n-deques zs-deques) ∷ ‵ (Mine R-Frame κ-frames q-frames γ-frames b-frames o-frames n-frames zs-frames) ∷ ‵ (Mine u32 κ-pool q-pool γ-pool b-pool o-pool n-pool zs-pool) ∷ ‵ (Yours u8 κ-tape q-tape γ-tape b-tape o-tape n-tape tape) ∷ Γ) (lands C Λ E dest' (val-Out res') rest' post')) →
+      Seq K 𝓛 (‵ (Mine u32 κ-numbers q-numbers γ-numbers b-numbers o-numbers n-numbers numbers) ∷ ‵ (Mine u32 κ-deques q-deques γ-deques b-deques o-deques n-deques deques) ∷ ‵ (Mine R-Frame κ-frames q-frames γ-frames b-frames o-frames n-frames frames) ∷ ‵ (Mine u32 κ-pool q-pool γ-pool b-pool o-pool n-pool pool) ∷ ‵ (Yours u8 κ-tape q-tape γ-tape b-tape o-tape n-tape tape) ∷ Γ) (runs C Λ E (seq (call name' opds' dest') rest') post')
+  step-g t' fm' known' {κ-numbers} {q-numbers} {γ-numbers} {κ-deques} {q-deques} {γ-deques} {κ-frames} {q-frames} {γ-frames} {κ-pool} {q-pool} {γ-pool} {κ-tape} {q-tape} {γ-tape} b-numbers o-numbers n-numbers numbers b-deques o-deques n-deques deques b-frames o-frames n-frames frames b-pool o-pool n-pool pool b-tape o-tape n-tape tape h at h-good at-good ok' len-numbers room-numbers len-deques room-deques len-frames room-frames len-pool room-pool os' k' =
+      lend t' tt u32 b-numbers o-numbers n-numbers numbers len-numbers (λ ν-numbers δ-numbers. move t' (3 ∷ []) $ lend t' tt u32 b-deques o-deques n-deques deques len-deques (λ ν-deques δ-deques. move t' (6 ∷ []) $ lend t' tt R-Frame b-frames o-frames n-frames frames len-frames (λ ν-frames δ-frames. move t' (9 ∷ []) $ lend t' tt u32 b-pool o-pool n-pool pool len-pool (λ ν-pool δ-pool. move t' (12 ∷ []) $ give t' u8 b-tape o-tape n-tape tape $
+      move t' (12 ∷ 9 ∷ 6 ∷ 3 ∷ 0 ∷ 13 ∷ 10 ∷ 7 ∷ 4 ∷ 1 ∷ []) $ group t' 10 $ use1 𝓛 (raw ((Asked 𝓛 mem run).pre (to-step-g 𝓛 mem run ν-numbers δ-numbers ν-deques δ-deques ν-frames δ-frames ν-pool δ-pool κ-tape q-tape γ-tape b-numbers o-numbers n-numbers numbers b-deques o-deques n-deques deques b-frames o-frames n-frames frames b-pool o-pool n-pool pool b-tape o-tape n-tape tape h at))) (goes-step-g 𝓛 mem run ν-numbers δ-numbers ν-deques δ-deques ν-frames δ-frames ν-pool δ-pool κ-tape q-tape γ-tape b-numbers o-numbers n-numbers numbers b-deques o-deques n-deques deques b-frames o-frames n-frames frames b-pool o-pool n-pool pool b-tape o-tape n-tape tape h at h-good at-good ok') $
+      calls_at t' fm' (Asked 𝓛 mem run) known' (to-step-g 𝓛 mem run ν-numbers δ-numbers ν-deques δ-deques ν-frames δ-frames ν-pool δ-pool κ-tape q-tape γ-tape b-numbers o-numbers n-numbers numbers b-deques o-deques n-deques deques b-frames o-frames n-frames frames b-pool o-pool n-pool pool b-tape o-tape n-tape tape h at) (os' ν-numbers δ-numbers ν-deques δ-deques ν-frames δ-frames ν-pool δ-pool) (λ w'.
+      use1 𝓛 (later (some (λ (res' : Out). ((‵ (flft (ν-numbers ∷ []) full_share) ⊛ (‵ (flft (ν-deques ∷ []) full_share) ⊛ (‵ (flft (ν-frames ∷ []) full_share) ⊛ (‵ (flft (ν-pool ∷ []) full_share) ⊛ (‵ (flft κ-tape q-tape) ⊛ ‵ ftrue))))) ⊛ ‵ (R-Out.own res' (w' ∷ []))) ⊛ raw (ensured 𝓛 callee'.ended (callee'.clauses 𝓛 mem run) ((ν-numbers ∷ []), ((ν-deques ∷ []), ((ν-frames ∷ []), ((ν-pool ∷ []), (κ-tape, tt))))) (h, (at_list b-numbers o-numbers δ-numbers numbers, (at_list b-deques o-deques δ-deques deques, (at_list b-frames o-frames δ-frames frames, (at_list b-pool o-pool δ-pool pool, (at_list b-tape o-tape γ-tape tape, (at, tt))))))) tt res')))) (id⊢ 𝓤 _) $ await t' tt $ pick t' (λ res'. split t' $ move t' (1 ∷ []) $
+      use1 𝓛 (some (λ (zs' : Unit {0} × (List ℕ × (List ℕ × (List Frame × (List ℕ × (Unit {0} × (Unit {0} × Unit {0}))))))). ‵ (lasts callee'.ended ((ν-numbers ∷ []), ((ν-deques ∷ []), ((ν-frames ∷ []), ((ν-pool ∷ []), (κ-tape, tt))))) (h, (at_list b-numbers o-numbers δ-numbers numbers, (at_list b-deques o-deques δ-deques deques, (at_list b-frames o-frames δ-frames frames, (at_list b-pool o-pool δ-pool pool, (at_list b-tape o-tape γ-tape tape, (at, tt))))))) zs') ⊛ raw (fact 𝓤 ((numbers_in zs'.1.0 ≡ numbers_in numbers) × Leaves h res' (totals_in zs'.1.0) zs'.1.1.0 zs'.1.1.1.0 zs'.1.1.1.1.0 (record_on two_words (core h (totals_in numbers) deques frames pool) (decode_at tape at)))))) (id⊢ 𝓤 _) $ pick t' (λ zs'. split t' $ move t' (1 ∷ []) $ heard t' ((numbers_in zs'.1.0 ≡ numbers_in numbers) × Leaves h res' (totals_in zs'.1.0) zs'.1.1.0 zs'.1.1.1.0 zs'.1.1.1.1.0 (record_on two_words (core h (totals_in numbers) deques frames pool) (decode_at tape at))) (λ e'.
+      fsplit t' $ drop t' $ fsplit t' $ fsplit t' $ move t' (1 ∷ []) $ feq_l t' (λ same_numbers. move t' (1 ∷ []) $ fsplit t' $ fsplit t' $ move t' (1 ∷ []) $ feq_l t' (λ same-deques. move t' (1 ∷ []) $ fsplit t' $ fsplit t' $ move t' (1 ∷ []) $ feq_l t' (λ same-frames. move t' (1 ∷ []) $ fsplit t' $ fsplit t' $ move t' (1 ∷ []) $ feq_l t' (λ same-pool. move t' (1 ∷ []) $ fsplit t' $ drop t' $ fsplit t' $ drop t' $ drop t' $
+      move t' (4 ∷ []) $ split t' $ move t' (1 ∷ []) $ peeks t' R-Out (Is R-Out) (shows 𝓛 R-Out) res' (w' ∷ []) (λ is'. drop t' $ split t' $ move t' (1 ∷ []) $ split t' $ move t' (1 ∷ []) $ split t' $ move t' (1 ∷ []) $ split t' $ move t' (1 ∷ []) $ split t' $ move t' (1 ∷ []) $ drop t' $
+      move t' (9 ∷ 0 ∷ []) $ fjoin t' $ move t' (1 ∷ 9 ∷ 5 ∷ []) $ home t' tt u32 b-pool o-pool n-pool pool zs'.1.1.1.1.0 len-pool room-pool same-pool $ move t' (2 ∷ 8 ∷ 5 ∷ []) $ home t' tt R-Frame b-frames o-frames n-frames frames zs'.1.1.1.0 len-frames room-frames same-frames $ move t' (3 ∷ 7 ∷ 5 ∷ []) $ home t' tt u32 b-deques o-deques n-deques deques zs'.1.1.0 len-deques room-deques same-deques $ move t' (4 ∷ 6 ∷ 5 ∷ []) $ home t' tt u32 b-numbers o-numbers n-numbers numbers zs'.1.0 len-numbers room-numbers same_numbers $
+      subst (λ (v' : Val). Seq K 𝓛 (‵ (Mine u32 κ-numbers q-numbers γ-numbers b-numbers o-numbers n-numbers zs'.1.0) ∷ ‵ (Mine u32 κ-deques q-deques γ-deques b-deques o-deques n-deques zs'.1.1.0) ∷ ‵ (Mine R-Frame κ-frames q-frames γ-frames b-frames o-frames n-frames zs'.1.1.1.0) ∷ ‵ (Mine u32 κ-pool q-pool γ-pool b-pool o-pool n-pool zs'.1.1.1.1.0) ∷ ‵ (Yours u8 κ-tape q-tape γ-tape b-tape o-tape n-tape tape) ∷ Γ) (lands C Λ E dest' v' rest' post')) (sym (ap only (LL.tells M-Out.the_type L-Out.the_laws res' _ is'))) (k' res' zs'.1.0 zs'.1.1.0 zs'.1.1.1.0 zs'.1.1.1.1.0 (subst (Is R-Out res') (LL.tells M-Out.the_type L-Out.the_laws res' _ is') is') e' same_numbers same-deques same-frames same-pool))))))))))))))

@@ -1,9 +1,13 @@
 -- Written by tools/walk: the call of `packed::tree::write_shared` as a step of a walk. Do not edit: write it again.
 -- The operands are read in the context [what the callee asks; the loans; Γ], where an entry of Γ stands one further on than before the call.
-use Rattle.std.proofs.Common.{◌≡◌, ℕ, ◌*◌, ◌^◌, ◌<◌, ◌≤◌, Bool, true, List, [], ◌∷◌, length, sym, refl, ap, subst, w8, w16, w32, w64}
+use mathlib.Core.Path.{◌≡◌, refl, sym, ap, subst}
+use Prim.Native.Nat.{ℕ, ◌<◌, ◌^◌}
+use mathlib.Core.List.{List, [], ◌∷◌}
+use mathlib.Core.Bool.{Bool}
+use lib.ListN.{length}
 use seplogic.Ra.Ura.{Ura}
 use seplogic.Ra.TreeShare.{full_share}
-use mir.Syntax.{Name, Place, Opd as Operand, Body, named, seq, call}
+use mir.Syntax.{Name, Place, Opd as Operand, Body, named, w8, w16, w32, w64, seq, call}
 use mir.Val.{Val, vint, vbool, vunit}
 use base.Logic.{SProp, ent, id⊢}
 use base.Fml.{Lft, GName, Share, ftrue, flft}
@@ -28,8 +32,10 @@ use denote.Triple.Statement.{Contract, Triple}
 use denote.Triple.Call.{calls_at, calls_at_last}
 use denote.Triple.Clauses.{ensured, lasts}
 use denote.Triple.Walked.{says}
+use mathlib.Core.Bool.{true}
+use Prim.Native.Nat.{◌*◌, ◌≤◌}
 use Rattle.packed.specs.Links.{IsShared, WriteIn, Wrote}
-use Rattle.packed.specs.Pool.{copy_leaf, first_shared, write}
+use Rattle.packed.specs.Pool.{first_shared, write}
 use Rattle.packed.specs.contracts.tree.FirstShared as M-FirstShared
 use Rattle.packed.proofs.tree.FirstShared.TheLaws as L-FirstShared
 use Rattle.packed.specs.declared.tree.FirstShared.{FirstShared}
@@ -68,14 +74,14 @@ module _ {M : Type 1} {𝓤 : Ura M} {𝓛 : Logic 𝓤} {K : Type 0} (mem : Mem
 
   pub step : K → FmC 𝓤 H 𝓛.laws C → Triple 𝓤 (C name') (Asked 𝓛 mem run) → {κ-pool : Lft} {q-pool : Share} {γ-pool : GName} → (b-pool o-pool n-pool : ℕ) (pool : List ℕ) (nodes : ℕ) (height : ℕ) (free : ℕ) (count : ℕ) (root : ℕ) (x : ℕ) (v : ℕ) (found : FirstShared) → (nodes-good : nodes < 2 ^ 32) → (height-good : height < 2 ^ 32) → (free-good : free < 2 ^ 32) → (count-good : count < 2 ^ 32) → (root-good : root < 2 ^ 32) → (x-good : x < 2 ^ 32) → (v-good : v < 2 ^ 32) → (found-good : Is R-FirstShared found (val-FirstShared found ∷ [])) → (2 * nodes ≤ length pool) × (nodes ≤ 16384) × (height ≤ 32) × (found.shared ≡ true) × (found.level < count) × IsShared height found.shared found.level found.node found.above (first_shared height pool root root x) × WriteIn nodes height pool free x (first_shared height pool root root x) → length pool ≡ n-pool → Room u32 n-pool →
       ((ν-pool : ℕ) (δ-pool : GName) → Opds K 𝓛 (raw ((Asked 𝓛 mem run).pre (to_step 𝓛 mem run ν-pool δ-pool b-pool o-pool n-pool pool nodes height free count root x v found)) ∷ ‵ (Lent u32 κ-pool (ν-pool ∷ []) q-pool γ-pool b-pool o-pool δ-pool pool) ∷ Γ) E opds' (slice_val (b-pool, o-pool) n-pool ∷ vint w32 nodes ∷ vint w32 height ∷ vint w32 free ∷ vint w32 count ∷ vint w32 root ∷ vint w32 x ∷ vint w32 v ∷ val-FirstShared found ∷ [])) →
-      ((res' : Written) (zs-pool : List ℕ) → Is R-Written res' (val-Written res' ∷ []) → Wrote (write height pool free count root x v) zs-pool res'.first res'.count res'.root × (res'.leaf ≡ copy_leaf found.level pool free found.node x) × (res'.visits ≡ found.level) → length zs-pool ≡ length pool → Seq K 𝓛 (‵ (Mine u32 κ-pool q-pool γ-pool b-pool o-pool n-pool zs-pool) ∷ Γ) (lands C Λ E dest' (val-Written res') rest' post')) →
+      ((res' : Written) (zs-pool : List ℕ) → Is R-Written res' (val-Written res' ∷ []) → Wrote (write height pool free count root x v) zs-pool res'.first res'.count res'.root → length zs-pool ≡ length pool → Seq K 𝓛 (‵ (Mine u32 κ-pool q-pool γ-pool b-pool o-pool n-pool zs-pool) ∷ Γ) (lands C Λ E dest' (val-Written res') rest' post')) →
       Seq K 𝓛 (‵ (Mine u32 κ-pool q-pool γ-pool b-pool o-pool n-pool pool) ∷ Γ) (runs C Λ E (seq (call name' opds' dest') rest') post')
   step t' fm' known' {κ-pool} {q-pool} {γ-pool} b-pool o-pool n-pool pool nodes height free count root x v found nodes-good height-good free-good count-good root-good x-good v-good found-good ok' len-pool room-pool os' k' =
       lend t' tt u32 b-pool o-pool n-pool pool len-pool (λ ν-pool δ-pool.
       move t' (0 ∷ 1 ∷ []) $ group t' 2 $ use1 𝓛 (raw ((Asked 𝓛 mem run).pre (to_step 𝓛 mem run ν-pool δ-pool b-pool o-pool n-pool pool nodes height free count root x v found))) (goes_step 𝓛 mem run ν-pool δ-pool b-pool o-pool n-pool pool nodes height free count root x v found nodes-good height-good free-good count-good root-good x-good v-good found-good ok') $
       calls_at t' fm' (Asked 𝓛 mem run) known' (to_step 𝓛 mem run ν-pool δ-pool b-pool o-pool n-pool pool nodes height free count root x v found) (os' ν-pool δ-pool) (λ w'.
       use1 𝓛 (later (some (λ (res' : Written). ((‵ (flft (ν-pool ∷ []) full_share) ⊛ ‵ ftrue) ⊛ ‵ (R-Written.own res' (w' ∷ []))) ⊛ raw (ensured 𝓛 callee'.ended (callee'.clauses 𝓛 mem run) ((ν-pool ∷ []), tt) (at_list b-pool o-pool δ-pool pool, (nodes, (height, (free, (count, (root, (x, (v, (found, tt))))))))) tt res')))) (id⊢ 𝓤 _) $ await t' tt $ pick t' (λ res'. split t' $ move t' (1 ∷ []) $
-      use1 𝓛 (some (λ (zs' : List ℕ × (Unit {0} × (Unit {0} × (Unit {0} × (Unit {0} × (Unit {0} × (Unit {0} × (Unit {0} × (Unit {0} × Unit {0}))))))))). ‵ (lasts callee'.ended ((ν-pool ∷ []), tt) (at_list b-pool o-pool δ-pool pool, (nodes, (height, (free, (count, (root, (x, (v, (found, tt))))))))) zs') ⊛ raw (fact 𝓤 (Wrote (write height pool free count root x v) zs'.0 res'.first res'.count res'.root × (res'.leaf ≡ copy_leaf found.level pool free found.node x) × (res'.visits ≡ found.level))))) (id⊢ 𝓤 _) $ pick t' (λ zs'. split t' $ move t' (1 ∷ []) $ heard t' (Wrote (write height pool free count root x v) zs'.0 res'.first res'.count res'.root × (res'.leaf ≡ copy_leaf found.level pool free found.node x) × (res'.visits ≡ found.level)) (λ e'.
+      use1 𝓛 (some (λ (zs' : List ℕ × (Unit {0} × (Unit {0} × (Unit {0} × (Unit {0} × (Unit {0} × (Unit {0} × (Unit {0} × (Unit {0} × Unit {0}))))))))). ‵ (lasts callee'.ended ((ν-pool ∷ []), tt) (at_list b-pool o-pool δ-pool pool, (nodes, (height, (free, (count, (root, (x, (v, (found, tt))))))))) zs') ⊛ raw (fact 𝓤 (Wrote (write height pool free count root x v) zs'.0 res'.first res'.count res'.root)))) (id⊢ 𝓤 _) $ pick t' (λ zs'. split t' $ move t' (1 ∷ []) $ heard t' (Wrote (write height pool free count root x v) zs'.0 res'.first res'.count res'.root) (λ e'.
       fsplit t' $ fsplit t' $ move t' (1 ∷ []) $ feq_l t' (λ same-pool. move t' (1 ∷ []) $ fsplit t' $ drop t' $ fsplit t' $ drop t' $ fsplit t' $ drop t' $ fsplit t' $ drop t' $ fsplit t' $ drop t' $ fsplit t' $ drop t' $ fsplit t' $ drop t' $ fsplit t' $ drop t' $ drop t' $
       move t' (1 ∷ []) $ split t' $ move t' (1 ∷ []) $ peeks t' R-Written (Is R-Written) (shows 𝓛 R-Written) res' (w' ∷ []) (λ is'. drop t' $ split t' $ move t' (1 ∷ []) $ drop t' $
       move t' (0 ∷ 2 ∷ 1 ∷ []) $ home t' tt u32 b-pool o-pool n-pool pool zs'.0 len-pool room-pool same-pool $

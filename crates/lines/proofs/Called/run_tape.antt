@@ -33,16 +33,16 @@ use denote.Triple.Call.{calls_at, calls_at_last}
 use denote.Triple.Clauses.{ensured, lasts}
 use denote.Triple.Walked.{says}
 use Prim.Native.Nat.{◌+◌, ◌*◌}
+use Rattle.semantics.specs.Entries.{tape_on}
 use Rattle.semantics.specs.Promises.{parts}
-use Rattle.semantics.specs.Remembering.{tape_remembering}
 use Rattle.lines.specs.Lines.{tape_lines}
 use Rattle.lines.specs.Output.{StoresUpTo}
-use Rattle.soundness.specs.Layout.{two_words}
 use Rattle.frames.specs.contracts.Frame as M-Frame
 use Rattle.frames.proofs.Frame.TheLaws as L-Frame
 use Rattle.frames.specs.declared.Frame.{Frame}
 use Rattle.frames.proofs.Lent.{at_list, Mine, Yours, Lent, Shown, lend, home, show, back, give}
 use Rattle.lines.specs.contracts.run.run_tape as callee'
+use Rattle.soundness.specs.Layout.{two_words}
 
 abbrev R-Frame : RattleType
 R-Frame = M-Frame.the_row
@@ -54,28 +54,28 @@ module _ {M : Type 1} {𝓤 : Ura M} (𝓛 : Logic 𝓤) (mem : Memory → SProp
   abbrev pub Asked : Contract 𝓤
   Asked = triple_of 𝓛 callee'.signature (callee'.spec 𝓛 mem run)
 
-  abbrev pub to-step-g : (ν-numbers : ℕ) (δ-numbers : GName) (ν-deques : ℕ) (δ-deques : GName) (ν-frames : ℕ) (δ-frames : GName) (ν-memory : ℕ) (δ-memory : GName) (ν-pool : ℕ) (δ-pool : GName) (ν-work : ℕ) (δ-work : GName) (κ-records : Lft) (q-records : Share) (γ-records : GName) (ν-answers : ℕ) (δ-answers : GName) (ν-out : ℕ) (δ-out : GName) (b-numbers o-numbers n-numbers : ℕ) (numbers : List ℕ) (b-deques o-deques n-deques : ℕ) (deques : List ℕ) (b-frames o-frames n-frames : ℕ) (frames : List Frame) (b-memory o-memory n-memory : ℕ) (memory : List ℕ) (b-pool o-pool n-pool : ℕ) (pool : List ℕ) (b-work o-work n-work : ℕ) (work : List ℕ) (b-records o-records n-records : ℕ) (records : List ℕ) (b-answers o-answers n-answers : ℕ) (answers : List ℕ) (b-out o-out n-out : ℕ) (out : List ℕ) (at : ℕ) → Asked.Ghost
-  to-step-g ν-numbers δ-numbers ν-deques δ-deques ν-frames δ-frames ν-memory δ-memory ν-pool δ-pool ν-work δ-work κ-records q-records γ-records ν-answers δ-answers ν-out δ-out b-numbers o-numbers n-numbers numbers b-deques o-deques n-deques deques b-frames o-frames n-frames frames b-memory o-memory n-memory memory b-pool o-pool n-pool pool b-work o-work n-work work b-records o-records n-records records b-answers o-answers n-answers answers b-out o-out n-out out at = ((((ν-numbers ∷ []), ((ν-deques ∷ []), ((ν-frames ∷ []), ((ν-memory ∷ []), ((ν-pool ∷ []), ((ν-work ∷ []), (κ-records, ((ν-answers ∷ []), ((ν-out ∷ []), tt))))))))), (full_share, (full_share, (full_share, (full_share, (full_share, (full_share, (q-records, (full_share, (full_share, tt))))))))), tt, (at_list b-numbers o-numbers δ-numbers numbers, (at_list b-deques o-deques δ-deques deques, (at_list b-frames o-frames δ-frames frames, (at_list b-memory o-memory δ-memory memory, (at_list b-pool o-pool δ-pool pool, (at_list b-work o-work δ-work work, (at_list b-records o-records γ-records records, (at_list b-answers o-answers δ-answers answers, (at_list b-out o-out δ-out out, (at, tt)))))))))), (slice_val (b-numbers, o-numbers) n-numbers ∷ [], (slice_val (b-deques, o-deques) n-deques ∷ [], (slice_val (b-frames, o-frames) n-frames ∷ [], (slice_val (b-memory, o-memory) n-memory ∷ [], (slice_val (b-pool, o-pool) n-pool ∷ [], (slice_val (b-work, o-work) n-work ∷ [], (slice_val (b-records, o-records) n-records ∷ [], (slice_val (b-answers, o-answers) n-answers ∷ [], (slice_val (b-out, o-out) n-out ∷ [], (vint w64 at ∷ [], tt))))))))))), tt)
+  abbrev pub to-step-g : (ν-numbers : ℕ) (δ-numbers : GName) (ν-deques : ℕ) (δ-deques : GName) (ν-frames : ℕ) (δ-frames : GName) (ν-pool : ℕ) (δ-pool : GName) (ν-work : ℕ) (δ-work : GName) (κ-records : Lft) (q-records : Share) (γ-records : GName) (ν-answers : ℕ) (δ-answers : GName) (ν-out : ℕ) (δ-out : GName) (b-numbers o-numbers n-numbers : ℕ) (numbers : List ℕ) (b-deques o-deques n-deques : ℕ) (deques : List ℕ) (b-frames o-frames n-frames : ℕ) (frames : List Frame) (b-pool o-pool n-pool : ℕ) (pool : List ℕ) (b-work o-work n-work : ℕ) (work : List ℕ) (b-records o-records n-records : ℕ) (records : List ℕ) (b-answers o-answers n-answers : ℕ) (answers : List ℕ) (b-out o-out n-out : ℕ) (out : List ℕ) (at : ℕ) → Asked.Ghost
+  to-step-g ν-numbers δ-numbers ν-deques δ-deques ν-frames δ-frames ν-pool δ-pool ν-work δ-work κ-records q-records γ-records ν-answers δ-answers ν-out δ-out b-numbers o-numbers n-numbers numbers b-deques o-deques n-deques deques b-frames o-frames n-frames frames b-pool o-pool n-pool pool b-work o-work n-work work b-records o-records n-records records b-answers o-answers n-answers answers b-out o-out n-out out at = ((((ν-numbers ∷ []), ((ν-deques ∷ []), ((ν-frames ∷ []), ((ν-pool ∷ []), ((ν-work ∷ []), (κ-records, ((ν-answers ∷ []), ((ν-out ∷ []), tt)))))))), (full_share, (full_share, (full_share, (full_share, (full_share, (q-records, (full_share, (full_share, tt)))))))), tt, (at_list b-numbers o-numbers δ-numbers numbers, (at_list b-deques o-deques δ-deques deques, (at_list b-frames o-frames δ-frames frames, (at_list b-pool o-pool δ-pool pool, (at_list b-work o-work δ-work work, (at_list b-records o-records γ-records records, (at_list b-answers o-answers δ-answers answers, (at_list b-out o-out δ-out out, (at, tt))))))))), (slice_val (b-numbers, o-numbers) n-numbers ∷ [], (slice_val (b-deques, o-deques) n-deques ∷ [], (slice_val (b-frames, o-frames) n-frames ∷ [], (slice_val (b-pool, o-pool) n-pool ∷ [], (slice_val (b-work, o-work) n-work ∷ [], (slice_val (b-records, o-records) n-records ∷ [], (slice_val (b-answers, o-answers) n-answers ∷ [], (slice_val (b-out, o-out) n-out ∷ [], (vint w64 at ∷ [], tt)))))))))), tt)
 
-  pub goes-step-g : (ν-numbers : ℕ) (δ-numbers : GName) (ν-deques : ℕ) (δ-deques : GName) (ν-frames : ℕ) (δ-frames : GName) (ν-memory : ℕ) (δ-memory : GName) (ν-pool : ℕ) (δ-pool : GName) (ν-work : ℕ) (δ-work : GName) (κ-records : Lft) (q-records : Share) (γ-records : GName) (ν-answers : ℕ) (δ-answers : GName) (ν-out : ℕ) (δ-out : GName) (b-numbers o-numbers n-numbers : ℕ) (numbers : List ℕ) (b-deques o-deques n-deques : ℕ) (deques : List ℕ) (b-frames o-frames n-frames : ℕ) (frames : List Frame) (b-memory o-memory n-memory : ℕ) (memory : List ℕ) (b-pool o-pool n-pool : ℕ) (pool : List ℕ) (b-work o-work n-work : ℕ) (work : List ℕ) (b-records o-records n-records : ℕ) (records : List ℕ) (b-answers o-answers n-answers : ℕ) (answers : List ℕ) (b-out o-out n-out : ℕ) (out : List ℕ) (at : ℕ) → (at-good : at < 2 ^ 64) → ent 𝓤 (⋆ 𝓛 (‵ (flft (ν-numbers ∷ []) full_share) ∷ ‵ (flft (ν-deques ∷ []) full_share) ∷ ‵ (flft (ν-frames ∷ []) full_share) ∷ ‵ (flft (ν-memory ∷ []) full_share) ∷ ‵ (flft (ν-pool ∷ []) full_share) ∷ ‵ (flft (ν-work ∷ []) full_share) ∷ ‵ (flft κ-records q-records) ∷ ‵ (flft (ν-answers ∷ []) full_share) ∷ ‵ (flft (ν-out ∷ []) full_share) ∷ ‵ ((MutSlice (named 0) (ν-numbers ∷ []) u32).own_val (at_list b-numbers o-numbers δ-numbers numbers) (slice_val (b-numbers, o-numbers) n-numbers ∷ [])) ∷ ‵ ((MutSlice (named 0) (ν-deques ∷ []) u32).own_val (at_list b-deques o-deques δ-deques deques) (slice_val (b-deques, o-deques) n-deques ∷ [])) ∷ ‵ ((MutSlice (named 0) (ν-frames ∷ []) R-Frame).own_val (at_list b-frames o-frames δ-frames frames) (slice_val (b-frames, o-frames) n-frames ∷ [])) ∷ ‵ ((MutSlice (named 0) (ν-memory ∷ []) u32).own_val (at_list b-memory o-memory δ-memory memory) (slice_val (b-memory, o-memory) n-memory ∷ [])) ∷ ‵ ((MutSlice (named 0) (ν-pool ∷ []) u32).own_val (at_list b-pool o-pool δ-pool pool) (slice_val (b-pool, o-pool) n-pool ∷ [])) ∷ ‵ ((MutSlice (named 0) (ν-work ∷ []) u32).own_val (at_list b-work o-work δ-work work) (slice_val (b-work, o-work) n-work ∷ [])) ∷ ‵ ((ShrSlice (named 0) κ-records u8).own_val (at_list b-records o-records γ-records records) (slice_val (b-records, o-records) n-records ∷ [])) ∷ ‵ ((MutSlice (named 0) (ν-answers ∷ []) u32).own_val (at_list b-answers o-answers δ-answers answers) (slice_val (b-answers, o-answers) n-answers ∷ [])) ∷ ‵ ((MutSlice (named 0) (ν-out ∷ []) u8).own_val (at_list b-out o-out δ-out out) (slice_val (b-out, o-out) n-out ∷ [])) ∷ [])) (Asked.pre (to-step-g ν-numbers δ-numbers ν-deques δ-deques ν-frames δ-frames ν-memory δ-memory ν-pool δ-pool ν-work δ-work κ-records q-records γ-records ν-answers δ-answers ν-out δ-out b-numbers o-numbers n-numbers numbers b-deques o-deques n-deques deques b-frames o-frames n-frames frames b-memory o-memory n-memory memory b-pool o-pool n-pool pool b-work o-work n-work work b-records o-records n-records records b-answers o-answers n-answers answers b-out o-out n-out out at))
-  goes-step-g ν-numbers δ-numbers ν-deques δ-deques ν-frames δ-frames ν-memory δ-memory ν-pool δ-pool ν-work δ-work κ-records q-records γ-records ν-answers δ-answers ν-out δ-out b-numbers o-numbers n-numbers numbers b-deques o-deques n-deques deques b-frames o-frames n-frames frames b-memory o-memory n-memory memory b-pool o-pool n-pool pool b-work o-work n-work work b-records o-records n-records records b-answers o-answers n-answers answers b-out o-out n-out out at at-good = qed 𝓛 (‵ (flft (ν-numbers ∷ []) full_share) ∷ ‵ (flft (ν-deques ∷ []) full_share) ∷ ‵ (flft (ν-frames ∷ []) full_share) ∷ ‵ (flft (ν-memory ∷ []) full_share) ∷ ‵ (flft (ν-pool ∷ []) full_share) ∷ ‵ (flft (ν-work ∷ []) full_share) ∷ ‵ (flft κ-records q-records) ∷ ‵ (flft (ν-answers ∷ []) full_share) ∷ ‵ (flft (ν-out ∷ []) full_share) ∷ ‵ ((MutSlice (named 0) (ν-numbers ∷ []) u32).own_val (at_list b-numbers o-numbers δ-numbers numbers) (slice_val (b-numbers, o-numbers) n-numbers ∷ [])) ∷ ‵ ((MutSlice (named 0) (ν-deques ∷ []) u32).own_val (at_list b-deques o-deques δ-deques deques) (slice_val (b-deques, o-deques) n-deques ∷ [])) ∷ ‵ ((MutSlice (named 0) (ν-frames ∷ []) R-Frame).own_val (at_list b-frames o-frames δ-frames frames) (slice_val (b-frames, o-frames) n-frames ∷ [])) ∷ ‵ ((MutSlice (named 0) (ν-memory ∷ []) u32).own_val (at_list b-memory o-memory δ-memory memory) (slice_val (b-memory, o-memory) n-memory ∷ [])) ∷ ‵ ((MutSlice (named 0) (ν-pool ∷ []) u32).own_val (at_list b-pool o-pool δ-pool pool) (slice_val (b-pool, o-pool) n-pool ∷ [])) ∷ ‵ ((MutSlice (named 0) (ν-work ∷ []) u32).own_val (at_list b-work o-work δ-work work) (slice_val (b-work, o-work) n-work ∷ [])) ∷ ‵ ((ShrSlice (named 0) κ-records u8).own_val (at_list b-records o-records γ-records records) (slice_val (b-records, o-records) n-records ∷ [])) ∷ ‵ ((MutSlice (named 0) (ν-answers ∷ []) u32).own_val (at_list b-answers o-answers δ-answers answers) (slice_val (b-answers, o-answers) n-answers ∷ [])) ∷ ‵ ((MutSlice (named 0) (ν-out ∷ []) u8).own_val (at_list b-out o-out δ-out out) (slice_val (b-out, o-out) n-out ∷ [])) ∷ []) ∵ nothing ! $ move ! (1 ∷ 2 ∷ 3 ∷ 4 ∷ 5 ∷ 6 ∷ 7 ∷ 8 ∷ 9 ∷ 0 ∷ []) $ group ! 10 $ move ! (1 ∷ 2 ∷ 3 ∷ 4 ∷ 5 ∷ 6 ∷ 7 ∷ 8 ∷ 9 ∷ 0 ∷ []) $
-      nothing ! $ owned ! usize (Is usize) (uint_Makes 𝓛 w64) at _ (refl, at-good) $ fjoin ! $ move ! (9 ∷ 0 ∷ []) $ fjoin ! $ move ! (8 ∷ 0 ∷ []) $ fjoin ! $ move ! (7 ∷ 0 ∷ []) $ fjoin ! $ move ! (6 ∷ 0 ∷ []) $ fjoin ! $ move ! (5 ∷ 0 ∷ []) $ fjoin ! $ move ! (4 ∷ 0 ∷ []) $ fjoin ! $ move ! (3 ∷ 0 ∷ []) $ fjoin ! $ move ! (2 ∷ 0 ∷ []) $ fjoin ! $ move ! (1 ∷ 0 ∷ []) $ fjoin ! $ move ! (1 ∷ 0 ∷ []) $ join ! $ frame ! $ done !
+  pub goes-step-g : (ν-numbers : ℕ) (δ-numbers : GName) (ν-deques : ℕ) (δ-deques : GName) (ν-frames : ℕ) (δ-frames : GName) (ν-pool : ℕ) (δ-pool : GName) (ν-work : ℕ) (δ-work : GName) (κ-records : Lft) (q-records : Share) (γ-records : GName) (ν-answers : ℕ) (δ-answers : GName) (ν-out : ℕ) (δ-out : GName) (b-numbers o-numbers n-numbers : ℕ) (numbers : List ℕ) (b-deques o-deques n-deques : ℕ) (deques : List ℕ) (b-frames o-frames n-frames : ℕ) (frames : List Frame) (b-pool o-pool n-pool : ℕ) (pool : List ℕ) (b-work o-work n-work : ℕ) (work : List ℕ) (b-records o-records n-records : ℕ) (records : List ℕ) (b-answers o-answers n-answers : ℕ) (answers : List ℕ) (b-out o-out n-out : ℕ) (out : List ℕ) (at : ℕ) → (at-good : at < 2 ^ 64) → ent 𝓤 (⋆ 𝓛 (‵ (flft (ν-numbers ∷ []) full_share) ∷ ‵ (flft (ν-deques ∷ []) full_share) ∷ ‵ (flft (ν-frames ∷ []) full_share) ∷ ‵ (flft (ν-pool ∷ []) full_share) ∷ ‵ (flft (ν-work ∷ []) full_share) ∷ ‵ (flft κ-records q-records) ∷ ‵ (flft (ν-answers ∷ []) full_share) ∷ ‵ (flft (ν-out ∷ []) full_share) ∷ ‵ ((MutSlice (named 0) (ν-numbers ∷ []) u32).own_val (at_list b-numbers o-numbers δ-numbers numbers) (slice_val (b-numbers, o-numbers) n-numbers ∷ [])) ∷ ‵ ((MutSlice (named 0) (ν-deques ∷ []) u32).own_val (at_list b-deques o-deques δ-deques deques) (slice_val (b-deques, o-deques) n-deques ∷ [])) ∷ ‵ ((MutSlice (named 0) (ν-frames ∷ []) R-Frame).own_val (at_list b-frames o-frames δ-frames frames) (slice_val (b-frames, o-frames) n-frames ∷ [])) ∷ ‵ ((MutSlice (named 0) (ν-pool ∷ []) u32).own_val (at_list b-pool o-pool δ-pool pool) (slice_val (b-pool, o-pool) n-pool ∷ [])) ∷ ‵ ((MutSlice (named 0) (ν-work ∷ []) u32).own_val (at_list b-work o-work δ-work work) (slice_val (b-work, o-work) n-work ∷ [])) ∷ ‵ ((ShrSlice (named 0) κ-records u8).own_val (at_list b-records o-records γ-records records) (slice_val (b-records, o-records) n-records ∷ [])) ∷ ‵ ((MutSlice (named 0) (ν-answers ∷ []) u32).own_val (at_list b-answers o-answers δ-answers answers) (slice_val (b-answers, o-answers) n-answers ∷ [])) ∷ ‵ ((MutSlice (named 0) (ν-out ∷ []) u8).own_val (at_list b-out o-out δ-out out) (slice_val (b-out, o-out) n-out ∷ [])) ∷ [])) (Asked.pre (to-step-g ν-numbers δ-numbers ν-deques δ-deques ν-frames δ-frames ν-pool δ-pool ν-work δ-work κ-records q-records γ-records ν-answers δ-answers ν-out δ-out b-numbers o-numbers n-numbers numbers b-deques o-deques n-deques deques b-frames o-frames n-frames frames b-pool o-pool n-pool pool b-work o-work n-work work b-records o-records n-records records b-answers o-answers n-answers answers b-out o-out n-out out at))
+  goes-step-g ν-numbers δ-numbers ν-deques δ-deques ν-frames δ-frames ν-pool δ-pool ν-work δ-work κ-records q-records γ-records ν-answers δ-answers ν-out δ-out b-numbers o-numbers n-numbers numbers b-deques o-deques n-deques deques b-frames o-frames n-frames frames b-pool o-pool n-pool pool b-work o-work n-work work b-records o-records n-records records b-answers o-answers n-answers answers b-out o-out n-out out at at-good = qed 𝓛 (‵ (flft (ν-numbers ∷ []) full_share) ∷ ‵ (flft (ν-deques ∷ []) full_share) ∷ ‵ (flft (ν-frames ∷ []) full_share) ∷ ‵ (flft (ν-pool ∷ []) full_share) ∷ ‵ (flft (ν-work ∷ []) full_share) ∷ ‵ (flft κ-records q-records) ∷ ‵ (flft (ν-answers ∷ []) full_share) ∷ ‵ (flft (ν-out ∷ []) full_share) ∷ ‵ ((MutSlice (named 0) (ν-numbers ∷ []) u32).own_val (at_list b-numbers o-numbers δ-numbers numbers) (slice_val (b-numbers, o-numbers) n-numbers ∷ [])) ∷ ‵ ((MutSlice (named 0) (ν-deques ∷ []) u32).own_val (at_list b-deques o-deques δ-deques deques) (slice_val (b-deques, o-deques) n-deques ∷ [])) ∷ ‵ ((MutSlice (named 0) (ν-frames ∷ []) R-Frame).own_val (at_list b-frames o-frames δ-frames frames) (slice_val (b-frames, o-frames) n-frames ∷ [])) ∷ ‵ ((MutSlice (named 0) (ν-pool ∷ []) u32).own_val (at_list b-pool o-pool δ-pool pool) (slice_val (b-pool, o-pool) n-pool ∷ [])) ∷ ‵ ((MutSlice (named 0) (ν-work ∷ []) u32).own_val (at_list b-work o-work δ-work work) (slice_val (b-work, o-work) n-work ∷ [])) ∷ ‵ ((ShrSlice (named 0) κ-records u8).own_val (at_list b-records o-records γ-records records) (slice_val (b-records, o-records) n-records ∷ [])) ∷ ‵ ((MutSlice (named 0) (ν-answers ∷ []) u32).own_val (at_list b-answers o-answers δ-answers answers) (slice_val (b-answers, o-answers) n-answers ∷ [])) ∷ ‵ ((MutSlice (named 0) (ν-out ∷ []) u8).own_val (at_list b-out o-out δ-out out) (slice_val (b-out, o-out) n-out ∷ [])) ∷ []) ∵ nothing ! $ move ! (1 ∷ 2 ∷ 3 ∷ 4 ∷ 5 ∷ 6 ∷ 7 ∷ 8 ∷ 0 ∷ []) $ group ! 9 $ move ! (1 ∷ 2 ∷ 3 ∷ 4 ∷ 5 ∷ 6 ∷ 7 ∷ 8 ∷ 0 ∷ []) $
+      nothing ! $ owned ! usize (Is usize) (uint_Makes 𝓛 w64) at _ (refl, at-good) $ fjoin ! $ move ! (8 ∷ 0 ∷ []) $ fjoin ! $ move ! (7 ∷ 0 ∷ []) $ fjoin ! $ move ! (6 ∷ 0 ∷ []) $ fjoin ! $ move ! (5 ∷ 0 ∷ []) $ fjoin ! $ move ! (4 ∷ 0 ∷ []) $ fjoin ! $ move ! (3 ∷ 0 ∷ []) $ fjoin ! $ move ! (2 ∷ 0 ∷ []) $ fjoin ! $ move ! (1 ∷ 0 ∷ []) $ fjoin ! $ move ! (1 ∷ 0 ∷ []) $ join ! $ frame ! $ done !
 
 module _ {M : Type 1} {𝓤 : Ura M} {𝓛 : Logic 𝓤} {K : Type 0} (mem : Memory → SProp 𝓤) (run : Routine → Fun 𝓤)
     {Γ : List (Item 𝓤)} {E : Env 𝓤 𝓛.H} {C : Calls 𝓤 𝓛.H} {Λ : Loops 𝓤 𝓛.H} {post' : Post 𝓤 𝓛.H} {dest' : Place} {name' : Name} {opds' : List Operand} {rest' : Body} where
   open 𝓛 use {H}
 
-  pub step-g : K → FmC 𝓤 H 𝓛.laws C → Triple 𝓤 (C name') (Asked 𝓛 mem run) → {κ-numbers : Lft} {q-numbers : Share} {γ-numbers : GName} {κ-deques : Lft} {q-deques : Share} {γ-deques : GName} {κ-frames : Lft} {q-frames : Share} {γ-frames : GName} {κ-memory : Lft} {q-memory : Share} {γ-memory : GName} {κ-pool : Lft} {q-pool : Share} {γ-pool : GName} {κ-work : Lft} {q-work : Share} {γ-work : GName} {κ-records : Lft} {q-records : Share} {γ-records : GName} {κ-answers : Lft} {q-answers : Share} {γ-answers : GName} {κ-out : Lft} {q-out : Share} {γ-out : GName} → (b-numbers o-numbers n-numbers : ℕ) (numbers : List ℕ) (b-deques o-deques n-deques : ℕ) (deques : List ℕ) (b-frames o-frames n-frames : ℕ) (frames : List Frame) (b-memory o-memory n-memory : ℕ) (memory : List ℕ) (b-pool o-pool n-pool : ℕ) (pool : List ℕ) (b-work o-work n-work : ℕ) (work : List ℕ) (b-records o-records n-records : ℕ) (records : List ℕ) (b-answers o-answers n-answers : ℕ) (answers : List ℕ) (b-out o-out n-out : ℕ) (out : List ℕ) (at : ℕ) → (at-good : at < 2 ^ 64) → length numbers ≡ n-numbers → Room u32 n-numbers → length deques ≡ n-deques → Room u32 n-deques → length frames ≡ n-frames → Room R-Frame n-frames → length memory ≡ n-memory → Room u32 n-memory → length pool ≡ n-pool → Room u32 n-pool → length work ≡ n-work → Room u32 n-work → length answers ≡ n-answers → Room u32 n-answers → length out ≡ n-out → Room u8 n-out →
-      ((ν-numbers : ℕ) (δ-numbers : GName) (ν-deques : ℕ) (δ-deques : GName) (ν-frames : ℕ) (δ-frames : GName) (ν-memory : ℕ) (δ-memory : GName) (ν-pool : ℕ) (δ-pool : GName) (ν-work : ℕ) (δ-work : GName) (ν-answers : ℕ) (δ-answers : GName) (ν-out : ℕ) (δ-out : GName) → Opds K 𝓛 (raw ((Asked 𝓛 mem run).pre (to-step-g 𝓛 mem run ν-numbers δ-numbers ν-deques δ-deques ν-frames δ-frames ν-memory δ-memory ν-pool δ-pool ν-work δ-work κ-records q-records γ-records ν-answers δ-answers ν-out δ-out b-numbers o-numbers n-numbers numbers b-deques o-deques n-deques deques b-frames o-frames n-frames frames b-memory o-memory n-memory memory b-pool o-pool n-pool pool b-work o-work n-work work b-records o-records n-records records b-answers o-answers n-answers answers b-out o-out n-out out at)) ∷ ‵ (Lent u8 κ-out (ν-out ∷ []) q-out γ-out b-out o-out δ-out out) ∷ ‵ (Lent u32 κ-answers (ν-answers ∷ []) q-answers γ-answers b-answers o-answers δ-answers answers) ∷ ‵ ((ShrSlice (named 0) κ-records u8).own_val (at_list b-records o-records γ-records records) (slice_val (b-records, o-records) n-records ∷ [])) ∷ ‵ (Lent u32 κ-work (ν-work ∷ []) q-work γ-work b-work o-work δ-work work) ∷ ‵ (Lent u32 κ-pool (ν-pool ∷ []) q-pool γ-pool b-pool o-pool δ-pool pool) ∷ ‵ (Lent u32 κ-memory (ν-memory ∷ []) q-memory γ-memory b-memory o-memory δ-memory memory) ∷ ‵ (Lent R-Frame κ-frames (ν-frames ∷ []) q-frames γ-frames b-frames o-frames δ-frames frames) ∷ ‵ (Lent u32 κ-deques (ν-deques ∷ []) q-deques γ-deques b-deques o-deques δ-deques deques) ∷ ‵ (Lent u32 κ-numbers (ν-numbers ∷ []) q-numbers γ-numbers b-numbers o-numbers δ-numbers numbers) ∷ Γ) E opds' (slice_val (b-numbers, o-numbers) n-numbers ∷ slice_val (b-deques, o-deques) n-deques ∷ slice_val (b-frames, o-frames) n-frames ∷ slice_val (b-memory, o-memory) n-memory ∷ slice_val (b-pool, o-pool) n-pool ∷ slice_val (b-work, o-work) n-work ∷ slice_val (b-records, o-records) n-records ∷ slice_val (b-answers, o-answers) n-answers ∷ slice_val (b-out, o-out) n-out ∷ vint w64 at ∷ [])) →
-      ((res' : ℕ) (zs-numbers : List ℕ) (zs-deques : List ℕ) (zs-frames : List Frame) (zs-memory : List ℕ) (zs-pool : List ℕ) (zs-work : List ℕ) (zs-answers : List ℕ) (zs-out : List ℕ) → res' < 2 ^ 64 → StoresUpTo (11 * length answers + 99) out at (tape_lines (tape_remembering two_words (parts numbers deques frames) memory pool work records answers)) zs-out res' → length zs-numbers ≡ length numbers → length zs-deques ≡ length deques → length zs-frames ≡ length frames → length zs-memory ≡ length memory → length zs-pool ≡ length pool → length zs-work ≡ length work → length zs-answers ≡ length answers → length zs-out ≡ length out → Seq K 𝓛 (‵ (Mine u32 κ-numbers q-numbers γ-numbers b-numbers o-numbers n-numbers zs-numbers) ∷ ‵ (Mine u32 κ-deques q-deques γ-deques b-deques o-deques n-deques zs-deques) ∷ ‵ (Mine R-Frame κ-frames q-frames γ-frames b-frames o-frames n-frames zs-frames) ∷ ‵ (Mine u32 κ-memory q-memory γ-memory b-memory o-memory n-memory zs-memory) ∷ ‵ (Mine u32 κ-pool q-pool γ-pool b-pool o-pool n-pool zs-pool) ∷ ‵ (Mine u32 κ-work q-work γ-work b-work o-work n-work zs-work) ∷ ‵ (Yours u8 κ-records q-records γ-records b-records o-records n-records records) ∷ ‵ (Mine u32 κ-answers q-answers γ-answers b-answers o-answers n-answers zs-answers) ∷ ‵ (Mine u8 κ-out q-out γ-out b-out o-out n-out zs-out) ∷ Γ) (lands C Λ E dest' (vint w64 res') rest' post')) →
-      Seq K 𝓛 (‵ (Mine u32 κ-numbers q-numbers γ-numbers b-numbers o-numbers n-numbers numbers) ∷ ‵ (Mine u32 κ-deques q-deques γ-deques b-deques o-deques n-deques deques) ∷ ‵ (Mine R-Frame κ-frames q-frames γ-frames b-frames o-frames n-frames frames) ∷ ‵ (Mine u32 κ-memory q-memory γ-memory b-memory o-memory n-memory memory) ∷ ‵ (Mine u32 κ-pool q-pool γ-pool b-pool o-pool n-pool pool) ∷ ‵ (Mine u32 κ-work q-work γ-work b-work o-work n-work work) ∷ ‵ (Yours u8 κ-records q-records γ-records b-records o-records n-records records) ∷ ‵ (Mine u32 κ-answers q-answers γ-answers b-answers o-answers n-answers answers) ∷ ‵ (Mine u8 κ-out q-out γ-out b-out o-out n-out out) ∷ Γ) (runs C Λ E (seq (call name' opds' dest') rest') post')
-  step-g t' fm' known' {κ-numbers} {q-numbers} {γ-numbers} {κ-deques} {q-deques} {γ-deques} {κ-frames} {q-frames} {γ-frames} {κ-memory} {q-memory} {γ-memory} {κ-pool} {q-pool} {γ-pool} {κ-work} {q-work} {γ-work} {κ-records} {q-records} {γ-records} {κ-answers} {q-answers} {γ-answers} {κ-out} {q-out} {γ-out} b-numbers o-numbers n-numbers numbers b-deques o-deques n-deques deques b-frames o-frames n-frames frames b-memory o-memory n-memory memory b-pool o-pool n-pool pool b-work o-work n-work work b-records o-records n-records records b-answers o-answers n-answers answers b-out o-out n-out out at at-good len-numbers room-numbers len-deques room-deques len-frames room-frames len-memory room-memory len-pool room-pool len-work room-work len-answers room-answers len_out room_out os' k' =
-      lend t' tt u32 b-numbers o-numbers n-numbers numbers len-numbers (λ ν-numbers δ-numbers. move t' (3 ∷ []) $ lend t' tt u32 b-deques o-deques n-deques deques len-deques (λ ν-deques δ-deques. move t' (6 ∷ []) $ lend t' tt R-Frame b-frames o-frames n-frames frames len-frames (λ ν-frames δ-frames. move t' (9 ∷ []) $ lend t' tt u32 b-memory o-memory n-memory memory len-memory (λ ν-memory δ-memory. move t' (12 ∷ []) $ lend t' tt u32 b-pool o-pool n-pool pool len-pool (λ ν-pool δ-pool. move t' (15 ∷ []) $ lend t' tt u32 b-work o-work n-work work len-work (λ ν-work δ-work. move t' (18 ∷ []) $ give t' u8 b-records o-records n-records records $ move t' (21 ∷ []) $ lend t' tt u32 b-answers o-answers n-answers answers len-answers (λ ν-answers δ-answers. move t' (24 ∷ []) $ lend t' tt u8 b-out o-out n-out out len_out (λ ν-out δ-out.
-      move t' (24 ∷ 21 ∷ 18 ∷ 15 ∷ 12 ∷ 9 ∷ 6 ∷ 3 ∷ 0 ∷ 25 ∷ 22 ∷ 19 ∷ 16 ∷ 13 ∷ 10 ∷ 7 ∷ 4 ∷ 1 ∷ []) $ group t' 18 $ use1 𝓛 (raw ((Asked 𝓛 mem run).pre (to-step-g 𝓛 mem run ν-numbers δ-numbers ν-deques δ-deques ν-frames δ-frames ν-memory δ-memory ν-pool δ-pool ν-work δ-work κ-records q-records γ-records ν-answers δ-answers ν-out δ-out b-numbers o-numbers n-numbers numbers b-deques o-deques n-deques deques b-frames o-frames n-frames frames b-memory o-memory n-memory memory b-pool o-pool n-pool pool b-work o-work n-work work b-records o-records n-records records b-answers o-answers n-answers answers b-out o-out n-out out at))) (goes-step-g 𝓛 mem run ν-numbers δ-numbers ν-deques δ-deques ν-frames δ-frames ν-memory δ-memory ν-pool δ-pool ν-work δ-work κ-records q-records γ-records ν-answers δ-answers ν-out δ-out b-numbers o-numbers n-numbers numbers b-deques o-deques n-deques deques b-frames o-frames n-frames frames b-memory o-memory n-memory memory b-pool o-pool n-pool pool b-work o-work n-work work b-records o-records n-records records b-answers o-answers n-answers answers b-out o-out n-out out at at-good) $
-      calls_at t' fm' (Asked 𝓛 mem run) known' (to-step-g 𝓛 mem run ν-numbers δ-numbers ν-deques δ-deques ν-frames δ-frames ν-memory δ-memory ν-pool δ-pool ν-work δ-work κ-records q-records γ-records ν-answers δ-answers ν-out δ-out b-numbers o-numbers n-numbers numbers b-deques o-deques n-deques deques b-frames o-frames n-frames frames b-memory o-memory n-memory memory b-pool o-pool n-pool pool b-work o-work n-work work b-records o-records n-records records b-answers o-answers n-answers answers b-out o-out n-out out at) (os' ν-numbers δ-numbers ν-deques δ-deques ν-frames δ-frames ν-memory δ-memory ν-pool δ-pool ν-work δ-work ν-answers δ-answers ν-out δ-out) (λ w'.
-      use1 𝓛 (later (some (λ (res' : ℕ). ((‵ (flft (ν-numbers ∷ []) full_share) ⊛ (‵ (flft (ν-deques ∷ []) full_share) ⊛ (‵ (flft (ν-frames ∷ []) full_share) ⊛ (‵ (flft (ν-memory ∷ []) full_share) ⊛ (‵ (flft (ν-pool ∷ []) full_share) ⊛ (‵ (flft (ν-work ∷ []) full_share) ⊛ (‵ (flft κ-records q-records) ⊛ (‵ (flft (ν-answers ∷ []) full_share) ⊛ (‵ (flft (ν-out ∷ []) full_share) ⊛ ‵ ftrue))))))))) ⊛ ‵ (usize.own_val res' (w' ∷ []))) ⊛ raw (ensured 𝓛 callee'.ended (callee'.clauses 𝓛 mem run) ((ν-numbers ∷ []), ((ν-deques ∷ []), ((ν-frames ∷ []), ((ν-memory ∷ []), ((ν-pool ∷ []), ((ν-work ∷ []), (κ-records, ((ν-answers ∷ []), ((ν-out ∷ []), tt))))))))) (at_list b-numbers o-numbers δ-numbers numbers, (at_list b-deques o-deques δ-deques deques, (at_list b-frames o-frames δ-frames frames, (at_list b-memory o-memory δ-memory memory, (at_list b-pool o-pool δ-pool pool, (at_list b-work o-work δ-work work, (at_list b-records o-records γ-records records, (at_list b-answers o-answers δ-answers answers, (at_list b-out o-out δ-out out, (at, tt)))))))))) tt res')))) (id⊢ 𝓤 _) $ await t' tt $ pick t' (λ res'. split t' $ move t' (1 ∷ []) $
-      use1 𝓛 (some (λ (zs' : List ℕ × (List ℕ × (List Frame × (List ℕ × (List ℕ × (List ℕ × (Unit {0} × (List ℕ × (List ℕ × (Unit {0} × Unit {0})))))))))). ‵ (lasts callee'.ended ((ν-numbers ∷ []), ((ν-deques ∷ []), ((ν-frames ∷ []), ((ν-memory ∷ []), ((ν-pool ∷ []), ((ν-work ∷ []), (κ-records, ((ν-answers ∷ []), ((ν-out ∷ []), tt))))))))) (at_list b-numbers o-numbers δ-numbers numbers, (at_list b-deques o-deques δ-deques deques, (at_list b-frames o-frames δ-frames frames, (at_list b-memory o-memory δ-memory memory, (at_list b-pool o-pool δ-pool pool, (at_list b-work o-work δ-work work, (at_list b-records o-records γ-records records, (at_list b-answers o-answers δ-answers answers, (at_list b-out o-out δ-out out, (at, tt)))))))))) zs') ⊛ raw (fact 𝓤 (StoresUpTo (11 * length answers + 99) out at (tape_lines (tape_remembering two_words (parts numbers deques frames) memory pool work records answers)) zs'.1.1.1.1.1.1.1.1.0 res')))) (id⊢ 𝓤 _) $ pick t' (λ zs'. split t' $ move t' (1 ∷ []) $ heard t' (StoresUpTo (11 * length answers + 99) out at (tape_lines (tape_remembering two_words (parts numbers deques frames) memory pool work records answers)) zs'.1.1.1.1.1.1.1.1.0 res') (λ e'.
-      fsplit t' $ fsplit t' $ move t' (1 ∷ []) $ feq_l t' (λ same_numbers. move t' (1 ∷ []) $ fsplit t' $ fsplit t' $ move t' (1 ∷ []) $ feq_l t' (λ same-deques. move t' (1 ∷ []) $ fsplit t' $ fsplit t' $ move t' (1 ∷ []) $ feq_l t' (λ same-frames. move t' (1 ∷ []) $ fsplit t' $ fsplit t' $ move t' (1 ∷ []) $ feq_l t' (λ same_memory. move t' (1 ∷ []) $ fsplit t' $ fsplit t' $ move t' (1 ∷ []) $ feq_l t' (λ same-pool. move t' (1 ∷ []) $ fsplit t' $ fsplit t' $ move t' (1 ∷ []) $ feq_l t' (λ same_work. move t' (1 ∷ []) $ fsplit t' $ drop t' $ fsplit t' $ fsplit t' $ move t' (1 ∷ []) $ feq_l t' (λ same-answers. move t' (1 ∷ []) $ fsplit t' $ fsplit t' $ move t' (1 ∷ []) $ feq_l t' (λ same_out. move t' (1 ∷ []) $ fsplit t' $ drop t' $ drop t' $
-      move t' (8 ∷ []) $ split t' $ move t' (1 ∷ []) $ peeks t' usize (Is usize) (shows 𝓛 usize) res' (w' ∷ []) (λ is'. drop t' $ split t' $ move t' (1 ∷ []) $ split t' $ move t' (1 ∷ []) $ split t' $ move t' (1 ∷ []) $ split t' $ move t' (1 ∷ []) $ split t' $ move t' (1 ∷ []) $ split t' $ move t' (1 ∷ []) $ split t' $ move t' (1 ∷ []) $ split t' $ move t' (1 ∷ []) $ split t' $ move t' (1 ∷ []) $ drop t' $
-      move t' (0 ∷ 17 ∷ 9 ∷ []) $ home t' tt u8 b-out o-out n-out out zs'.1.1.1.1.1.1.1.1.0 len_out room_out same_out $ move t' (1 ∷ 16 ∷ 9 ∷ []) $ home t' tt u32 b-answers o-answers n-answers answers zs'.1.1.1.1.1.1.1.0 len-answers room-answers same-answers $ move t' (15 ∷ 2 ∷ []) $ fjoin t' $ move t' (3 ∷ 15 ∷ 9 ∷ []) $ home t' tt u32 b-work o-work n-work work zs'.1.1.1.1.1.0 len-work room-work same_work $ move t' (4 ∷ 14 ∷ 9 ∷ []) $ home t' tt u32 b-pool o-pool n-pool pool zs'.1.1.1.1.0 len-pool room-pool same-pool $ move t' (5 ∷ 13 ∷ 9 ∷ []) $ home t' tt u32 b-memory o-memory n-memory memory zs'.1.1.1.0 len-memory room-memory same_memory $ move t' (6 ∷ 12 ∷ 9 ∷ []) $ home t' tt R-Frame b-frames o-frames n-frames frames zs'.1.1.0 len-frames room-frames same-frames $ move t' (7 ∷ 11 ∷ 9 ∷ []) $ home t' tt u32 b-deques o-deques n-deques deques zs'.1.0 len-deques room-deques same-deques $ move t' (8 ∷ 10 ∷ 9 ∷ []) $ home t' tt u32 b-numbers o-numbers n-numbers numbers zs'.0 len-numbers room-numbers same_numbers $
-      subst (λ (v' : Val). Seq K 𝓛 (‵ (Mine u32 κ-numbers q-numbers γ-numbers b-numbers o-numbers n-numbers zs'.0) ∷ ‵ (Mine u32 κ-deques q-deques γ-deques b-deques o-deques n-deques zs'.1.0) ∷ ‵ (Mine R-Frame κ-frames q-frames γ-frames b-frames o-frames n-frames zs'.1.1.0) ∷ ‵ (Mine u32 κ-memory q-memory γ-memory b-memory o-memory n-memory zs'.1.1.1.0) ∷ ‵ (Mine u32 κ-pool q-pool γ-pool b-pool o-pool n-pool zs'.1.1.1.1.0) ∷ ‵ (Mine u32 κ-work q-work γ-work b-work o-work n-work zs'.1.1.1.1.1.0) ∷ ‵ (Yours u8 κ-records q-records γ-records b-records o-records n-records records) ∷ ‵ (Mine u32 κ-answers q-answers γ-answers b-answers o-answers n-answers zs'.1.1.1.1.1.1.1.0) ∷ ‵ (Mine u8 κ-out q-out γ-out b-out o-out n-out zs'.1.1.1.1.1.1.1.1.0) ∷ Γ) (lands C Λ E dest' v' rest' post')) (sym (ap only (uint_Tells w64 res' _ is'))) (k' res' zs'.0 zs'.1.0 zs'.1.1.0 zs'.1.1.1.0 zs'.1.1.1.1.0 zs'.1.1.1.1.1.0 zs'.1.1.1.1.1.1.1.0 zs'.1.1.1.1.1.1.1.1.0 is'.1 e' same_numbers same-deques same-frames same_memory same-pool same_work same-answers same_out))))))))))))))))))))))
+  pub step-g : K → FmC 𝓤 H 𝓛.laws C → Triple 𝓤 (C name') (Asked 𝓛 mem run) → {κ-numbers : Lft} {q-numbers : Share} {γ-numbers : GName} {κ-deques : Lft} {q-deques : Share} {γ-deques : GName} {κ-frames : Lft} {q-frames : Share} {γ-frames : GName} {κ-pool : Lft} {q-pool : Share} {γ-pool : GName} {κ-work : Lft} {q-work : Share} {γ-work : GName} {κ-records : Lft} {q-records : Share} {γ-records : GName} {κ-answers : Lft} {q-answers : Share} {γ-answers : GName} {κ-out : Lft} {q-out : Share} {γ-out : GName} → (b-numbers o-numbers n-numbers : ℕ) (numbers : List ℕ) (b-deques o-deques n-deques : ℕ) (deques : List ℕ) (b-frames o-frames n-frames : ℕ) (frames : List Frame) (b-pool o-pool n-pool : ℕ) (pool : List ℕ) (b-work o-work n-work : ℕ) (work : List ℕ) (b-records o-records n-records : ℕ) (records : List ℕ) (b-answers o-answers n-answers : ℕ) (answers : List ℕ) (b-out o-out n-out : ℕ) (out : List ℕ) (at : ℕ) → (at-good : at < 2 ^ 64) → length numbers ≡ n-numbers → Room u32 n-numbers → length deques ≡ n-deques → Room u32 n-deques → length frames ≡ n-frames → Room R-Frame n-frames → length pool ≡ n-pool → Room u32 n-pool → length work ≡ n-work → Room u32 n-work → length answers ≡ n-answers → Room u32 n-answers → length out ≡ n-out → Room u8 n-out →
+      ((ν-numbers : ℕ) (δ-numbers : GName) (ν-deques : ℕ) (δ-deques : GName) (ν-frames : ℕ) (δ-frames : GName) (ν-pool : ℕ) (δ-pool : GName) (ν-work : ℕ) (δ-work : GName) (ν-answers : ℕ) (δ-answers : GName) (ν-out : ℕ) (δ-out : GName) → Opds K 𝓛 (raw ((Asked 𝓛 mem run).pre (to-step-g 𝓛 mem run ν-numbers δ-numbers ν-deques δ-deques ν-frames δ-frames ν-pool δ-pool ν-work δ-work κ-records q-records γ-records ν-answers δ-answers ν-out δ-out b-numbers o-numbers n-numbers numbers b-deques o-deques n-deques deques b-frames o-frames n-frames frames b-pool o-pool n-pool pool b-work o-work n-work work b-records o-records n-records records b-answers o-answers n-answers answers b-out o-out n-out out at)) ∷ ‵ (Lent u8 κ-out (ν-out ∷ []) q-out γ-out b-out o-out δ-out out) ∷ ‵ (Lent u32 κ-answers (ν-answers ∷ []) q-answers γ-answers b-answers o-answers δ-answers answers) ∷ ‵ ((ShrSlice (named 0) κ-records u8).own_val (at_list b-records o-records γ-records records) (slice_val (b-records, o-records) n-records ∷ [])) ∷ ‵ (Lent u32 κ-work (ν-work ∷ []) q-work γ-work b-work o-work δ-work work) ∷ ‵ (Lent u32 κ-pool (ν-pool ∷ []) q-pool γ-pool b-pool o-pool δ-pool pool) ∷ ‵ (Lent R-Frame κ-frames (ν-frames ∷ []) q-frames γ-frames b-frames o-frames δ-frames frames) ∷ ‵ (Lent u32 κ-deques (ν-deques ∷ []) q-deques γ-deques b-deques o-deques δ-deques deques) ∷ ‵ (Lent u32 κ-numbers (ν-numbers ∷ []) q-numbers γ-numbers b-numbers o-numbers δ-numbers numbers) ∷ Γ) E opds' (slice_val (b-numbers, o-numbers) n-numbers ∷ slice_val (b-deques, o-deques) n-deques ∷ slice_val (b-frames, o-frames) n-frames ∷ slice_val (b-pool, o-pool) n-pool ∷ slice_val (b-work, o-work) n-work ∷ slice_val (b-records, o-records) n-records ∷ slice_val (b-answers, o-answers) n-answers ∷ slice_val (b-out, o-out) n-out ∷ vint w64 at ∷ [])) →
+      ((res' : ℕ) (zs-numbers : List ℕ) (zs-deques : List ℕ) (zs-frames : List Frame) (zs-pool : List ℕ) (zs-work : List ℕ) (zs-answers : List ℕ) (zs-out : List ℕ) → res' < 2 ^ 64 → StoresUpTo (11 * length answers + 71) out at (tape_lines (tape_on two_words (parts numbers deques frames) pool work records answers)) zs-out res' → length zs-numbers ≡ length numbers → length zs-deques ≡ length deques → length zs-frames ≡ length frames → length zs-pool ≡ length pool → length zs-work ≡ length work → length zs-answers ≡ length answers → length zs-out ≡ length out → Seq K 𝓛 (‵ (Mine u32 κ-numbers q-numbers γ-numbers b-numbers o-numbers n-numbers zs-numbers) ∷ ‵ (Mine u32 κ-deques q-deques γ-deques b-deques o-deques n-deques zs-deques) ∷ ‵ (Mine R-Frame κ-frames q-frames γ-frames b-frames o-frames n-frames zs-frames) ∷ ‵ (Mine u32 κ-pool q-pool γ-pool b-pool o-pool n-pool zs-pool) ∷ ‵ (Mine u32 κ-work q-work γ-work b-work o-work n-work zs-work) ∷ ‵ (Yours u8 κ-records q-records γ-records b-records o-records n-records records) ∷ ‵ (Mine u32 κ-answers q-answers γ-answers b-answers o-answers n-answers zs-answers) ∷ ‵ (Mine u8 κ-out q-out γ-out b-out o-out n-out zs-out) ∷ Γ) (lands C Λ E dest' (vint w64 res') rest' post')) →
+      Seq K 𝓛 (‵ (Mine u32 κ-numbers q-numbers γ-numbers b-numbers o-numbers n-numbers numbers) ∷ ‵ (Mine u32 κ-deques q-deques γ-deques b-deques o-deques n-deques deques) ∷ ‵ (Mine R-Frame κ-frames q-frames γ-frames b-frames o-frames n-frames frames) ∷ ‵ (Mine u32 κ-pool q-pool γ-pool b-pool o-pool n-pool pool) ∷ ‵ (Mine u32 κ-work q-work γ-work b-work o-work n-work work) ∷ ‵ (Yours u8 κ-records q-records γ-records b-records o-records n-records records) ∷ ‵ (Mine u32 κ-answers q-answers γ-answers b-answers o-answers n-answers answers) ∷ ‵ (Mine u8 κ-out q-out γ-out b-out o-out n-out out) ∷ Γ) (runs C Λ E (seq (call name' opds' dest') rest') post')
+  step-g t' fm' known' {κ-numbers} {q-numbers} {γ-numbers} {κ-deques} {q-deques} {γ-deques} {κ-frames} {q-frames} {γ-frames} {κ-pool} {q-pool} {γ-pool} {κ-work} {q-work} {γ-work} {κ-records} {q-records} {γ-records} {κ-answers} {q-answers} {γ-answers} {κ-out} {q-out} {γ-out} b-numbers o-numbers n-numbers numbers b-deques o-deques n-deques deques b-frames o-frames n-frames frames b-pool o-pool n-pool pool b-work o-work n-work work b-records o-records n-records records b-answers o-answers n-answers answers b-out o-out n-out out at at-good len-numbers room-numbers len-deques room-deques len-frames room-frames len-pool room-pool len-work room-work len-answers room-answers len_out room_out os' k' =
+      lend t' tt u32 b-numbers o-numbers n-numbers numbers len-numbers (λ ν-numbers δ-numbers. move t' (3 ∷ []) $ lend t' tt u32 b-deques o-deques n-deques deques len-deques (λ ν-deques δ-deques. move t' (6 ∷ []) $ lend t' tt R-Frame b-frames o-frames n-frames frames len-frames (λ ν-frames δ-frames. move t' (9 ∷ []) $ lend t' tt u32 b-pool o-pool n-pool pool len-pool (λ ν-pool δ-pool. move t' (12 ∷ []) $ lend t' tt u32 b-work o-work n-work work len-work (λ ν-work δ-work. move t' (15 ∷ []) $ give t' u8 b-records o-records n-records records $ move t' (18 ∷ []) $ lend t' tt u32 b-answers o-answers n-answers answers len-answers (λ ν-answers δ-answers. move t' (21 ∷ []) $ lend t' tt u8 b-out o-out n-out out len_out (λ ν-out δ-out.
+      move t' (21 ∷ 18 ∷ 15 ∷ 12 ∷ 9 ∷ 6 ∷ 3 ∷ 0 ∷ 22 ∷ 19 ∷ 16 ∷ 13 ∷ 10 ∷ 7 ∷ 4 ∷ 1 ∷ []) $ group t' 16 $ use1 𝓛 (raw ((Asked 𝓛 mem run).pre (to-step-g 𝓛 mem run ν-numbers δ-numbers ν-deques δ-deques ν-frames δ-frames ν-pool δ-pool ν-work δ-work κ-records q-records γ-records ν-answers δ-answers ν-out δ-out b-numbers o-numbers n-numbers numbers b-deques o-deques n-deques deques b-frames o-frames n-frames frames b-pool o-pool n-pool pool b-work o-work n-work work b-records o-records n-records records b-answers o-answers n-answers answers b-out o-out n-out out at))) (goes-step-g 𝓛 mem run ν-numbers δ-numbers ν-deques δ-deques ν-frames δ-frames ν-pool δ-pool ν-work δ-work κ-records q-records γ-records ν-answers δ-answers ν-out δ-out b-numbers o-numbers n-numbers numbers b-deques o-deques n-deques deques b-frames o-frames n-frames frames b-pool o-pool n-pool pool b-work o-work n-work work b-records o-records n-records records b-answers o-answers n-answers answers b-out o-out n-out out at at-good) $
+      calls_at t' fm' (Asked 𝓛 mem run) known' (to-step-g 𝓛 mem run ν-numbers δ-numbers ν-deques δ-deques ν-frames δ-frames ν-pool δ-pool ν-work δ-work κ-records q-records γ-records ν-answers δ-answers ν-out δ-out b-numbers o-numbers n-numbers numbers b-deques o-deques n-deques deques b-frames o-frames n-frames frames b-pool o-pool n-pool pool b-work o-work n-work work b-records o-records n-records records b-answers o-answers n-answers answers b-out o-out n-out out at) (os' ν-numbers δ-numbers ν-deques δ-deques ν-frames δ-frames ν-pool δ-pool ν-work δ-work ν-answers δ-answers ν-out δ-out) (λ w'.
+      use1 𝓛 (later (some (λ (res' : ℕ). ((‵ (flft (ν-numbers ∷ []) full_share) ⊛ (‵ (flft (ν-deques ∷ []) full_share) ⊛ (‵ (flft (ν-frames ∷ []) full_share) ⊛ (‵ (flft (ν-pool ∷ []) full_share) ⊛ (‵ (flft (ν-work ∷ []) full_share) ⊛ (‵ (flft κ-records q-records) ⊛ (‵ (flft (ν-answers ∷ []) full_share) ⊛ (‵ (flft (ν-out ∷ []) full_share) ⊛ ‵ ftrue)))))))) ⊛ ‵ (usize.own_val res' (w' ∷ []))) ⊛ raw (ensured 𝓛 callee'.ended (callee'.clauses 𝓛 mem run) ((ν-numbers ∷ []), ((ν-deques ∷ []), ((ν-frames ∷ []), ((ν-pool ∷ []), ((ν-work ∷ []), (κ-records, ((ν-answers ∷ []), ((ν-out ∷ []), tt)))))))) (at_list b-numbers o-numbers δ-numbers numbers, (at_list b-deques o-deques δ-deques deques, (at_list b-frames o-frames δ-frames frames, (at_list b-pool o-pool δ-pool pool, (at_list b-work o-work δ-work work, (at_list b-records o-records γ-records records, (at_list b-answers o-answers δ-answers answers, (at_list b-out o-out δ-out out, (at, tt))))))))) tt res')))) (id⊢ 𝓤 _) $ await t' tt $ pick t' (λ res'. split t' $ move t' (1 ∷ []) $
+      use1 𝓛 (some (λ (zs' : List ℕ × (List ℕ × (List Frame × (List ℕ × (List ℕ × (Unit {0} × (List ℕ × (List ℕ × (Unit {0} × Unit {0}))))))))). ‵ (lasts callee'.ended ((ν-numbers ∷ []), ((ν-deques ∷ []), ((ν-frames ∷ []), ((ν-pool ∷ []), ((ν-work ∷ []), (κ-records, ((ν-answers ∷ []), ((ν-out ∷ []), tt)))))))) (at_list b-numbers o-numbers δ-numbers numbers, (at_list b-deques o-deques δ-deques deques, (at_list b-frames o-frames δ-frames frames, (at_list b-pool o-pool δ-pool pool, (at_list b-work o-work δ-work work, (at_list b-records o-records γ-records records, (at_list b-answers o-answers δ-answers answers, (at_list b-out o-out δ-out out, (at, tt))))))))) zs') ⊛ raw (fact 𝓤 (StoresUpTo (11 * length answers + 71) out at (tape_lines (tape_on two_words (parts numbers deques frames) pool work records answers)) zs'.1.1.1.1.1.1.1.0 res')))) (id⊢ 𝓤 _) $ pick t' (λ zs'. split t' $ move t' (1 ∷ []) $ heard t' (StoresUpTo (11 * length answers + 71) out at (tape_lines (tape_on two_words (parts numbers deques frames) pool work records answers)) zs'.1.1.1.1.1.1.1.0 res') (λ e'.
+      fsplit t' $ fsplit t' $ move t' (1 ∷ []) $ feq_l t' (λ same_numbers. move t' (1 ∷ []) $ fsplit t' $ fsplit t' $ move t' (1 ∷ []) $ feq_l t' (λ same-deques. move t' (1 ∷ []) $ fsplit t' $ fsplit t' $ move t' (1 ∷ []) $ feq_l t' (λ same-frames. move t' (1 ∷ []) $ fsplit t' $ fsplit t' $ move t' (1 ∷ []) $ feq_l t' (λ same-pool. move t' (1 ∷ []) $ fsplit t' $ fsplit t' $ move t' (1 ∷ []) $ feq_l t' (λ same_work. move t' (1 ∷ []) $ fsplit t' $ drop t' $ fsplit t' $ fsplit t' $ move t' (1 ∷ []) $ feq_l t' (λ same-answers. move t' (1 ∷ []) $ fsplit t' $ fsplit t' $ move t' (1 ∷ []) $ feq_l t' (λ same_out. move t' (1 ∷ []) $ fsplit t' $ drop t' $ drop t' $
+      move t' (7 ∷ []) $ split t' $ move t' (1 ∷ []) $ peeks t' usize (Is usize) (shows 𝓛 usize) res' (w' ∷ []) (λ is'. drop t' $ split t' $ move t' (1 ∷ []) $ split t' $ move t' (1 ∷ []) $ split t' $ move t' (1 ∷ []) $ split t' $ move t' (1 ∷ []) $ split t' $ move t' (1 ∷ []) $ split t' $ move t' (1 ∷ []) $ split t' $ move t' (1 ∷ []) $ split t' $ move t' (1 ∷ []) $ drop t' $
+      move t' (0 ∷ 15 ∷ 8 ∷ []) $ home t' tt u8 b-out o-out n-out out zs'.1.1.1.1.1.1.1.0 len_out room_out same_out $ move t' (1 ∷ 14 ∷ 8 ∷ []) $ home t' tt u32 b-answers o-answers n-answers answers zs'.1.1.1.1.1.1.0 len-answers room-answers same-answers $ move t' (13 ∷ 2 ∷ []) $ fjoin t' $ move t' (3 ∷ 13 ∷ 8 ∷ []) $ home t' tt u32 b-work o-work n-work work zs'.1.1.1.1.0 len-work room-work same_work $ move t' (4 ∷ 12 ∷ 8 ∷ []) $ home t' tt u32 b-pool o-pool n-pool pool zs'.1.1.1.0 len-pool room-pool same-pool $ move t' (5 ∷ 11 ∷ 8 ∷ []) $ home t' tt R-Frame b-frames o-frames n-frames frames zs'.1.1.0 len-frames room-frames same-frames $ move t' (6 ∷ 10 ∷ 8 ∷ []) $ home t' tt u32 b-deques o-deques n-deques deques zs'.1.0 len-deques room-deques same-deques $ move t' (7 ∷ 9 ∷ 8 ∷ []) $ home t' tt u32 b-numbers o-numbers n-numbers numbers zs'.0 len-numbers room-numbers same_numbers $
+      subst (λ (v' : Val). Seq K 𝓛 (‵ (Mine u32 κ-numbers q-numbers γ-numbers b-numbers o-numbers n-numbers zs'.0) ∷ ‵ (Mine u32 κ-deques q-deques γ-deques b-deques o-deques n-deques zs'.1.0) ∷ ‵ (Mine R-Frame κ-frames q-frames γ-frames b-frames o-frames n-frames zs'.1.1.0) ∷ ‵ (Mine u32 κ-pool q-pool γ-pool b-pool o-pool n-pool zs'.1.1.1.0) ∷ ‵ (Mine u32 κ-work q-work γ-work b-work o-work n-work zs'.1.1.1.1.0) ∷ ‵ (Yours u8 κ-records q-records γ-records b-records o-records n-records records) ∷ ‵ (Mine u32 κ-answers q-answers γ-answers b-answers o-answers n-answers zs'.1.1.1.1.1.1.0) ∷ ‵ (Mine u8 κ-out q-out γ-out b-out o-out n-out zs'.1.1.1.1.1.1.1.0) ∷ Γ) (lands C Λ E dest' v' rest' post')) (sym (ap only (uint_Tells w64 res' _ is'))) (k' res' zs'.0 zs'.1.0 zs'.1.1.0 zs'.1.1.1.0 zs'.1.1.1.1.0 zs'.1.1.1.1.1.1.0 zs'.1.1.1.1.1.1.1.0 is'.1 e' same_numbers same-deques same-frames same-pool same_work same-answers same_out))))))))))))))))))))

@@ -32,14 +32,14 @@ use denote.Triple.Statement.{Contract, Triple}
 use denote.Triple.Call.{calls_at, calls_at_last}
 use denote.Triple.Clauses.{ensured, lasts}
 use denote.Triple.Walked.{says}
-use Rattle.semantics.specs.Promises.{parts, IsStartWith}
-use Rattle.semantics.specs.Remembering.{start_remembering}
-use Rattle.soundness.specs.Layout.{two_words}
+use Rattle.semantics.specs.Entries.{start_on}
+use Rattle.semantics.specs.Promises.{parts, IsStart}
 use Rattle.frames.specs.contracts.Frame as M-Frame
 use Rattle.frames.proofs.Frame.TheLaws as L-Frame
 use Rattle.frames.specs.declared.Frame.{Frame}
 use Rattle.frames.proofs.Lent.{at_list, Mine, Yours, Lent, Shown, lend, home, show, back, give}
 use Rattle.splitter.specs.contracts.splitter_start as callee'
+use Rattle.soundness.specs.Layout.{two_words}
 
 abbrev R-Frame : RattleType
 R-Frame = M-Frame.the_row
@@ -51,28 +51,28 @@ module _ {M : Type 1} {𝓤 : Ura M} (𝓛 : Logic 𝓤) (mem : Memory → SProp
   abbrev pub Asked : Contract 𝓤
   Asked = triple_of 𝓛 callee'.signature (callee'.spec 𝓛 mem run)
 
-  abbrev pub to-step-g : (ν-numbers : ℕ) (δ-numbers : GName) (ν-deques : ℕ) (δ-deques : GName) (ν-frames : ℕ) (δ-frames : GName) (ν-memory : ℕ) (δ-memory : GName) (κ-values : Lft) (q-values : Share) (γ-values : GName) (ν-pool : ℕ) (δ-pool : GName) (b-numbers o-numbers n-numbers : ℕ) (numbers : List ℕ) (b-deques o-deques n-deques : ℕ) (deques : List ℕ) (b-frames o-frames n-frames : ℕ) (frames : List Frame) (b-memory o-memory n-memory : ℕ) (memory : List ℕ) (b-values o-values n-values : ℕ) (values : List ℕ) (b-pool o-pool n-pool : ℕ) (pool : List ℕ) (workers : ℕ) → Asked.Ghost
-  to-step-g ν-numbers δ-numbers ν-deques δ-deques ν-frames δ-frames ν-memory δ-memory κ-values q-values γ-values ν-pool δ-pool b-numbers o-numbers n-numbers numbers b-deques o-deques n-deques deques b-frames o-frames n-frames frames b-memory o-memory n-memory memory b-values o-values n-values values b-pool o-pool n-pool pool workers = ((((ν-numbers ∷ []), ((ν-deques ∷ []), ((ν-frames ∷ []), ((ν-memory ∷ []), (κ-values, ((ν-pool ∷ []), tt)))))), (full_share, (full_share, (full_share, (full_share, (q-values, (full_share, tt)))))), tt, (at_list b-numbers o-numbers δ-numbers numbers, (at_list b-deques o-deques δ-deques deques, (at_list b-frames o-frames δ-frames frames, (at_list b-memory o-memory δ-memory memory, (workers, (at_list b-values o-values γ-values values, (at_list b-pool o-pool δ-pool pool, tt))))))), (slice_val (b-numbers, o-numbers) n-numbers ∷ [], (slice_val (b-deques, o-deques) n-deques ∷ [], (slice_val (b-frames, o-frames) n-frames ∷ [], (slice_val (b-memory, o-memory) n-memory ∷ [], (vint w32 workers ∷ [], (slice_val (b-values, o-values) n-values ∷ [], (slice_val (b-pool, o-pool) n-pool ∷ [], tt)))))))), tt)
+  abbrev pub to-step-g : (ν-numbers : ℕ) (δ-numbers : GName) (ν-deques : ℕ) (δ-deques : GName) (ν-frames : ℕ) (δ-frames : GName) (κ-values : Lft) (q-values : Share) (γ-values : GName) (ν-pool : ℕ) (δ-pool : GName) (b-numbers o-numbers n-numbers : ℕ) (numbers : List ℕ) (b-deques o-deques n-deques : ℕ) (deques : List ℕ) (b-frames o-frames n-frames : ℕ) (frames : List Frame) (b-values o-values n-values : ℕ) (values : List ℕ) (b-pool o-pool n-pool : ℕ) (pool : List ℕ) (workers : ℕ) → Asked.Ghost
+  to-step-g ν-numbers δ-numbers ν-deques δ-deques ν-frames δ-frames κ-values q-values γ-values ν-pool δ-pool b-numbers o-numbers n-numbers numbers b-deques o-deques n-deques deques b-frames o-frames n-frames frames b-values o-values n-values values b-pool o-pool n-pool pool workers = ((((ν-numbers ∷ []), ((ν-deques ∷ []), ((ν-frames ∷ []), (κ-values, ((ν-pool ∷ []), tt))))), (full_share, (full_share, (full_share, (q-values, (full_share, tt))))), tt, (at_list b-numbers o-numbers δ-numbers numbers, (at_list b-deques o-deques δ-deques deques, (at_list b-frames o-frames δ-frames frames, (workers, (at_list b-values o-values γ-values values, (at_list b-pool o-pool δ-pool pool, tt)))))), (slice_val (b-numbers, o-numbers) n-numbers ∷ [], (slice_val (b-deques, o-deques) n-deques ∷ [], (slice_val (b-frames, o-frames) n-frames ∷ [], (vint w32 workers ∷ [], (slice_val (b-values, o-values) n-values ∷ [], (slice_val (b-pool, o-pool) n-pool ∷ [], tt))))))), tt)
 
-  pub goes-step-g : (ν-numbers : ℕ) (δ-numbers : GName) (ν-deques : ℕ) (δ-deques : GName) (ν-frames : ℕ) (δ-frames : GName) (ν-memory : ℕ) (δ-memory : GName) (κ-values : Lft) (q-values : Share) (γ-values : GName) (ν-pool : ℕ) (δ-pool : GName) (b-numbers o-numbers n-numbers : ℕ) (numbers : List ℕ) (b-deques o-deques n-deques : ℕ) (deques : List ℕ) (b-frames o-frames n-frames : ℕ) (frames : List Frame) (b-memory o-memory n-memory : ℕ) (memory : List ℕ) (b-values o-values n-values : ℕ) (values : List ℕ) (b-pool o-pool n-pool : ℕ) (pool : List ℕ) (workers : ℕ) → (workers-good : workers < 2 ^ 32) → ent 𝓤 (⋆ 𝓛 (‵ (flft (ν-numbers ∷ []) full_share) ∷ ‵ (flft (ν-deques ∷ []) full_share) ∷ ‵ (flft (ν-frames ∷ []) full_share) ∷ ‵ (flft (ν-memory ∷ []) full_share) ∷ ‵ (flft κ-values q-values) ∷ ‵ (flft (ν-pool ∷ []) full_share) ∷ ‵ ((MutSlice (named 0) (ν-numbers ∷ []) u32).own_val (at_list b-numbers o-numbers δ-numbers numbers) (slice_val (b-numbers, o-numbers) n-numbers ∷ [])) ∷ ‵ ((MutSlice (named 0) (ν-deques ∷ []) u32).own_val (at_list b-deques o-deques δ-deques deques) (slice_val (b-deques, o-deques) n-deques ∷ [])) ∷ ‵ ((MutSlice (named 0) (ν-frames ∷ []) R-Frame).own_val (at_list b-frames o-frames δ-frames frames) (slice_val (b-frames, o-frames) n-frames ∷ [])) ∷ ‵ ((MutSlice (named 0) (ν-memory ∷ []) u32).own_val (at_list b-memory o-memory δ-memory memory) (slice_val (b-memory, o-memory) n-memory ∷ [])) ∷ ‵ ((ShrSlice (named 0) κ-values u32).own_val (at_list b-values o-values γ-values values) (slice_val (b-values, o-values) n-values ∷ [])) ∷ ‵ ((MutSlice (named 0) (ν-pool ∷ []) u32).own_val (at_list b-pool o-pool δ-pool pool) (slice_val (b-pool, o-pool) n-pool ∷ [])) ∷ [])) (Asked.pre (to-step-g ν-numbers δ-numbers ν-deques δ-deques ν-frames δ-frames ν-memory δ-memory κ-values q-values γ-values ν-pool δ-pool b-numbers o-numbers n-numbers numbers b-deques o-deques n-deques deques b-frames o-frames n-frames frames b-memory o-memory n-memory memory b-values o-values n-values values b-pool o-pool n-pool pool workers))
-  goes-step-g ν-numbers δ-numbers ν-deques δ-deques ν-frames δ-frames ν-memory δ-memory κ-values q-values γ-values ν-pool δ-pool b-numbers o-numbers n-numbers numbers b-deques o-deques n-deques deques b-frames o-frames n-frames frames b-memory o-memory n-memory memory b-values o-values n-values values b-pool o-pool n-pool pool workers workers-good = qed 𝓛 (‵ (flft (ν-numbers ∷ []) full_share) ∷ ‵ (flft (ν-deques ∷ []) full_share) ∷ ‵ (flft (ν-frames ∷ []) full_share) ∷ ‵ (flft (ν-memory ∷ []) full_share) ∷ ‵ (flft κ-values q-values) ∷ ‵ (flft (ν-pool ∷ []) full_share) ∷ ‵ ((MutSlice (named 0) (ν-numbers ∷ []) u32).own_val (at_list b-numbers o-numbers δ-numbers numbers) (slice_val (b-numbers, o-numbers) n-numbers ∷ [])) ∷ ‵ ((MutSlice (named 0) (ν-deques ∷ []) u32).own_val (at_list b-deques o-deques δ-deques deques) (slice_val (b-deques, o-deques) n-deques ∷ [])) ∷ ‵ ((MutSlice (named 0) (ν-frames ∷ []) R-Frame).own_val (at_list b-frames o-frames δ-frames frames) (slice_val (b-frames, o-frames) n-frames ∷ [])) ∷ ‵ ((MutSlice (named 0) (ν-memory ∷ []) u32).own_val (at_list b-memory o-memory δ-memory memory) (slice_val (b-memory, o-memory) n-memory ∷ [])) ∷ ‵ ((ShrSlice (named 0) κ-values u32).own_val (at_list b-values o-values γ-values values) (slice_val (b-values, o-values) n-values ∷ [])) ∷ ‵ ((MutSlice (named 0) (ν-pool ∷ []) u32).own_val (at_list b-pool o-pool δ-pool pool) (slice_val (b-pool, o-pool) n-pool ∷ [])) ∷ []) ∵ nothing ! $ move ! (1 ∷ 2 ∷ 3 ∷ 4 ∷ 5 ∷ 6 ∷ 0 ∷ []) $ group ! 7 $ move ! (1 ∷ 2 ∷ 3 ∷ 4 ∷ 5 ∷ 6 ∷ 0 ∷ []) $
-      nothing ! $ move ! (6 ∷ 0 ∷ []) $ fjoin ! $ move ! (5 ∷ 0 ∷ []) $ fjoin ! $ owned ! u32 (Is u32) (uint_Makes 𝓛 w32) workers _ (refl, workers-good) $ fjoin ! $ move ! (4 ∷ 0 ∷ []) $ fjoin ! $ move ! (3 ∷ 0 ∷ []) $ fjoin ! $ move ! (2 ∷ 0 ∷ []) $ fjoin ! $ move ! (1 ∷ 0 ∷ []) $ fjoin ! $ move ! (1 ∷ 0 ∷ []) $ join ! $ frame ! $ done !
+  pub goes-step-g : (ν-numbers : ℕ) (δ-numbers : GName) (ν-deques : ℕ) (δ-deques : GName) (ν-frames : ℕ) (δ-frames : GName) (κ-values : Lft) (q-values : Share) (γ-values : GName) (ν-pool : ℕ) (δ-pool : GName) (b-numbers o-numbers n-numbers : ℕ) (numbers : List ℕ) (b-deques o-deques n-deques : ℕ) (deques : List ℕ) (b-frames o-frames n-frames : ℕ) (frames : List Frame) (b-values o-values n-values : ℕ) (values : List ℕ) (b-pool o-pool n-pool : ℕ) (pool : List ℕ) (workers : ℕ) → (workers-good : workers < 2 ^ 32) → ent 𝓤 (⋆ 𝓛 (‵ (flft (ν-numbers ∷ []) full_share) ∷ ‵ (flft (ν-deques ∷ []) full_share) ∷ ‵ (flft (ν-frames ∷ []) full_share) ∷ ‵ (flft κ-values q-values) ∷ ‵ (flft (ν-pool ∷ []) full_share) ∷ ‵ ((MutSlice (named 0) (ν-numbers ∷ []) u32).own_val (at_list b-numbers o-numbers δ-numbers numbers) (slice_val (b-numbers, o-numbers) n-numbers ∷ [])) ∷ ‵ ((MutSlice (named 0) (ν-deques ∷ []) u32).own_val (at_list b-deques o-deques δ-deques deques) (slice_val (b-deques, o-deques) n-deques ∷ [])) ∷ ‵ ((MutSlice (named 0) (ν-frames ∷ []) R-Frame).own_val (at_list b-frames o-frames δ-frames frames) (slice_val (b-frames, o-frames) n-frames ∷ [])) ∷ ‵ ((ShrSlice (named 0) κ-values u32).own_val (at_list b-values o-values γ-values values) (slice_val (b-values, o-values) n-values ∷ [])) ∷ ‵ ((MutSlice (named 0) (ν-pool ∷ []) u32).own_val (at_list b-pool o-pool δ-pool pool) (slice_val (b-pool, o-pool) n-pool ∷ [])) ∷ [])) (Asked.pre (to-step-g ν-numbers δ-numbers ν-deques δ-deques ν-frames δ-frames κ-values q-values γ-values ν-pool δ-pool b-numbers o-numbers n-numbers numbers b-deques o-deques n-deques deques b-frames o-frames n-frames frames b-values o-values n-values values b-pool o-pool n-pool pool workers))
+  goes-step-g ν-numbers δ-numbers ν-deques δ-deques ν-frames δ-frames κ-values q-values γ-values ν-pool δ-pool b-numbers o-numbers n-numbers numbers b-deques o-deques n-deques deques b-frames o-frames n-frames frames b-values o-values n-values values b-pool o-pool n-pool pool workers workers-good = qed 𝓛 (‵ (flft (ν-numbers ∷ []) full_share) ∷ ‵ (flft (ν-deques ∷ []) full_share) ∷ ‵ (flft (ν-frames ∷ []) full_share) ∷ ‵ (flft κ-values q-values) ∷ ‵ (flft (ν-pool ∷ []) full_share) ∷ ‵ ((MutSlice (named 0) (ν-numbers ∷ []) u32).own_val (at_list b-numbers o-numbers δ-numbers numbers) (slice_val (b-numbers, o-numbers) n-numbers ∷ [])) ∷ ‵ ((MutSlice (named 0) (ν-deques ∷ []) u32).own_val (at_list b-deques o-deques δ-deques deques) (slice_val (b-deques, o-deques) n-deques ∷ [])) ∷ ‵ ((MutSlice (named 0) (ν-frames ∷ []) R-Frame).own_val (at_list b-frames o-frames δ-frames frames) (slice_val (b-frames, o-frames) n-frames ∷ [])) ∷ ‵ ((ShrSlice (named 0) κ-values u32).own_val (at_list b-values o-values γ-values values) (slice_val (b-values, o-values) n-values ∷ [])) ∷ ‵ ((MutSlice (named 0) (ν-pool ∷ []) u32).own_val (at_list b-pool o-pool δ-pool pool) (slice_val (b-pool, o-pool) n-pool ∷ [])) ∷ []) ∵ nothing ! $ move ! (1 ∷ 2 ∷ 3 ∷ 4 ∷ 5 ∷ 0 ∷ []) $ group ! 6 $ move ! (1 ∷ 2 ∷ 3 ∷ 4 ∷ 5 ∷ 0 ∷ []) $
+      nothing ! $ move ! (5 ∷ 0 ∷ []) $ fjoin ! $ move ! (4 ∷ 0 ∷ []) $ fjoin ! $ owned ! u32 (Is u32) (uint_Makes 𝓛 w32) workers _ (refl, workers-good) $ fjoin ! $ move ! (3 ∷ 0 ∷ []) $ fjoin ! $ move ! (2 ∷ 0 ∷ []) $ fjoin ! $ move ! (1 ∷ 0 ∷ []) $ fjoin ! $ move ! (1 ∷ 0 ∷ []) $ join ! $ frame ! $ done !
 
 module _ {M : Type 1} {𝓤 : Ura M} {𝓛 : Logic 𝓤} {K : Type 0} (mem : Memory → SProp 𝓤) (run : Routine → Fun 𝓤)
     {Γ : List (Item 𝓤)} {E : Env 𝓤 𝓛.H} {C : Calls 𝓤 𝓛.H} {Λ : Loops 𝓤 𝓛.H} {post' : Post 𝓤 𝓛.H} {dest' : Place} {name' : Name} {opds' : List Operand} {rest' : Body} where
   open 𝓛 use {H}
 
-  pub step-g : K → FmC 𝓤 H 𝓛.laws C → Triple 𝓤 (C name') (Asked 𝓛 mem run) → {κ-numbers : Lft} {q-numbers : Share} {γ-numbers : GName} {κ-deques : Lft} {q-deques : Share} {γ-deques : GName} {κ-frames : Lft} {q-frames : Share} {γ-frames : GName} {κ-memory : Lft} {q-memory : Share} {γ-memory : GName} {κ-values : Lft} {q-values : Share} {γ-values : GName} {κ-pool : Lft} {q-pool : Share} {γ-pool : GName} → (b-numbers o-numbers n-numbers : ℕ) (numbers : List ℕ) (b-deques o-deques n-deques : ℕ) (deques : List ℕ) (b-frames o-frames n-frames : ℕ) (frames : List Frame) (b-memory o-memory n-memory : ℕ) (memory : List ℕ) (b-values o-values n-values : ℕ) (values : List ℕ) (b-pool o-pool n-pool : ℕ) (pool : List ℕ) (workers : ℕ) → (workers-good : workers < 2 ^ 32) → length numbers ≡ n-numbers → Room u32 n-numbers → length deques ≡ n-deques → Room u32 n-deques → length frames ≡ n-frames → Room R-Frame n-frames → length memory ≡ n-memory → Room u32 n-memory → length pool ≡ n-pool → Room u32 n-pool →
-      ((ν-numbers : ℕ) (δ-numbers : GName) (ν-deques : ℕ) (δ-deques : GName) (ν-frames : ℕ) (δ-frames : GName) (ν-memory : ℕ) (δ-memory : GName) (ν-pool : ℕ) (δ-pool : GName) → Opds K 𝓛 (raw ((Asked 𝓛 mem run).pre (to-step-g 𝓛 mem run ν-numbers δ-numbers ν-deques δ-deques ν-frames δ-frames ν-memory δ-memory κ-values q-values γ-values ν-pool δ-pool b-numbers o-numbers n-numbers numbers b-deques o-deques n-deques deques b-frames o-frames n-frames frames b-memory o-memory n-memory memory b-values o-values n-values values b-pool o-pool n-pool pool workers)) ∷ ‵ (Lent u32 κ-pool (ν-pool ∷ []) q-pool γ-pool b-pool o-pool δ-pool pool) ∷ ‵ ((ShrSlice (named 0) κ-values u32).own_val (at_list b-values o-values γ-values values) (slice_val (b-values, o-values) n-values ∷ [])) ∷ ‵ (Lent u32 κ-memory (ν-memory ∷ []) q-memory γ-memory b-memory o-memory δ-memory memory) ∷ ‵ (Lent R-Frame κ-frames (ν-frames ∷ []) q-frames γ-frames b-frames o-frames δ-frames frames) ∷ ‵ (Lent u32 κ-deques (ν-deques ∷ []) q-deques γ-deques b-deques o-deques δ-deques deques) ∷ ‵ (Lent u32 κ-numbers (ν-numbers ∷ []) q-numbers γ-numbers b-numbers o-numbers δ-numbers numbers) ∷ Γ) E opds' (slice_val (b-numbers, o-numbers) n-numbers ∷ slice_val (b-deques, o-deques) n-deques ∷ slice_val (b-frames, o-frames) n-frames ∷ slice_val (b-memory, o-memory) n-memory ∷ vint w32 workers ∷ slice_val (b-values, o-values) n-values ∷ slice_val (b-pool, o-pool) n-pool ∷ [])) →
-      ((res' : ℕ) (zs-numbers : List ℕ) (zs-deques : List ℕ) (zs-frames : List Frame) (zs-memory : List ℕ) (zs-pool : List ℕ) → res' < 2 ^ 32 → IsStartWith (start_remembering two_words (parts numbers deques frames) memory workers values pool) zs-numbers zs-deques zs-frames zs-memory zs-pool res' → length zs-numbers ≡ length numbers → length zs-deques ≡ length deques → length zs-frames ≡ length frames → length zs-memory ≡ length memory → length zs-pool ≡ length pool → Seq K 𝓛 (‵ (Mine u32 κ-numbers q-numbers γ-numbers b-numbers o-numbers n-numbers zs-numbers) ∷ ‵ (Mine u32 κ-deques q-deques γ-deques b-deques o-deques n-deques zs-deques) ∷ ‵ (Mine R-Frame κ-frames q-frames γ-frames b-frames o-frames n-frames zs-frames) ∷ ‵ (Mine u32 κ-memory q-memory γ-memory b-memory o-memory n-memory zs-memory) ∷ ‵ (Yours u32 κ-values q-values γ-values b-values o-values n-values values) ∷ ‵ (Mine u32 κ-pool q-pool γ-pool b-pool o-pool n-pool zs-pool) ∷ Γ) (lands C Λ E dest' (vint w32 res') rest' post')) →
-      Seq K 𝓛 (‵ (Mine u32 κ-numbers q-numbers γ-numbers b-numbers o-numbers n-numbers numbers) ∷ ‵ (Mine u32 κ-deques q-deques γ-deques b-deques o-deques n-deques deques) ∷ ‵ (Mine R-Frame κ-frames q-frames γ-frames b-frames o-frames n-frames frames) ∷ ‵ (Mine u32 κ-memory q-memory γ-memory b-memory o-memory n-memory memory) ∷ ‵ (Yours u32 κ-values q-values γ-values b-values o-values n-values values) ∷ ‵ (Mine u32 κ-pool q-pool γ-pool b-pool o-pool n-pool pool) ∷ Γ) (runs C Λ E (seq (call name' opds' dest') rest') post')
-  step-g t' fm' known' {κ-numbers} {q-numbers} {γ-numbers} {κ-deques} {q-deques} {γ-deques} {κ-frames} {q-frames} {γ-frames} {κ-memory} {q-memory} {γ-memory} {κ-values} {q-values} {γ-values} {κ-pool} {q-pool} {γ-pool} b-numbers o-numbers n-numbers numbers b-deques o-deques n-deques deques b-frames o-frames n-frames frames b-memory o-memory n-memory memory b-values o-values n-values values b-pool o-pool n-pool pool workers workers-good len-numbers room-numbers len-deques room-deques len-frames room-frames len-memory room-memory len-pool room-pool os' k' =
-      lend t' tt u32 b-numbers o-numbers n-numbers numbers len-numbers (λ ν-numbers δ-numbers. move t' (3 ∷ []) $ lend t' tt u32 b-deques o-deques n-deques deques len-deques (λ ν-deques δ-deques. move t' (6 ∷ []) $ lend t' tt R-Frame b-frames o-frames n-frames frames len-frames (λ ν-frames δ-frames. move t' (9 ∷ []) $ lend t' tt u32 b-memory o-memory n-memory memory len-memory (λ ν-memory δ-memory. move t' (12 ∷ []) $ give t' u32 b-values o-values n-values values $ move t' (15 ∷ []) $ lend t' tt u32 b-pool o-pool n-pool pool len-pool (λ ν-pool δ-pool.
-      move t' (15 ∷ 12 ∷ 9 ∷ 6 ∷ 3 ∷ 0 ∷ 16 ∷ 13 ∷ 10 ∷ 7 ∷ 4 ∷ 1 ∷ []) $ group t' 12 $ use1 𝓛 (raw ((Asked 𝓛 mem run).pre (to-step-g 𝓛 mem run ν-numbers δ-numbers ν-deques δ-deques ν-frames δ-frames ν-memory δ-memory κ-values q-values γ-values ν-pool δ-pool b-numbers o-numbers n-numbers numbers b-deques o-deques n-deques deques b-frames o-frames n-frames frames b-memory o-memory n-memory memory b-values o-values n-values values b-pool o-pool n-pool pool workers))) (goes-step-g 𝓛 mem run ν-numbers δ-numbers ν-deques δ-deques ν-frames δ-frames ν-memory δ-memory κ-values q-values γ-values ν-pool δ-pool b-numbers o-numbers n-numbers numbers b-deques o-deques n-deques deques b-frames o-frames n-frames frames b-memory o-memory n-memory memory b-values o-values n-values values b-pool o-pool n-pool pool workers workers-good) $
-      calls_at t' fm' (Asked 𝓛 mem run) known' (to-step-g 𝓛 mem run ν-numbers δ-numbers ν-deques δ-deques ν-frames δ-frames ν-memory δ-memory κ-values q-values γ-values ν-pool δ-pool b-numbers o-numbers n-numbers numbers b-deques o-deques n-deques deques b-frames o-frames n-frames frames b-memory o-memory n-memory memory b-values o-values n-values values b-pool o-pool n-pool pool workers) (os' ν-numbers δ-numbers ν-deques δ-deques ν-frames δ-frames ν-memory δ-memory ν-pool δ-pool) (λ w'.
-      use1 𝓛 (later (some (λ (res' : ℕ). ((‵ (flft (ν-numbers ∷ []) full_share) ⊛ (‵ (flft (ν-deques ∷ []) full_share) ⊛ (‵ (flft (ν-frames ∷ []) full_share) ⊛ (‵ (flft (ν-memory ∷ []) full_share) ⊛ (‵ (flft κ-values q-values) ⊛ (‵ (flft (ν-pool ∷ []) full_share) ⊛ ‵ ftrue)))))) ⊛ ‵ (u32.own_val res' (w' ∷ []))) ⊛ raw (ensured 𝓛 callee'.ended (callee'.clauses 𝓛 mem run) ((ν-numbers ∷ []), ((ν-deques ∷ []), ((ν-frames ∷ []), ((ν-memory ∷ []), (κ-values, ((ν-pool ∷ []), tt)))))) (at_list b-numbers o-numbers δ-numbers numbers, (at_list b-deques o-deques δ-deques deques, (at_list b-frames o-frames δ-frames frames, (at_list b-memory o-memory δ-memory memory, (workers, (at_list b-values o-values γ-values values, (at_list b-pool o-pool δ-pool pool, tt))))))) tt res')))) (id⊢ 𝓤 _) $ await t' tt $ pick t' (λ res'. split t' $ move t' (1 ∷ []) $
-      use1 𝓛 (some (λ (zs' : List ℕ × (List ℕ × (List Frame × (List ℕ × (Unit {0} × (Unit {0} × (List ℕ × Unit {0}))))))). ‵ (lasts callee'.ended ((ν-numbers ∷ []), ((ν-deques ∷ []), ((ν-frames ∷ []), ((ν-memory ∷ []), (κ-values, ((ν-pool ∷ []), tt)))))) (at_list b-numbers o-numbers δ-numbers numbers, (at_list b-deques o-deques δ-deques deques, (at_list b-frames o-frames δ-frames frames, (at_list b-memory o-memory δ-memory memory, (workers, (at_list b-values o-values γ-values values, (at_list b-pool o-pool δ-pool pool, tt))))))) zs') ⊛ raw (fact 𝓤 (IsStartWith (start_remembering two_words (parts numbers deques frames) memory workers values pool) zs'.0 zs'.1.0 zs'.1.1.0 zs'.1.1.1.0 zs'.1.1.1.1.1.1.0 res')))) (id⊢ 𝓤 _) $ pick t' (λ zs'. split t' $ move t' (1 ∷ []) $ heard t' (IsStartWith (start_remembering two_words (parts numbers deques frames) memory workers values pool) zs'.0 zs'.1.0 zs'.1.1.0 zs'.1.1.1.0 zs'.1.1.1.1.1.1.0 res') (λ e'.
-      fsplit t' $ fsplit t' $ move t' (1 ∷ []) $ feq_l t' (λ same_numbers. move t' (1 ∷ []) $ fsplit t' $ fsplit t' $ move t' (1 ∷ []) $ feq_l t' (λ same-deques. move t' (1 ∷ []) $ fsplit t' $ fsplit t' $ move t' (1 ∷ []) $ feq_l t' (λ same-frames. move t' (1 ∷ []) $ fsplit t' $ fsplit t' $ move t' (1 ∷ []) $ feq_l t' (λ same_memory. move t' (1 ∷ []) $ fsplit t' $ drop t' $ fsplit t' $ drop t' $ fsplit t' $ fsplit t' $ move t' (1 ∷ []) $ feq_l t' (λ same-pool. move t' (1 ∷ []) $ drop t' $
-      move t' (5 ∷ []) $ split t' $ move t' (1 ∷ []) $ peeks t' u32 (Is u32) (shows 𝓛 u32) res' (w' ∷ []) (λ is'. drop t' $ split t' $ move t' (1 ∷ []) $ split t' $ move t' (1 ∷ []) $ split t' $ move t' (1 ∷ []) $ split t' $ move t' (1 ∷ []) $ split t' $ move t' (1 ∷ []) $ split t' $ move t' (1 ∷ []) $ drop t' $
-      move t' (0 ∷ 11 ∷ 6 ∷ []) $ home t' tt u32 b-pool o-pool n-pool pool zs'.1.1.1.1.1.1.0 len-pool room-pool same-pool $ move t' (10 ∷ 1 ∷ []) $ fjoin t' $ move t' (2 ∷ 10 ∷ 6 ∷ []) $ home t' tt u32 b-memory o-memory n-memory memory zs'.1.1.1.0 len-memory room-memory same_memory $ move t' (3 ∷ 9 ∷ 6 ∷ []) $ home t' tt R-Frame b-frames o-frames n-frames frames zs'.1.1.0 len-frames room-frames same-frames $ move t' (4 ∷ 8 ∷ 6 ∷ []) $ home t' tt u32 b-deques o-deques n-deques deques zs'.1.0 len-deques room-deques same-deques $ move t' (5 ∷ 7 ∷ 6 ∷ []) $ home t' tt u32 b-numbers o-numbers n-numbers numbers zs'.0 len-numbers room-numbers same_numbers $
-      subst (λ (v' : Val). Seq K 𝓛 (‵ (Mine u32 κ-numbers q-numbers γ-numbers b-numbers o-numbers n-numbers zs'.0) ∷ ‵ (Mine u32 κ-deques q-deques γ-deques b-deques o-deques n-deques zs'.1.0) ∷ ‵ (Mine R-Frame κ-frames q-frames γ-frames b-frames o-frames n-frames zs'.1.1.0) ∷ ‵ (Mine u32 κ-memory q-memory γ-memory b-memory o-memory n-memory zs'.1.1.1.0) ∷ ‵ (Yours u32 κ-values q-values γ-values b-values o-values n-values values) ∷ ‵ (Mine u32 κ-pool q-pool γ-pool b-pool o-pool n-pool zs'.1.1.1.1.1.1.0) ∷ Γ) (lands C Λ E dest' v' rest' post')) (sym (ap only (uint_Tells w32 res' _ is'))) (k' res' zs'.0 zs'.1.0 zs'.1.1.0 zs'.1.1.1.0 zs'.1.1.1.1.1.1.0 is'.1 e' same_numbers same-deques same-frames same_memory same-pool))))))))))))))))
+  pub step-g : K → FmC 𝓤 H 𝓛.laws C → Triple 𝓤 (C name') (Asked 𝓛 mem run) → {κ-numbers : Lft} {q-numbers : Share} {γ-numbers : GName} {κ-deques : Lft} {q-deques : Share} {γ-deques : GName} {κ-frames : Lft} {q-frames : Share} {γ-frames : GName} {κ-values : Lft} {q-values : Share} {γ-values : GName} {κ-pool : Lft} {q-pool : Share} {γ-pool : GName} → (b-numbers o-numbers n-numbers : ℕ) (numbers : List ℕ) (b-deques o-deques n-deques : ℕ) (deques : List ℕ) (b-frames o-frames n-frames : ℕ) (frames : List Frame) (b-values o-values n-values : ℕ) (values : List ℕ) (b-pool o-pool n-pool : ℕ) (pool : List ℕ) (workers : ℕ) → (workers-good : workers < 2 ^ 32) → length numbers ≡ n-numbers → Room u32 n-numbers → length deques ≡ n-deques → Room u32 n-deques → length frames ≡ n-frames → Room R-Frame n-frames → length pool ≡ n-pool → Room u32 n-pool →
+      ((ν-numbers : ℕ) (δ-numbers : GName) (ν-deques : ℕ) (δ-deques : GName) (ν-frames : ℕ) (δ-frames : GName) (ν-pool : ℕ) (δ-pool : GName) → Opds K 𝓛 (raw ((Asked 𝓛 mem run).pre (to-step-g 𝓛 mem run ν-numbers δ-numbers ν-deques δ-deques ν-frames δ-frames κ-values q-values γ-values ν-pool δ-pool b-numbers o-numbers n-numbers numbers b-deques o-deques n-deques deques b-frames o-frames n-frames frames b-values o-values n-values values b-pool o-pool n-pool pool workers)) ∷ ‵ (Lent u32 κ-pool (ν-pool ∷ []) q-pool γ-pool b-pool o-pool δ-pool pool) ∷ ‵ ((ShrSlice (named 0) κ-values u32).own_val (at_list b-values o-values γ-values values) (slice_val (b-values, o-values) n-values ∷ [])) ∷ ‵ (Lent R-Frame κ-frames (ν-frames ∷ []) q-frames γ-frames b-frames o-frames δ-frames frames) ∷ ‵ (Lent u32 κ-deques (ν-deques ∷ []) q-deques γ-deques b-deques o-deques δ-deques deques) ∷ ‵ (Lent u32 κ-numbers (ν-numbers ∷ []) q-numbers γ-numbers b-numbers o-numbers δ-numbers numbers) ∷ Γ) E opds' (slice_val (b-numbers, o-numbers) n-numbers ∷ slice_val (b-deques, o-deques) n-deques ∷ slice_val (b-frames, o-frames) n-frames ∷ vint w32 workers ∷ slice_val (b-values, o-values) n-values ∷ slice_val (b-pool, o-pool) n-pool ∷ [])) →
+      ((res' : ℕ) (zs-numbers : List ℕ) (zs-deques : List ℕ) (zs-frames : List Frame) (zs-pool : List ℕ) → res' < 2 ^ 32 → IsStart (start_on two_words (parts numbers deques frames) workers values pool) zs-numbers zs-deques zs-frames zs-pool res' → length zs-numbers ≡ length numbers → length zs-deques ≡ length deques → length zs-frames ≡ length frames → length zs-pool ≡ length pool → Seq K 𝓛 (‵ (Mine u32 κ-numbers q-numbers γ-numbers b-numbers o-numbers n-numbers zs-numbers) ∷ ‵ (Mine u32 κ-deques q-deques γ-deques b-deques o-deques n-deques zs-deques) ∷ ‵ (Mine R-Frame κ-frames q-frames γ-frames b-frames o-frames n-frames zs-frames) ∷ ‵ (Yours u32 κ-values q-values γ-values b-values o-values n-values values) ∷ ‵ (Mine u32 κ-pool q-pool γ-pool b-pool o-pool n-pool zs-pool) ∷ Γ) (lands C Λ E dest' (vint w32 res') rest' post')) →
+      Seq K 𝓛 (‵ (Mine u32 κ-numbers q-numbers γ-numbers b-numbers o-numbers n-numbers numbers) ∷ ‵ (Mine u32 κ-deques q-deques γ-deques b-deques o-deques n-deques deques) ∷ ‵ (Mine R-Frame κ-frames q-frames γ-frames b-frames o-frames n-frames frames) ∷ ‵ (Yours u32 κ-values q-values γ-values b-values o-values n-values values) ∷ ‵ (Mine u32 κ-pool q-pool γ-pool b-pool o-pool n-pool pool) ∷ Γ) (runs C Λ E (seq (call name' opds' dest') rest') post')
+  step-g t' fm' known' {κ-numbers} {q-numbers} {γ-numbers} {κ-deques} {q-deques} {γ-deques} {κ-frames} {q-frames} {γ-frames} {κ-values} {q-values} {γ-values} {κ-pool} {q-pool} {γ-pool} b-numbers o-numbers n-numbers numbers b-deques o-deques n-deques deques b-frames o-frames n-frames frames b-values o-values n-values values b-pool o-pool n-pool pool workers workers-good len-numbers room-numbers len-deques room-deques len-frames room-frames len-pool room-pool os' k' =
+      lend t' tt u32 b-numbers o-numbers n-numbers numbers len-numbers (λ ν-numbers δ-numbers. move t' (3 ∷ []) $ lend t' tt u32 b-deques o-deques n-deques deques len-deques (λ ν-deques δ-deques. move t' (6 ∷ []) $ lend t' tt R-Frame b-frames o-frames n-frames frames len-frames (λ ν-frames δ-frames. move t' (9 ∷ []) $ give t' u32 b-values o-values n-values values $ move t' (12 ∷ []) $ lend t' tt u32 b-pool o-pool n-pool pool len-pool (λ ν-pool δ-pool.
+      move t' (12 ∷ 9 ∷ 6 ∷ 3 ∷ 0 ∷ 13 ∷ 10 ∷ 7 ∷ 4 ∷ 1 ∷ []) $ group t' 10 $ use1 𝓛 (raw ((Asked 𝓛 mem run).pre (to-step-g 𝓛 mem run ν-numbers δ-numbers ν-deques δ-deques ν-frames δ-frames κ-values q-values γ-values ν-pool δ-pool b-numbers o-numbers n-numbers numbers b-deques o-deques n-deques deques b-frames o-frames n-frames frames b-values o-values n-values values b-pool o-pool n-pool pool workers))) (goes-step-g 𝓛 mem run ν-numbers δ-numbers ν-deques δ-deques ν-frames δ-frames κ-values q-values γ-values ν-pool δ-pool b-numbers o-numbers n-numbers numbers b-deques o-deques n-deques deques b-frames o-frames n-frames frames b-values o-values n-values values b-pool o-pool n-pool pool workers workers-good) $
+      calls_at t' fm' (Asked 𝓛 mem run) known' (to-step-g 𝓛 mem run ν-numbers δ-numbers ν-deques δ-deques ν-frames δ-frames κ-values q-values γ-values ν-pool δ-pool b-numbers o-numbers n-numbers numbers b-deques o-deques n-deques deques b-frames o-frames n-frames frames b-values o-values n-values values b-pool o-pool n-pool pool workers) (os' ν-numbers δ-numbers ν-deques δ-deques ν-frames δ-frames ν-pool δ-pool) (λ w'.
+      use1 𝓛 (later (some (λ (res' : ℕ). ((‵ (flft (ν-numbers ∷ []) full_share) ⊛ (‵ (flft (ν-deques ∷ []) full_share) ⊛ (‵ (flft (ν-frames ∷ []) full_share) ⊛ (‵ (flft κ-values q-values) ⊛ (‵ (flft (ν-pool ∷ []) full_share) ⊛ ‵ ftrue))))) ⊛ ‵ (u32.own_val res' (w' ∷ []))) ⊛ raw (ensured 𝓛 callee'.ended (callee'.clauses 𝓛 mem run) ((ν-numbers ∷ []), ((ν-deques ∷ []), ((ν-frames ∷ []), (κ-values, ((ν-pool ∷ []), tt))))) (at_list b-numbers o-numbers δ-numbers numbers, (at_list b-deques o-deques δ-deques deques, (at_list b-frames o-frames δ-frames frames, (workers, (at_list b-values o-values γ-values values, (at_list b-pool o-pool δ-pool pool, tt)))))) tt res')))) (id⊢ 𝓤 _) $ await t' tt $ pick t' (λ res'. split t' $ move t' (1 ∷ []) $
+      use1 𝓛 (some (λ (zs' : List ℕ × (List ℕ × (List Frame × (Unit {0} × (Unit {0} × (List ℕ × Unit {0})))))). ‵ (lasts callee'.ended ((ν-numbers ∷ []), ((ν-deques ∷ []), ((ν-frames ∷ []), (κ-values, ((ν-pool ∷ []), tt))))) (at_list b-numbers o-numbers δ-numbers numbers, (at_list b-deques o-deques δ-deques deques, (at_list b-frames o-frames δ-frames frames, (workers, (at_list b-values o-values γ-values values, (at_list b-pool o-pool δ-pool pool, tt)))))) zs') ⊛ raw (fact 𝓤 (IsStart (start_on two_words (parts numbers deques frames) workers values pool) zs'.0 zs'.1.0 zs'.1.1.0 zs'.1.1.1.1.1.0 res')))) (id⊢ 𝓤 _) $ pick t' (λ zs'. split t' $ move t' (1 ∷ []) $ heard t' (IsStart (start_on two_words (parts numbers deques frames) workers values pool) zs'.0 zs'.1.0 zs'.1.1.0 zs'.1.1.1.1.1.0 res') (λ e'.
+      fsplit t' $ fsplit t' $ move t' (1 ∷ []) $ feq_l t' (λ same_numbers. move t' (1 ∷ []) $ fsplit t' $ fsplit t' $ move t' (1 ∷ []) $ feq_l t' (λ same-deques. move t' (1 ∷ []) $ fsplit t' $ fsplit t' $ move t' (1 ∷ []) $ feq_l t' (λ same-frames. move t' (1 ∷ []) $ fsplit t' $ drop t' $ fsplit t' $ drop t' $ fsplit t' $ fsplit t' $ move t' (1 ∷ []) $ feq_l t' (λ same-pool. move t' (1 ∷ []) $ drop t' $
+      move t' (4 ∷ []) $ split t' $ move t' (1 ∷ []) $ peeks t' u32 (Is u32) (shows 𝓛 u32) res' (w' ∷ []) (λ is'. drop t' $ split t' $ move t' (1 ∷ []) $ split t' $ move t' (1 ∷ []) $ split t' $ move t' (1 ∷ []) $ split t' $ move t' (1 ∷ []) $ split t' $ move t' (1 ∷ []) $ drop t' $
+      move t' (0 ∷ 9 ∷ 5 ∷ []) $ home t' tt u32 b-pool o-pool n-pool pool zs'.1.1.1.1.1.0 len-pool room-pool same-pool $ move t' (8 ∷ 1 ∷ []) $ fjoin t' $ move t' (2 ∷ 8 ∷ 5 ∷ []) $ home t' tt R-Frame b-frames o-frames n-frames frames zs'.1.1.0 len-frames room-frames same-frames $ move t' (3 ∷ 7 ∷ 5 ∷ []) $ home t' tt u32 b-deques o-deques n-deques deques zs'.1.0 len-deques room-deques same-deques $ move t' (4 ∷ 6 ∷ 5 ∷ []) $ home t' tt u32 b-numbers o-numbers n-numbers numbers zs'.0 len-numbers room-numbers same_numbers $
+      subst (λ (v' : Val). Seq K 𝓛 (‵ (Mine u32 κ-numbers q-numbers γ-numbers b-numbers o-numbers n-numbers zs'.0) ∷ ‵ (Mine u32 κ-deques q-deques γ-deques b-deques o-deques n-deques zs'.1.0) ∷ ‵ (Mine R-Frame κ-frames q-frames γ-frames b-frames o-frames n-frames zs'.1.1.0) ∷ ‵ (Yours u32 κ-values q-values γ-values b-values o-values n-values values) ∷ ‵ (Mine u32 κ-pool q-pool γ-pool b-pool o-pool n-pool zs'.1.1.1.1.1.0) ∷ Γ) (lands C Λ E dest' v' rest' post')) (sym (ap only (uint_Tells w32 res' _ is'))) (k' res' zs'.0 zs'.1.0 zs'.1.1.0 zs'.1.1.1.1.1.0 is'.1 e' same_numbers same-deques same-frames same-pool))))))))))))))

@@ -92,10 +92,6 @@ module _ (N H n : ℕ) (most : N ≤ 16384) (cover : n ≤ 2 ^ H) {level size : 
   on_way : (e x : ℕ) → 0 < count e E → x < n → Covers N level size ws₄ H x e
   on_way e x p b = root_covers N H n (omega arith) cover L e x p b
 
-  -- R-10: a frame's leaf
-  pub unpacks_leaf_of : (e y : ℕ) → 0 < count e E → y < n → leaf_of H ws₂ e y ≡ Four.leaf_of H ws₄ e y
-  unpacks_leaf_of e y p b = (leaf_same most L.inv U H y e (on_way e y p b)).0
-
   -- what a frame reads
   pub unpacks_reads : (e y : ℕ) → 0 < count e E → y < n → read_at H ws₂ e y ≡ Four.read_at H ws₄ e y
   unfolding read_at Four.read_at

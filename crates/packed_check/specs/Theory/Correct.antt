@@ -68,9 +68,9 @@ module _ (n N : ℕ) (ws rs w : List ℕ) (few : N ≤ 16384) (tally : Tallied n
   unfolding node_right
   sound_at i b = node-sound (is_reached n ws rs i) (holders n N ws rs i) (count i chain) (mark w i) (links w i) (refcount ws i) (tally.marks i b) (tally.counts i b)
 
-  right_at_lem : (i : ℕ) → i < N → node_sound n N ws first rs i ≡ true → (node_right ws w i ≡ true) × (count i chain ≡ fresh w i)
+  right_at : (i : ℕ) → i < N → node_sound n N ws first rs i ≡ true → (node_right ws w i ≡ true) × (count i chain ≡ fresh w i)
   unfolding node_right
-  right_at_lem i b = node-right (is_reached n ws rs i) (holders n N ws rs i) (count i chain) (mark w i) (links w i) (refcount ws i) (tally.marks i b) (tally.counts i b)
+  right_at i b = node-right (is_reached n ws rs i) (holders n N ws rs i) (count i chain) (mark w i) (links w i) (refcount ws i) (tally.marks i b) (tally.counts i b)
 
   settle-sound : all N (node_right ws w) ≡ true → chain_from N ws w (unvisited N w) first ≡ true → (pool_sound two_words n N ws first rs ≡ true) × (length chain ≡ unvisited N w)
   unfolding pool_sound
@@ -84,7 +84,7 @@ module _ (n N : ℕ) (ws rs w : List ℕ) (few : N ≤ 16384) (tally : Tallied n
   unfolding pool_sound
   settle_complete s =
       let p = both (below N chain) (all N (node_sound n N ws first rs)) (both (on_one_level n N ws rs) _ (both (trees_at n N ws rs) _ s).1).1 in
-      let nodes : (i : ℕ) → i < N → (node_right ws w i ≡ true) × (count i chain ≡ fresh w i) = λ i b. right_at_lem i b (all_at N (node_sound n N ws first rs) p.1 i b) in (
+      let nodes : (i : ℕ) → i < N → (node_right ws w i ≡ true) × (count i chain ≡ fresh w i) = λ i b. right_at i b (all_at N (node_sound n N ws first rs) p.1 i b) in (
         all_of N (node_right ws w) (λ i b. (nodes i b).0),
         chain_complete N ws w few (unvisited N w) N first (unvisited_le N w) (vacants N w chain (record { within = p.0; once = λ i b. (nodes i b).1 })),
       )

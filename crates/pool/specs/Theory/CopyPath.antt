@@ -1,5 +1,5 @@
 -- The write's new path: it keeps the invariant and the old trees, and leads to the old leaves but for one.
-use Rattle.std.specs.Prelude.{◌≡◌, ◌≢◌, length, get_or}
+use Rattle.std.specs.Prelude.{◌≡◌, ◌≢◌, length}
 use Rattle.std.proofs.Math.Path.{refl, subst}
 use Rattle.std.proofs.Common.{sym, ap, ◌∙◌, arith}
 use Rattle.std.proofs.Math.Logic.{inl, inr}
@@ -46,8 +46,6 @@ pub record Copied (N H : ℕ) (level₀ size₀ : ℕ → ℕ) (ws₀ E : List �
   -- the nodes on the way to x are new, with v at the end; where the way parts from it, the old ones
   pub new : (k y : ℕ) → k ≤ l → Agree k l x y → (walk k l p.0 a y < N) × (refcount ws (walk k l p.0 a y) ≡ 0) × (level' (walk k l p.0 a y) ≡ k)
   pub new_value : (y : ℕ) → Agree 0 l x y → value p.0 (walk 0 l p.0 a y) ≡ v
-  -- R-10: they are the free nodes in order
-  pub new_leaf : (y : ℕ) → Agree 0 l x y → walk 0 l p.0 a y ≡ get_or fs l 0
   pub old_walk : (k y : ℕ) → k ≤ l → y % 2 ^ l < size₀ old → Differ k l x y → walk k l p.0 a y ≡ walk k l ws₀ old y
 
 -- the links of the new node: the labels change at no node that was in use
@@ -99,7 +97,6 @@ module _ (N H : ℕ) (small : N ≤ none) (level₀ size₀ : ℕ → ℕ) (ws�
     taken = omega arith;
     new = λ k y h g. (in_n, z, A.root_level ∙ omega arith);
     new_value = λ y g. K.value_is;
-    new_leaf = λ y g. refl;
     old_walk = λ k y h p d. absurd (omega (arith, d.2));
   }
     where
@@ -344,7 +341,6 @@ module _ (N H : ℕ) (small : N ≤ none) (level₀ size₀ : ℕ → ℕ) (ws�
         taken = omega (arith, M.taken);
         new = step_new;
         new_value = λ y g. ap (value p.0) (walk_on 0 y (omega arith) (sym (g l (omega arith) (omega arith)))) ∙ M.new_value y (λ i s t. g i s (omega arith));
-        new_leaf = λ y g. walk_on 0 y (omega arith) (sym (g l (omega arith) (omega arith))) ∙ M.new_leaf y (λ i s t. g i s (omega arith));
         old_walk = step_old;
       }
 

@@ -1,6 +1,6 @@
 -- A write on a pool with live roots: nodes with one holder are altered where they are, and from the first with more holders the
 -- path is new. This too is what a sound pool gives that comes from elsewhere, with no history.
-use Rattle.std.specs.Prelude.{◌≡◌, refl, ◌≢◌, ◌⊎◌, List, ◌∷◌, length, get_or, drop}
+use Rattle.std.specs.Prelude.{◌≡◌, refl, ◌≢◌, ◌⊎◌, List, ◌∷◌, length, drop}
 use Rattle.std.proofs.Math.Path.{sym, ap, subst}
 use Rattle.std.proofs.Common.{◌∙◌, arith, mod-eq_of_lt, eq-eqb, ne_eqb}
 use Rattle.std.proofs.Math.Logic.{inl, inr}
@@ -12,7 +12,7 @@ use Rattle.words.specs.Counting.{δ_same, δ_other, δ₀_inv, count_cons}
 use Rattle.words.specs.Tests.{ltb_of, nltb_of}
 use Rattle.sizes.specs.Bits.{bit_lt, low1, Agree, Differ, agree_differ, agree_low, agree_refl}
 use Rattle.sizes.specs.Sizes.{bit}
-use Rattle.pool.specs.Pool.{refcount, left, right, value, set_refcount, set_value, set_link, side, child, sibling, leaf_of, read_at, copy_path, renew, first_shared, write_from, write, rest}
+use Rattle.pool.specs.Pool.{refcount, left, right, value, set_refcount, set_value, set_link, side, child, sibling, read_at, copy_path, renew, first_shared, write_from, write, rest}
 use Rattle.pool.specs.Links.{CopyIn, WriteIn}
 use Rattle.pool.specs.Theory.Alone.{Alone, FirstShared, alone}
 use Rattle.pool.specs.Theory.Changes.{grows_refl}
@@ -25,7 +25,7 @@ use Rattle.pool.specs.Theory.Reached.{reached_in_use}
 use Rattle.pool.specs.Theory.Release.{Released, lowered}
 use Rattle.pool.specs.Theory.Relink.{inv_value, inv_relink}
 use Rattle.pool.specs.Theory.Take.{update, update_same, update_other, inv_relabel}
-use Rattle.pool.specs.Theory.Walk.{walk, walk_here, walk_down, walk_split, walk_same, walk_agree, walk_leaf, read_at-walk, Covers, covers_walk, walk_kept}
+use Rattle.pool.specs.Theory.Walk.{walk, walk_here, walk_down, walk_split, walk_same, walk_agree, read_at-walk, Covers, covers_walk, walk_kept}
 
 -- ---- the branches of the definitions
 
@@ -58,22 +58,10 @@ module _ (i above h : ℕ) (ws : List ℕ) (free k root x v : ℕ) where
 one_more : (m l x y : ℕ) → Agree (suc m) l x y → bit m x ≡ bit m y → Agree m l x y
 one_more m l x y g e j a b = elim (ℕ_discrete j m) [ yes t ↦ ap (λ i. bit i x) t ∙ e ∙ ap (λ i. bit i y) (sym t) | no t ↦ g j (omega arith) b ]
 
--- the ways to two splitters part
-pub differs : (H n x y : ℕ) → n ≤ 2 ^ H → x < n → y < n → y ≢ x → Differ 0 H x y
-differs H n x y cover bx b o = go (agree_differ 0 H x y)
-  where
-    go : Agree 0 H x y ⊎ Differ 0 H x y → Differ 0 H x y
-    go (inl g) = absurd (o (sym (sym (mod-eq_of_lt (omega arith)) ∙ agree_low H x y g ∙ mod-eq_of_lt (omega arith))))
-    go (inr d) = d
-
 pub child-sum : (ws : List ℕ) (i b j : ℕ) → δ j (child ws i b) + δ j (sibling ws i b) ≡ δ j (left ws i) + δ j (right ws i)
 unfolding child sibling side
 child-sum ws i zero j = refl
 child-sum ws i (suc b) j = omega arith
-
--- R-10: where the walk of a write ends decides on the leaf afterwards: that one, or the last of the free nodes that the new path takes
-abbrev pub leaf_written : List ℕ → ℕ × ℕ × ℕ → ℕ
-leaf_written fs p = elim p.0 [ zero ↦ p.1 | suc m ↦ get_or fs m 0 ]
 
 -- ---- what a write gives: p has the words, the first free node, the number of free nodes and the new root
 
@@ -150,6 +138,13 @@ module _ (N H n : ℕ) (small : N ≤ none) (cover : n ≤ 2 ^ H) (level size : 
   rest_by = elim found [ inl w ↦ inl (w.0, w.1) | inr w ↦ inr (w.0, w.1, w.2) ]
 
   -- the reads follow from the walks
+  differs : (y : ℕ) → y < n → y ≢ x → Differ 0 H x y
+  differs y b o = go (agree_differ 0 H x y)
+    where
+      go : Agree 0 H x y ⊎ Differ 0 H x y → Differ 0 H x y
+      go (inl g) = absurd (o (sym (sym (mod-eq_of_lt (omega arith)) ∙ agree_low H x y g ∙ mod-eq_of_lt (omega arith))))
+      go (inr d) = d
+
   written : (p : List ℕ × ℕ × ℕ × ℕ) (level' size' : ℕ → ℕ) (fs' : List ℕ) → Live N H n level' size' p.0 p.1 fs' (p.3 ∷ E) → p.2 ≡ length fs'
       → ((e : ℕ) → 0 < count e E → (k y : ℕ) → k ≤ H → y < n → walk k H p.0 e y ≡ walk k H ws e y)
       → ((k y : ℕ) → k ≤ H → y < n → Differ k H x y → walk k H p.0 p.3 y ≡ walk k H ws old y)
@@ -175,7 +170,7 @@ module _ (N H n : ℕ) (small : N ≤ none) (cover : n ≤ 2 ^ H) (level size : 
     new_read = read_at-walk H p.0 p.3 x ∙ vnew;
     old_reads = λ y b o.
         let K = at old y old_in b 0 (omega arith) in
-        let d = differs H n x y cover bx b o in
+        let d = differs y b o in
         read_at-walk H p.0 p.3 y ∙ ap (value p.0) (olds 0 y (omega arith) b d)
         ∙ vold _ K.inside K.in_use (λ t. d.3 ((own 0 old y (omega arith) b old_in t).1 d.0 d.1 d.2)) ∙ sym (read_at-walk H ws old y);
     labels = labels;
@@ -185,9 +180,6 @@ module _ (N H n : ℕ) (small : N ≤ none) (cover : n ≤ 2 ^ H) (level size : 
 
   -- ---- every node of the path has one holder
 
-  value_walks : (q k e y : ℕ) → walk k H (set_value ws q v) e y ≡ walk k H ws e y
-  value_walks q k e y = walk_same ws (set_value ws q v) k H e y (λ m _ _ b. (unfold child in cc (set_value-left ws q v (walk m H ws e y), set_value-right ws q v (walk m H ws e y))))
-
   module _ (c : k ≡ length fs) (A : Alone H ws old x 0) where
     leaf : Covers N level size ws 0 x (walk 0 H ws old x)
     leaf = on 0 (omega arith)
@@ -196,7 +188,7 @@ module _ (N H n : ℕ) (small : N ≤ none) (cover : n ≤ 2 ^ H) (level size : 
     whole =
         let q = walk 0 H ws old x in
         let ws' = set_value ws q v in
-        let walks = value_walks q in
+        let walks : (k e y : ℕ) → walk k H ws' e y ≡ walk k H ws e y = (λ k e y. walk_same ws ws' k H e y (λ m _ _ b. (unfold child in cc (set_value-left ws q v (walk m H ws e y), set_value-right ws q v (walk m H ws e y))))) in
         written (ws', free, k, old) level size fs
         (record { inv = inv_value N H level size ws ws' (length-set_value ws q v) q L.inv leaf.in_use leaf.at_level (set_value-refcount ws q v) (set_value-left ws q v) (set_value-right ws q v) (set_value_other ws q v); roots = L.roots })
         c
@@ -336,19 +328,13 @@ module _ (N H n : ℕ) (small : N ≤ none) (cover : n ≤ 2 ^ H) (level size : 
         ];
       }
 
-      new_walk : walk 0 H ws₂ free x ≡ walk 0 m P.0 free x
-      new_walk = walks 0 free x ∙ ap (λ l. walk 0 l P.0 free x) (sym whole)
-
-      whole_leaf : walk 0 H ws₂ free x ≡ get_or fs m 0
-      whole_leaf = new_walk ∙ M.new_leaf x (agree_refl 0 m x)
-
       whole_new : Written N H n level size ws E old x v (ws₂, P.1, k - suc m, free)
       whole_new = written (ws₂, P.1, k - suc m, free) M.level' M.size' S.fs live-top S.counted
           (λ e p i y h b. walks i e y ∙ (kept e (later e p)).nodes i y h b)
           (λ i y h b d. walks i free y ∙ subst (λ l. walk i l P.0 free y ≡ walk i l ws old y) whole
           (M.old_walk i y (omega arith) (among_old y b) (d.0, d.1, omega (arith, d.2), d.3) ∙ ap (λ w. walk i m ws w y) is_old))
           (λ i e y h b p q. absurd (none_new i (omega arith) e y p b (q ∙ walks i free x ∙ ap (λ l. walk i l P.0 free x) (sym whole))))
-          ((same₂ _).same-value ∙ ap (value P.0) new_walk ∙ M.new_value x (agree_refl 0 m x))
+          ((same₂ _).same-value ∙ ap (value P.0) (walks 0 free x ∙ ap (λ l. walk 0 l P.0 free x) (sym whole)) ∙ M.new_value x (agree_refl 0 m x))
           (λ j b p _. (same₂ j).same-value ∙ (M.grows.keeps j b p).same-value)
           labels₂
           (length-set_refcount P.0 s _ ∙ M.grows.len)
@@ -482,9 +468,6 @@ module _ (N H n : ℕ) (small : N ≤ none) (cover : n ≤ 2 ^ H) (level size : 
                 ∙ sym (walk_split i m H ws old y c (omega arith)))
           ]
 
-      part_leaf : walk 0 H ws₃ old x ≡ get_or fs m 0
-      part_leaf = on_new x bx (agree_refl (suc m) H x) refl 0 (omega arith) ∙ M.new_leaf x (agree_refl 0 m x)
-
       part_new : Written N H n level size ws E old x v (ws₃, P.1, k - suc m, old)
       part_new = written (ws₃, P.1, k - suc m, old) M.level' M.size' M.fs' live_low fewer
           (λ e p i y h b. past e y (later e p) b i h (λ t. absurd (omega (arith, (alone N H n small cover old x L bx (suc m) low (λ j a. F.above j (omega arith)) e y (later e p) b t).0))))
@@ -507,13 +490,13 @@ module _ (N H n : ℕ) (small : N ≤ none) (cover : n ≤ 2 ^ H) (level size : 
   Goal : List ℕ × ℕ × ℕ × ℕ → Type 0
   Goal p = Written N H n level size ws E old x v p × (p.2 + rest H ws old x ≡ k)
 
-  written_from_lem : k ≡ length fs → rest H ws old x ≤ k → length E + N * 2 + 4 < 2 ^ 32 → (p : ℕ × ℕ × ℕ) → Found p → rest H ws old x ≡ p.0 → Goal (write_from p.0 p.1 p.2 H ws free k old x v)
+  written_from : k ≡ length fs → rest H ws old x ≤ k → length E + N * 2 + 4 < 2 ^ 32 → (p : ℕ × ℕ × ℕ) → Found p → rest H ws old x ≡ p.0 → Goal (write_from p.0 p.1 p.2 H ws free k old x v)
   unfolding renew write_from Goal
-  written_from_lem c enough few (r, i, a) (inl w) e = subst Goal (sym at_leaf) (whole c w.0, omega (arith, e, w.1))
+  written_from c enough few (r, i, a) (inl w) e = subst Goal (sym at_leaf) (whole c w.0, omega (arith, e, w.1))
     where
       at_leaf : write_from r i a H ws free k old x v ≡ (set_value ws (walk 0 H ws old x) v, free, k, old)
       at_leaf = rw (w.1, w.2)
-  written_from_lem c enough few (r, i, a) (inr w) e = elim (ℕ_discrete w.0 H) [
+  written_from c enough few (r, i, a) (inr w) e = elim (ℕ_discrete w.0 H) [
     | yes t ↦ subst Goal (sym (rw (w.2, w.3) (from_root (walk w.0 H ws old x) a H ws free k old x v w.0 t)))
         (whole_new w.0 w.1 c (omega (arith, e, w.2)) few t, omega (arith, e, w.2))
     | no t ↦ (let low : w.0 < H = omega (arith, w.1.low) in
@@ -523,23 +506,7 @@ module _ (N H n : ℕ) (small : N ≤ none) (cover : n ≤ 2 ^ H) (level size : 
 
   pub live-write : k ≡ length fs → rest H ws old x ≤ k → length E + N * 2 + 4 < 2 ^ 32 → Written N H n level size ws E old x v (write H ws free k old x v) × ((write H ws free k old x v).2 + rest H ws old x ≡ k)
   unfolding write Goal
-  live-write c enough few = written_from_lem c enough few (first_shared H ws old old x) found (unfold rest in refl)
-
-  -- ---- R-10: the leaf of x afterwards
-
-  leaf_from : k ≡ length fs → rest H ws old x ≤ k → length E + N * 2 + 4 < 2 ^ 32 → (p : ℕ × ℕ × ℕ) → Found p → rest H ws old x ≡ p.0
-      → let w = write_from p.0 p.1 p.2 H ws free k old x v in walk 0 H w.0 w.3 x ≡ leaf_written fs p
-  unfolding renew write_from
-  leaf_from c enough few (r, i, a) (inl w) e = rw (w.1, w.2) (value_walks (walk 0 H ws old x) 0 old x)
-  leaf_from c enough few (r, i, a) (inr w) e = rw (w.2, w.3) (elim (ℕ_discrete w.0 H) [
-    | yes t ↦ rw (from_root (walk w.0 H ws old x) a H ws free k old x v w.0 t) (whole_leaf w.0 w.1 c (omega (arith, e, w.2)) few t)
-    | no t ↦ (let low : w.0 < H = omega (arith, w.1.low) in
-        rw (w.4 low, from_below (walk w.0 H ws old x) (walk (suc w.0) H ws old x) H ws free k old x v w.0 t) (part_leaf w.0 w.1 c (omega (arith, e, w.2)) few low))
-  ])
-
-  pub live_leaf : k ≡ length fs → rest H ws old x ≤ k → length E + N * 2 + 4 < 2 ^ 32 → (let p = write H ws free k old x v in leaf_of H p.0 p.3 x) ≡ leaf_written fs (first_shared H ws old old x)
-  unfolding write
-  live_leaf c enough few = sym (walk_leaf H _ _ x) ∙ leaf_from c enough few (first_shared H ws old old x) found (unfold rest in refl)
+  live-write c enough few = written_from c enough few (first_shared H ws old old x) found (unfold rest in refl)
 
   -- ---- what the code asks: the write meets nodes only
 

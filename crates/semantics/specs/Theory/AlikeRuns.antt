@@ -19,7 +19,7 @@ use Rattle.semantics.specs.ConvertDemands.{SameCall, SameCalls, in_pool}
 use Rattle.semantics.specs.Theory.Pools.{PoolLaws}
 use Rattle.semantics.specs.Theory.FourPools.{four_pools}
 use Rattle.semantics.specs.Theory.TwoPools.{two_pools}
-use Rattle.semantics.specs.Theory.AllWords.{started-words, call_words}
+use Rattle.semantics.specs.Theory.AllWords.{started_words, call_words}
 use Rattle.semantics.specs.Theory.Images.{Refuses, refused_calls, refused_save, save_taken, load_taken, load_pool, load_leaves-none}
 use Rattle.semantics.specs.Theory.SoundRuns.{call_nodes}
 use Rattle.semantics.specs.Theory.Starts.{started_fit}
@@ -333,8 +333,8 @@ alike_begun b ws z w w₂ m =
       state = O.state;
       standing = λ q. record {
         match = O.after z₂;
-        words = started-words two_words two_pools (in_pool b ws) z₂ w.0 w₂;
-        words₄ = (started-words four_words four_pools b z w.0 w.1).pool;
+        words = started_words two_words two_pools (in_pool b ws) z₂ w.0 w₂;
+        words₄ = (started_words four_words four_pools b z w.0 w.1).pool;
         nodes = ap (λ (t : State). (numbers_of t).nodes) O.state ∙ ap (λ (o : StartResult). (numbers_of o.state).nodes) F.result;
       };
       none = λ q. absurd (true≢false (sym q));

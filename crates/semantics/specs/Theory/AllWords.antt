@@ -268,8 +268,8 @@ module _ (layout : Layout) (pools : PoolLaws layout) where
       }
 
   -- an accepted start, whatever the lent parts hold
-  pub started-words : (b : Start) → (start_result layout b).result ≡ 0 → Words b.values → Words b.pool → StateWords (after_start layout b).state (after_start layout b).pool
-  started-words b e h k =
+  pub started_words : (b : Start) → (start_result layout b).result ≡ 0 → Words b.values → Words b.pool → StateWords (after_start layout b).state (after_start layout b).pool
+  started_words b e h k =
       let A = started_fit layout b.parts b.workers b.values b.pool e in
       subst (λ (o : StartResult). StateWords o.state o.pool) (sym A.result) (start-words b.workers b.values b.parts.frames b.pool h k A.fit)
 

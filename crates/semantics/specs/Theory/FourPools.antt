@@ -51,16 +51,16 @@ module _ (N n : ℕ) (most : N ≤ 16384) (some : 0 < n) where
 
   -- ---- the operations on a live pool
 
-  pub spawned : (ws : List ℕ) (free k : ℕ) (F : Frame) (Fs : List Frame) → length Fs < max_places → (T : LiveTrees N n ws free k (F ∷ Fs))
+  spawned : (ws : List ℕ) (free k : ℕ) (F : Frame) (Fs : List Frame) → length Fs < max_places → (T : LiveTrees N n ws free k (F ∷ Fs))
       → Spawned N (height n) n T.level T.size ws free T.fs (roots_of (F ∷ Fs)) F.0 (retain ws F.0)
   spawned ws free k F Fs few T =
       live-spawn N (height n) n small (height_covers n) T.live (omega (arith, length-map (F ∷ Fs) (λ (K : Frame). K.0))) F.0 (root_of_lem F (F ∷ Fs) (here refl))
 
-  pub returned : (ws : List ℕ) (free k : ℕ) (F : Frame) (Fs : List Frame) → (T : LiveTrees N n ws free k (F ∷ Fs))
+  returned : (ws : List ℕ) (free k : ℕ) (F : Frame) (Fs : List Frame) → (T : LiveTrees N n ws free k (F ∷ Fs))
       → Returned N (height n) n T.level T.size ws (roots_of Fs) (release (height n) ws free k F.0)
   returned ws free k F Fs T = live_return N (height n) n small (height_covers n) k F.0 (roots_of Fs) T.counted T.live
 
-  pub write_on : (ws : List ℕ) (free k root : ℕ) (h : History) (Fs : List Frame) (x v : ℕ) → length Fs < max_places → x < n → rest (height n) ws root x ≤ k → (T : LiveTrees N n ws free k ((root, h) ∷ Fs))
+  write_on : (ws : List ℕ) (free k root : ℕ) (h : History) (Fs : List Frame) (x v : ℕ) → length Fs < max_places → x < n → rest (height n) ws root x ≤ k → (T : LiveTrees N n ws free k ((root, h) ∷ Fs))
       → Written N (height n) n T.level T.size ws (roots_of Fs) root x v (write (height n) ws free k root x v) × ((write (height n) ws free k root x v).2 + rest (height n) ws root x ≡ k)
   write_on ws free k root h Fs x v few bx enough T =
       live-write N (height n) n small (height_covers n) T.level T.size ws free k T.fs (roots_of Fs) root x v T.live bx T.counted enough

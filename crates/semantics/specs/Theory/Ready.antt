@@ -94,7 +94,7 @@ module _ {workers first : ℕ} {ds : List ℕ} {fs : List FrameRecord} (F : Fram
       omega (arith, short, most, list_length ds w)
 
   -- the bottom frame of a deque
-  pub bottom-lives : (w : ℕ) → w < 8 → 0 < size ds w → (bottom ds w < length fs) × Lives fs (bottom ds w)
+  bottom-lives : (w : ℕ) → w < 8 → 0 < size ds w → (bottom ds w < length fs) × Lives fs (bottom ds w)
   unfolding bottom
   bottom-lives w b h = F.hold_live_lem w b (size ds w - 1) (omega arith)
 
@@ -124,13 +124,13 @@ module _ {workers first : ℕ} {ds : List ℕ} {fs : List FrameRecord} (F : Fram
   ]
 
 -- a live frame's root is one of the roots
-pub root_counted : (fs : List FrameRecord) (c p : ℕ) → p < c → Lives fs p → 0 < count (frame_at fs p).root (roots_below fs c)
+root_counted : (fs : List FrameRecord) (c p : ℕ) → p < c → Lives fs p → 0 < count (frame_at fs p).root (roots_below fs c)
 root_counted fs c p b l =
     let i = (frame_at fs p).root in
     let one : cond (lives fs p) (δ i (frame_at fs p).root) 0 ≡ 1 = rw (eq-eqb (frame_at fs p).live 1 l) (δ_same i) in
     omega (arith, roots_below_lem i c fs, sum_ge c p (λ q. cond (lives fs q) (δ i (frame_at fs q).root) 0) b, one)
 
-pub roots_few : (fs : List FrameRecord) (c : ℕ) → length (roots_below fs c) ≤ c
+roots_few : (fs : List FrameRecord) (c : ℕ) → length (roots_below fs c) ≤ c
 unfolding roots_below
 roots_few fs zero = omega arith
 roots_few fs (suc c) = omega (arith, length-append (roots_below fs c) (cond (lives fs c) ((frame_at fs c).root ∷ []) []), one (lives fs c), roots_few fs c)
@@ -179,7 +179,7 @@ module _ (c : Core) (K : Kept two_words c) where
       let F = packed_four n N S.numbers.splitters_positive few_nodes c.pool first (live_roots c.frames) S.numbers.room S.pool in
       sound-live N (height n) n small S.numbers.splitters_positive (height_covers n) (pool_fact n N ws₄ first (live_roots c.frames) F.0.room F.1)
 
-  pub acting_root : (w : ℕ) → w < 8 → 0 < size c.deques w → 0 < count (acting_in c w).root (live_roots c.frames)
+  acting_root : (w : ℕ) → w < 8 → 0 < size c.deques w → 0 < count (acting_in c w).root (live_roots c.frames)
   acting_root w b h = (let r = bottom-lives S.frames S.numbers.workers_le most_places w b h in root_counted c.frames (length c.frames) (bottom c.deques w) r.0 r.1)
 
   -- the ends upward, by the plain machine that follows the core

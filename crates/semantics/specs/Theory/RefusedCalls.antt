@@ -58,7 +58,7 @@ Same s ws s' ws' = (s' ≡ s) × (ws' ≡ ws)
 
 module _ (layout : Layout) where
   module _ (s : State) (ws work : List ℕ) where
-    pub outside_checked_keeps : Fits s → (k : Checked) (d : Decoded) → (words_in (outside_checked layout k s ws work d).result).0 < 100
+    outside_checked_keeps : Fits s → (k : Checked) (d : Decoded) → (words_in (outside_checked layout k s ws work d).result).0 < 100
         → Same s ws (outside_checked layout k s ws work d).state (outside_checked layout k s ws work d).pool
     outside_checked_keeps F NoRoom d h = (refl, refl)
     outside_checked_keeps F Checked.Unsound d h = (refl, refl)
@@ -155,7 +155,7 @@ Cleared s work r work' = work' ≡ cond (before_check r) work (cleared (numbers_
 
 module _ (layout : Layout) where
   module _ (s : State) (ws work : List ℕ) where
-    pub outside_checked_work : (k : Checked) (d : Decoded) → Cleared s work (words_in (outside_checked layout k s ws work d).result).0 (outside_checked layout k s ws work d).work
+    outside_checked_work : (k : Checked) (d : Decoded) → Cleared s work (words_in (outside_checked layout k s ws work d).result).0 (outside_checked layout k s ws work d).work
     outside_checked_work NoRoom d = refl
     outside_checked_work Checked.Unsound d = refl
     outside_checked_work (Sound n) d =
@@ -168,7 +168,7 @@ module _ (layout : Layout) where
     outside_work d = elim (decided (fits s)) [ inl e ↦ rw e (outside_checked_work (checked_state layout s ws work) d) | inr e ↦ rw e refl ]
 
     module _ (bytes rs : List ℕ) where
-      pub tape-checked_work : (k : Checked) → Cleared s work (tape_checked layout k s ws work bytes rs).result (tape_checked layout k s ws work bytes rs).work
+      tape-checked_work : (k : Checked) → Cleared s work (tape_checked layout k s ws work bytes rs).result (tape_checked layout k s ws work bytes rs).work
       tape-checked_work NoRoom = refl
       tape-checked_work Checked.Unsound = refl
       tape-checked_work (Sound n) = refl

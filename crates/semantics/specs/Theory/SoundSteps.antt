@@ -170,10 +170,10 @@ module _ (layout : Layout) where
       values = r.values;
     }
 
-    pub tree-nodes : FrameTree M → FrameTree (with_nodes M N)
+    tree-nodes : FrameTree M → FrameTree (with_nodes M N)
     tree-nodes t = record { disjoint = t.disjoint; rooted = t.rooted }
 
-    pub deques-nodes : DequeInvariant M → DequeInvariant (with_nodes M N)
+    deques-nodes : DequeInvariant M → DequeInvariant (with_nodes M N)
     deques-nodes d = record { shape = d.shape; active = d.active; waits = d.waits }
 
 module _ (layout : Layout) (pools : PoolLaws layout) where
@@ -204,7 +204,7 @@ module _ (layout : Layout) (pools : PoolLaws layout) where
     abbrev pub lacks : Step → Bool
     lacks st = ltb (free_nodes M) (rest_in layout c (Valid st))
 
-    pub same_room : (st : Step) → SameRoom layout (with_room M (lacks st)) c st
+    same_room : (st : Step) → SameRoom layout (with_room M (lacks st)) c st
     same_room (Spawn w) = tt
     same_room (Return w) = tt
     same_room (Steal w v) = tt
@@ -223,7 +223,7 @@ module _ (layout : Layout) (pools : PoolLaws layout) where
     abbrev pub related_roomed : (st : Step) → Relates layout (pools.LiveTrees c.head.numbers.nodes M.splitters) (with_room M (lacks st)) c
     related_roomed st = relates_nodes layout M (with_room M (lacks st)).nodes K.related
 
-    pub links-roomed : (st : Step) → Links c.frames (related_roomed st).at (live M)
+    links-roomed : (st : Step) → Links c.frames (related_roomed st).at (live M)
     unfolding relates_nodes
     links-roomed st = K.links
 

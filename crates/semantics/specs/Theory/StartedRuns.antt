@@ -57,7 +57,7 @@ use Rattle.semantics.specs.Theory.Viewed.{Viewed}
 use Rattle.semantics.specs.Theory.ViewedStart.{start-links, viewed_start}
 use Rattle.semantics.specs.Theory.TotalWords.{view_totals}
 use Rattle.semantics.specs.Theory.Runs.{Laws, KeptBy, Fed, core-counted, outside_long, call_follows}
-use Rattle.semantics.specs.Theory.AllWords.{started-words}
+use Rattle.semantics.specs.Theory.AllWords.{started_words}
 use Rattle.semantics.specs.Theory.WholeRuns.{RunKept, kept_begun, kept_calls, fed_calls, fed_sound, answers_by_lem}
 use Rattle.semantics.specs.Theory.ValidRecords.{valids, trace-same, machine_plain, views_plain, returned_plain, valids_valid, answers_plain, all-accepted}
 use Rattle.soundness.specs.Layout.{Layout}
@@ -245,7 +245,7 @@ module _ (layout : Layout) (pools : PoolLaws layout) where
       let K = begins layout pools b A.lengths A.fit in
       let N = whole_nodes layout b.pool in
       kept_calls layout pools from_start (Follows layout pools) (laws layout pools) (plain_begun layout b) N calls (begun (after_start layout b)) All-words
-      (kept_begun layout pools from_start (Follows layout pools) (laws layout pools) (plain_begun layout b) N (after_start layout b) K (started-words layout pools b e w.0 w.1) (ap (λ (g : StateAndPool). (numbers_of g.state).nodes) K.held ∙ K.follows.nodes))
+      (kept_begun layout pools from_start (Follows layout pools) (laws layout pools) (plain_begun layout b) N (after_start layout b) K (started_words layout pools b e w.0 w.1) (ap (λ (g : StateAndPool). (numbers_of g.state).nodes) K.held ∙ K.follows.nodes))
 
   pub demand2 : (b : Start) (calls : List Call) → (start_result layout b).result ≡ 0 → StartWords b → AllCallWords calls → Demand2 layout b calls
   demand2 b calls e w All-words = answers_by_lem layout pools from_start (Follows layout pools) (laws layout pools) (plain_begun layout b) (whole_nodes layout b.pool) (run_from layout b calls) (run_kept b calls e w All-words)

@@ -67,24 +67,24 @@ module _ (layout : Layout) (pools : PoolLaws layout) where
     as_accepted : (T : StartResult → Type 0) → T (start_accepted layout workers vs fs ws) → T (start_with layout workers vs fs ws)
     as_accepted T x = subst T (sym started_accepts.result) x
 
-    pub started-checked : (work : List ℕ) → whole_nodes layout ws ≤ length work
+    pub started_checked : (work : List ℕ) → whole_nodes layout ws ≤ length work
         → let o = start_with layout workers vs fs ws in checked_state layout o.state o.pool work ≡ Sound (chain_free layout o.state o.pool)
-    started-checked work long =
+    started_checked work long =
         as_accepted (λ o. checked_state layout o.state o.pool work ≡ Sound (chain_free layout o.state o.pool))
         (check_long layout pools first_carried work (le-leb (whole_nodes layout ws) (length work) long) ∙ ap Sound (sym (is_sound_lem layout pools first_carried).1))
 
-    pub started-fits : Fits (start_with layout workers vs fs ws).state
-    started-fits = as_accepted (λ o. Fits o.state) (core-fits layout pools first_carried)
+    pub started_fits : Fits (start_with layout workers vs fs ws).state
+    started_fits = as_accepted (λ o. Fits o.state) (core-fits layout pools first_carried)
 
-    pub started-nodes : (numbers_of (start_with layout workers vs fs ws).state).nodes ≡ whole_nodes layout ws
-    started-nodes = as_accepted (λ o. (numbers_of o.state).nodes ≡ whole_nodes layout ws) refl
+    pub started_nodes : (numbers_of (start_with layout workers vs fs ws).state).nodes ≡ whole_nodes layout ws
+    started_nodes = as_accepted (λ o. (numbers_of o.state).nodes ≡ whole_nodes layout ws) refl
 
     pub started_kept : let o = start_with layout workers vs fs ws in Kept layout (core_of o.state o.pool (chain_free layout o.state o.pool))
     started_kept =
         let o = start_with layout workers vs fs ws in
         let work : List ℕ = replicate (whole_nodes layout ws) 0 in
         let long : whole_nodes layout ws ≤ length work = omega (arith, length-replicate {A = ℕ} (whole_nodes layout ws) 0) in
-        kept_start layout (numbers_of o.state) (totals_of o.state) o.state.deques o.state.frames o.pool work (chain_free layout o.state o.pool) (totals_long o.state started-fits) started-fits.deques (sym (started-checked work long))
+        kept_start layout (numbers_of o.state) (totals_of o.state) o.state.deques o.state.frames o.pool work (chain_free layout o.state o.pool) (totals_long o.state started_fits) started_fits.deques (sym (started_checked work long))
 
 -- ---- bounds
 

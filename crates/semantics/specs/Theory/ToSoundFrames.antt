@@ -196,12 +196,12 @@ module _ (layout : Layout) where
 
       main_fact : (K : List Frame) → K ≡ L → NoFrame c.deques fs ⊎ OnlyMain fs
       main_fact [] e = inl (
-        (λ p b l. none_in_lem (live-frame p b l).0 (live-frame p b l).1),
-        λ w b. deque-size w b ∙ empty (deque M w) (λ f m. none_in_lem f (in_live w f m)),
+        (λ p b l. none_in (live-frame p b l).0 (live-frame p b l).1),
+        λ w b. deque-size w b ∙ empty (deque M w) (λ f m. none_in f (in_live w f m)),
       )
         where
-          none_in_lem : (f : Frame) → In f L → ⊥
-          none_in_lem f m = not-in-nil (subst (In f) (sym e) m)
+          none_in : (f : Frame) → In f L → ⊥
+          none_in f m = not-in-nil (subst (In f) (sym e) m)
 
           empty : (d : List Frame) → ((f : Frame) → In f d → ⊥) → length d ≡ 0
           empty [] h = refl

@@ -234,8 +234,3 @@ two_pools = record {
 pub good_unpacking : {N n : ℕ} {ws : List ℕ} {free k : ℕ} {Fs : List Frame} → Good₂ N n ws free k Fs → two_pools.GoodTrees N n ws free k Fs
 unfolding two_pools
 good_unpacking T = T
-
--- R-10: a live pool unpacks to a live one
-pub live_unpacking : {N n : ℕ} {ws : List ℕ} {free k : ℕ} {Fs : List Frame} → two_pools.LiveTrees N n ws free k Fs → Live₂ N n ws free k Fs
-unfolding two_pools
-live_unpacking T = T

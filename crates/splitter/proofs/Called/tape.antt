@@ -32,17 +32,14 @@ use denote.Triple.Statement.{Contract, Triple}
 use denote.Triple.Call.{calls_at, calls_at_last}
 use denote.Triple.Clauses.{ensured, lasts}
 use denote.Triple.Walked.{says}
-use Rattle.semantics.specs.Promises.{parts, IsTapeWith}
-use Rattle.semantics.specs.Remembering.{tape_remembering}
-use Rattle.soundness.specs.Layout.{two_words}
+use Rattle.semantics.specs.Entries.{tape_on}
+use Rattle.semantics.specs.Promises.{parts, IsTape}
 use Rattle.frames.specs.contracts.Frame as M-Frame
 use Rattle.frames.proofs.Frame.TheLaws as L-Frame
 use Rattle.frames.specs.declared.Frame.{Frame}
-use Rattle.engine.specs.contracts.Taped as M-Taped
-use Rattle.engine.proofs.Taped.TheLaws as L-Taped
-use Rattle.engine.specs.declared.Taped.{Taped}
 use Rattle.frames.proofs.Lent.{at_list, Mine, Yours, Lent, Shown, lend, home, show, back, give}
 use Rattle.engine.specs.contracts.tape as callee'
+use Rattle.soundness.specs.Layout.{two_words}
 
 abbrev R-Frame : RattleType
 R-Frame = M-Frame.the_row
@@ -50,60 +47,54 @@ R-Frame = M-Frame.the_row
 abbrev val-Frame : Frame → Val
 val-Frame d = LL.val M-Frame.the_type L-Frame.the_laws d
 
-abbrev R-Taped : RattleType
-R-Taped = M-Taped.the_row
-
-abbrev val-Taped : Taped → Val
-val-Taped d = LL.val M-Taped.the_type L-Taped.the_laws d
-
 module _ {M : Type 1} {𝓤 : Ura M} (𝓛 : Logic 𝓤) (mem : Memory → SProp 𝓤) (run : Routine → Fun 𝓤) where
   abbrev pub Asked : Contract 𝓤
   Asked = triple_of 𝓛 callee'.signature (callee'.spec 𝓛 mem run)
 
-  abbrev pub to-step-g : (ν-numbers : ℕ) (δ-numbers : GName) (ν-deques : ℕ) (δ-deques : GName) (ν-frames : ℕ) (δ-frames : GName) (ν-memory : ℕ) (δ-memory : GName) (ν-pool : ℕ) (δ-pool : GName) (ν-work : ℕ) (δ-work : GName) (κ-bytes : Lft) (q-bytes : Share) (γ-bytes : GName) (ν-answers : ℕ) (δ-answers : GName) (b-numbers o-numbers n-numbers : ℕ) (numbers : List ℕ) (b-deques o-deques n-deques : ℕ) (deques : List ℕ) (b-frames o-frames n-frames : ℕ) (frames : List Frame) (b-memory o-memory n-memory : ℕ) (memory : List ℕ) (b-pool o-pool n-pool : ℕ) (pool : List ℕ) (b-work o-work n-work : ℕ) (work : List ℕ) (b-bytes o-bytes n-bytes : ℕ) (bytes : List ℕ) (b-answers o-answers n-answers : ℕ) (answers : List ℕ) → Asked.Ghost
-  to-step-g ν-numbers δ-numbers ν-deques δ-deques ν-frames δ-frames ν-memory δ-memory ν-pool δ-pool ν-work δ-work κ-bytes q-bytes γ-bytes ν-answers δ-answers b-numbers o-numbers n-numbers numbers b-deques o-deques n-deques deques b-frames o-frames n-frames frames b-memory o-memory n-memory memory b-pool o-pool n-pool pool b-work o-work n-work work b-bytes o-bytes n-bytes bytes b-answers o-answers n-answers answers = ((((ν-numbers ∷ []), ((ν-deques ∷ []), ((ν-frames ∷ []), ((ν-memory ∷ []), ((ν-pool ∷ []), ((ν-work ∷ []), (κ-bytes, ((ν-answers ∷ []), tt)))))))), (full_share, (full_share, (full_share, (full_share, (full_share, (full_share, (q-bytes, (full_share, tt)))))))), tt, (at_list b-numbers o-numbers δ-numbers numbers, (at_list b-deques o-deques δ-deques deques, (at_list b-frames o-frames δ-frames frames, (at_list b-memory o-memory δ-memory memory, (at_list b-pool o-pool δ-pool pool, (at_list b-work o-work δ-work work, (at_list b-bytes o-bytes γ-bytes bytes, (at_list b-answers o-answers δ-answers answers, tt)))))))), (slice_val (b-numbers, o-numbers) n-numbers ∷ [], (slice_val (b-deques, o-deques) n-deques ∷ [], (slice_val (b-frames, o-frames) n-frames ∷ [], (slice_val (b-memory, o-memory) n-memory ∷ [], (slice_val (b-pool, o-pool) n-pool ∷ [], (slice_val (b-work, o-work) n-work ∷ [], (slice_val (b-bytes, o-bytes) n-bytes ∷ [], (slice_val (b-answers, o-answers) n-answers ∷ [], tt))))))))), tt)
+  abbrev pub to-step-g : (ν-numbers : ℕ) (δ-numbers : GName) (ν-deques : ℕ) (δ-deques : GName) (ν-frames : ℕ) (δ-frames : GName) (ν-pool : ℕ) (δ-pool : GName) (ν-work : ℕ) (δ-work : GName) (κ-bytes : Lft) (q-bytes : Share) (γ-bytes : GName) (ν-answers : ℕ) (δ-answers : GName) (b-numbers o-numbers n-numbers : ℕ) (numbers : List ℕ) (b-deques o-deques n-deques : ℕ) (deques : List ℕ) (b-frames o-frames n-frames : ℕ) (frames : List Frame) (b-pool o-pool n-pool : ℕ) (pool : List ℕ) (b-work o-work n-work : ℕ) (work : List ℕ) (b-bytes o-bytes n-bytes : ℕ) (bytes : List ℕ) (b-answers o-answers n-answers : ℕ) (answers : List ℕ) → Asked.Ghost
+  to-step-g ν-numbers δ-numbers ν-deques δ-deques ν-frames δ-frames ν-pool δ-pool ν-work δ-work κ-bytes q-bytes γ-bytes ν-answers δ-answers b-numbers o-numbers n-numbers numbers b-deques o-deques n-deques deques b-frames o-frames n-frames frames b-pool o-pool n-pool pool b-work o-work n-work work b-bytes o-bytes n-bytes bytes b-answers o-answers n-answers answers = ((((ν-numbers ∷ []), ((ν-deques ∷ []), ((ν-frames ∷ []), ((ν-pool ∷ []), ((ν-work ∷ []), (κ-bytes, ((ν-answers ∷ []), tt))))))), (full_share, (full_share, (full_share, (full_share, (full_share, (q-bytes, (full_share, tt))))))), tt, (at_list b-numbers o-numbers δ-numbers numbers, (at_list b-deques o-deques δ-deques deques, (at_list b-frames o-frames δ-frames frames, (at_list b-pool o-pool δ-pool pool, (at_list b-work o-work δ-work work, (at_list b-bytes o-bytes γ-bytes bytes, (at_list b-answers o-answers δ-answers answers, tt))))))), (slice_val (b-numbers, o-numbers) n-numbers ∷ [], (slice_val (b-deques, o-deques) n-deques ∷ [], (slice_val (b-frames, o-frames) n-frames ∷ [], (slice_val (b-pool, o-pool) n-pool ∷ [], (slice_val (b-work, o-work) n-work ∷ [], (slice_val (b-bytes, o-bytes) n-bytes ∷ [], (slice_val (b-answers, o-answers) n-answers ∷ [], tt)))))))), tt)
 
-  pub goes-step-g : (ν-numbers : ℕ) (δ-numbers : GName) (ν-deques : ℕ) (δ-deques : GName) (ν-frames : ℕ) (δ-frames : GName) (ν-memory : ℕ) (δ-memory : GName) (ν-pool : ℕ) (δ-pool : GName) (ν-work : ℕ) (δ-work : GName) (κ-bytes : Lft) (q-bytes : Share) (γ-bytes : GName) (ν-answers : ℕ) (δ-answers : GName) (b-numbers o-numbers n-numbers : ℕ) (numbers : List ℕ) (b-deques o-deques n-deques : ℕ) (deques : List ℕ) (b-frames o-frames n-frames : ℕ) (frames : List Frame) (b-memory o-memory n-memory : ℕ) (memory : List ℕ) (b-pool o-pool n-pool : ℕ) (pool : List ℕ) (b-work o-work n-work : ℕ) (work : List ℕ) (b-bytes o-bytes n-bytes : ℕ) (bytes : List ℕ) (b-answers o-answers n-answers : ℕ) (answers : List ℕ) → ent 𝓤 (⋆ 𝓛 (‵ (flft (ν-numbers ∷ []) full_share) ∷ ‵ (flft (ν-deques ∷ []) full_share) ∷ ‵ (flft (ν-frames ∷ []) full_share) ∷ ‵ (flft (ν-memory ∷ []) full_share) ∷ ‵ (flft (ν-pool ∷ []) full_share) ∷ ‵ (flft (ν-work ∷ []) full_share) ∷ ‵ (flft κ-bytes q-bytes) ∷ ‵ (flft (ν-answers ∷ []) full_share) ∷ ‵ ((MutSlice (named 0) (ν-numbers ∷ []) u32).own_val (at_list b-numbers o-numbers δ-numbers numbers) (slice_val (b-numbers, o-numbers) n-numbers ∷ [])) ∷ ‵ ((MutSlice (named 0) (ν-deques ∷ []) u32).own_val (at_list b-deques o-deques δ-deques deques) (slice_val (b-deques, o-deques) n-deques ∷ [])) ∷ ‵ ((MutSlice (named 0) (ν-frames ∷ []) R-Frame).own_val (at_list b-frames o-frames δ-frames frames) (slice_val (b-frames, o-frames) n-frames ∷ [])) ∷ ‵ ((MutSlice (named 0) (ν-memory ∷ []) u32).own_val (at_list b-memory o-memory δ-memory memory) (slice_val (b-memory, o-memory) n-memory ∷ [])) ∷ ‵ ((MutSlice (named 0) (ν-pool ∷ []) u32).own_val (at_list b-pool o-pool δ-pool pool) (slice_val (b-pool, o-pool) n-pool ∷ [])) ∷ ‵ ((MutSlice (named 0) (ν-work ∷ []) u32).own_val (at_list b-work o-work δ-work work) (slice_val (b-work, o-work) n-work ∷ [])) ∷ ‵ ((ShrSlice (named 0) κ-bytes u8).own_val (at_list b-bytes o-bytes γ-bytes bytes) (slice_val (b-bytes, o-bytes) n-bytes ∷ [])) ∷ ‵ ((MutSlice (named 0) (ν-answers ∷ []) u32).own_val (at_list b-answers o-answers δ-answers answers) (slice_val (b-answers, o-answers) n-answers ∷ [])) ∷ [])) (Asked.pre (to-step-g ν-numbers δ-numbers ν-deques δ-deques ν-frames δ-frames ν-memory δ-memory ν-pool δ-pool ν-work δ-work κ-bytes q-bytes γ-bytes ν-answers δ-answers b-numbers o-numbers n-numbers numbers b-deques o-deques n-deques deques b-frames o-frames n-frames frames b-memory o-memory n-memory memory b-pool o-pool n-pool pool b-work o-work n-work work b-bytes o-bytes n-bytes bytes b-answers o-answers n-answers answers))
-  goes-step-g ν-numbers δ-numbers ν-deques δ-deques ν-frames δ-frames ν-memory δ-memory ν-pool δ-pool ν-work δ-work κ-bytes q-bytes γ-bytes ν-answers δ-answers b-numbers o-numbers n-numbers numbers b-deques o-deques n-deques deques b-frames o-frames n-frames frames b-memory o-memory n-memory memory b-pool o-pool n-pool pool b-work o-work n-work work b-bytes o-bytes n-bytes bytes b-answers o-answers n-answers answers = qed 𝓛 (‵ (flft (ν-numbers ∷ []) full_share) ∷ ‵ (flft (ν-deques ∷ []) full_share) ∷ ‵ (flft (ν-frames ∷ []) full_share) ∷ ‵ (flft (ν-memory ∷ []) full_share) ∷ ‵ (flft (ν-pool ∷ []) full_share) ∷ ‵ (flft (ν-work ∷ []) full_share) ∷ ‵ (flft κ-bytes q-bytes) ∷ ‵ (flft (ν-answers ∷ []) full_share) ∷ ‵ ((MutSlice (named 0) (ν-numbers ∷ []) u32).own_val (at_list b-numbers o-numbers δ-numbers numbers) (slice_val (b-numbers, o-numbers) n-numbers ∷ [])) ∷ ‵ ((MutSlice (named 0) (ν-deques ∷ []) u32).own_val (at_list b-deques o-deques δ-deques deques) (slice_val (b-deques, o-deques) n-deques ∷ [])) ∷ ‵ ((MutSlice (named 0) (ν-frames ∷ []) R-Frame).own_val (at_list b-frames o-frames δ-frames frames) (slice_val (b-frames, o-frames) n-frames ∷ [])) ∷ ‵ ((MutSlice (named 0) (ν-memory ∷ []) u32).own_val (at_list b-memory o-memory δ-memory memory) (slice_val (b-memory, o-memory) n-memory ∷ [])) ∷ ‵ ((MutSlice (named 0) (ν-pool ∷ []) u32).own_val (at_list b-pool o-pool δ-pool pool) (slice_val (b-pool, o-pool) n-pool ∷ [])) ∷ ‵ ((MutSlice (named 0) (ν-work ∷ []) u32).own_val (at_list b-work o-work δ-work work) (slice_val (b-work, o-work) n-work ∷ [])) ∷ ‵ ((ShrSlice (named 0) κ-bytes u8).own_val (at_list b-bytes o-bytes γ-bytes bytes) (slice_val (b-bytes, o-bytes) n-bytes ∷ [])) ∷ ‵ ((MutSlice (named 0) (ν-answers ∷ []) u32).own_val (at_list b-answers o-answers δ-answers answers) (slice_val (b-answers, o-answers) n-answers ∷ [])) ∷ []) ∵ nothing ! $ move ! (1 ∷ 2 ∷ 3 ∷ 4 ∷ 5 ∷ 6 ∷ 7 ∷ 8 ∷ 0 ∷ []) $ group ! 9 $ move ! (1 ∷ 2 ∷ 3 ∷ 4 ∷ 5 ∷ 6 ∷ 7 ∷ 8 ∷ 0 ∷ []) $
-      nothing ! $ move ! (8 ∷ 0 ∷ []) $ fjoin ! $ move ! (7 ∷ 0 ∷ []) $ fjoin ! $ move ! (6 ∷ 0 ∷ []) $ fjoin ! $ move ! (5 ∷ 0 ∷ []) $ fjoin ! $ move ! (4 ∷ 0 ∷ []) $ fjoin ! $ move ! (3 ∷ 0 ∷ []) $ fjoin ! $ move ! (2 ∷ 0 ∷ []) $ fjoin ! $ move ! (1 ∷ 0 ∷ []) $ fjoin ! $ move ! (1 ∷ 0 ∷ []) $ join ! $ frame ! $ done !
+  pub goes-step-g : (ν-numbers : ℕ) (δ-numbers : GName) (ν-deques : ℕ) (δ-deques : GName) (ν-frames : ℕ) (δ-frames : GName) (ν-pool : ℕ) (δ-pool : GName) (ν-work : ℕ) (δ-work : GName) (κ-bytes : Lft) (q-bytes : Share) (γ-bytes : GName) (ν-answers : ℕ) (δ-answers : GName) (b-numbers o-numbers n-numbers : ℕ) (numbers : List ℕ) (b-deques o-deques n-deques : ℕ) (deques : List ℕ) (b-frames o-frames n-frames : ℕ) (frames : List Frame) (b-pool o-pool n-pool : ℕ) (pool : List ℕ) (b-work o-work n-work : ℕ) (work : List ℕ) (b-bytes o-bytes n-bytes : ℕ) (bytes : List ℕ) (b-answers o-answers n-answers : ℕ) (answers : List ℕ) → ent 𝓤 (⋆ 𝓛 (‵ (flft (ν-numbers ∷ []) full_share) ∷ ‵ (flft (ν-deques ∷ []) full_share) ∷ ‵ (flft (ν-frames ∷ []) full_share) ∷ ‵ (flft (ν-pool ∷ []) full_share) ∷ ‵ (flft (ν-work ∷ []) full_share) ∷ ‵ (flft κ-bytes q-bytes) ∷ ‵ (flft (ν-answers ∷ []) full_share) ∷ ‵ ((MutSlice (named 0) (ν-numbers ∷ []) u32).own_val (at_list b-numbers o-numbers δ-numbers numbers) (slice_val (b-numbers, o-numbers) n-numbers ∷ [])) ∷ ‵ ((MutSlice (named 0) (ν-deques ∷ []) u32).own_val (at_list b-deques o-deques δ-deques deques) (slice_val (b-deques, o-deques) n-deques ∷ [])) ∷ ‵ ((MutSlice (named 0) (ν-frames ∷ []) R-Frame).own_val (at_list b-frames o-frames δ-frames frames) (slice_val (b-frames, o-frames) n-frames ∷ [])) ∷ ‵ ((MutSlice (named 0) (ν-pool ∷ []) u32).own_val (at_list b-pool o-pool δ-pool pool) (slice_val (b-pool, o-pool) n-pool ∷ [])) ∷ ‵ ((MutSlice (named 0) (ν-work ∷ []) u32).own_val (at_list b-work o-work δ-work work) (slice_val (b-work, o-work) n-work ∷ [])) ∷ ‵ ((ShrSlice (named 0) κ-bytes u8).own_val (at_list b-bytes o-bytes γ-bytes bytes) (slice_val (b-bytes, o-bytes) n-bytes ∷ [])) ∷ ‵ ((MutSlice (named 0) (ν-answers ∷ []) u32).own_val (at_list b-answers o-answers δ-answers answers) (slice_val (b-answers, o-answers) n-answers ∷ [])) ∷ [])) (Asked.pre (to-step-g ν-numbers δ-numbers ν-deques δ-deques ν-frames δ-frames ν-pool δ-pool ν-work δ-work κ-bytes q-bytes γ-bytes ν-answers δ-answers b-numbers o-numbers n-numbers numbers b-deques o-deques n-deques deques b-frames o-frames n-frames frames b-pool o-pool n-pool pool b-work o-work n-work work b-bytes o-bytes n-bytes bytes b-answers o-answers n-answers answers))
+  goes-step-g ν-numbers δ-numbers ν-deques δ-deques ν-frames δ-frames ν-pool δ-pool ν-work δ-work κ-bytes q-bytes γ-bytes ν-answers δ-answers b-numbers o-numbers n-numbers numbers b-deques o-deques n-deques deques b-frames o-frames n-frames frames b-pool o-pool n-pool pool b-work o-work n-work work b-bytes o-bytes n-bytes bytes b-answers o-answers n-answers answers = qed 𝓛 (‵ (flft (ν-numbers ∷ []) full_share) ∷ ‵ (flft (ν-deques ∷ []) full_share) ∷ ‵ (flft (ν-frames ∷ []) full_share) ∷ ‵ (flft (ν-pool ∷ []) full_share) ∷ ‵ (flft (ν-work ∷ []) full_share) ∷ ‵ (flft κ-bytes q-bytes) ∷ ‵ (flft (ν-answers ∷ []) full_share) ∷ ‵ ((MutSlice (named 0) (ν-numbers ∷ []) u32).own_val (at_list b-numbers o-numbers δ-numbers numbers) (slice_val (b-numbers, o-numbers) n-numbers ∷ [])) ∷ ‵ ((MutSlice (named 0) (ν-deques ∷ []) u32).own_val (at_list b-deques o-deques δ-deques deques) (slice_val (b-deques, o-deques) n-deques ∷ [])) ∷ ‵ ((MutSlice (named 0) (ν-frames ∷ []) R-Frame).own_val (at_list b-frames o-frames δ-frames frames) (slice_val (b-frames, o-frames) n-frames ∷ [])) ∷ ‵ ((MutSlice (named 0) (ν-pool ∷ []) u32).own_val (at_list b-pool o-pool δ-pool pool) (slice_val (b-pool, o-pool) n-pool ∷ [])) ∷ ‵ ((MutSlice (named 0) (ν-work ∷ []) u32).own_val (at_list b-work o-work δ-work work) (slice_val (b-work, o-work) n-work ∷ [])) ∷ ‵ ((ShrSlice (named 0) κ-bytes u8).own_val (at_list b-bytes o-bytes γ-bytes bytes) (slice_val (b-bytes, o-bytes) n-bytes ∷ [])) ∷ ‵ ((MutSlice (named 0) (ν-answers ∷ []) u32).own_val (at_list b-answers o-answers δ-answers answers) (slice_val (b-answers, o-answers) n-answers ∷ [])) ∷ []) ∵ nothing ! $ move ! (1 ∷ 2 ∷ 3 ∷ 4 ∷ 5 ∷ 6 ∷ 7 ∷ 0 ∷ []) $ group ! 8 $ move ! (1 ∷ 2 ∷ 3 ∷ 4 ∷ 5 ∷ 6 ∷ 7 ∷ 0 ∷ []) $
+      nothing ! $ move ! (7 ∷ 0 ∷ []) $ fjoin ! $ move ! (6 ∷ 0 ∷ []) $ fjoin ! $ move ! (5 ∷ 0 ∷ []) $ fjoin ! $ move ! (4 ∷ 0 ∷ []) $ fjoin ! $ move ! (3 ∷ 0 ∷ []) $ fjoin ! $ move ! (2 ∷ 0 ∷ []) $ fjoin ! $ move ! (1 ∷ 0 ∷ []) $ fjoin ! $ move ! (1 ∷ 0 ∷ []) $ join ! $ frame ! $ done !
 
-  abbrev pub to-step-s : (ν-numbers : ℕ) (δ-numbers : GName) (ν-deques : ℕ) (δ-deques : GName) (ν-frames : ℕ) (δ-frames : GName) (ν-memory : ℕ) (δ-memory : GName) (ν-pool : ℕ) (δ-pool : GName) (ν-work : ℕ) (δ-work : GName) (ν-bytes : ℕ) (δ-bytes : GName) (ν-answers : ℕ) (δ-answers : GName) (b-numbers o-numbers n-numbers : ℕ) (numbers : List ℕ) (b-deques o-deques n-deques : ℕ) (deques : List ℕ) (b-frames o-frames n-frames : ℕ) (frames : List Frame) (b-memory o-memory n-memory : ℕ) (memory : List ℕ) (b-pool o-pool n-pool : ℕ) (pool : List ℕ) (b-work o-work n-work : ℕ) (work : List ℕ) (b-bytes o-bytes n-bytes : ℕ) (bytes : List ℕ) (b-answers o-answers n-answers : ℕ) (answers : List ℕ) → Asked.Ghost
-  to-step-s ν-numbers δ-numbers ν-deques δ-deques ν-frames δ-frames ν-memory δ-memory ν-pool δ-pool ν-work δ-work ν-bytes δ-bytes ν-answers δ-answers b-numbers o-numbers n-numbers numbers b-deques o-deques n-deques deques b-frames o-frames n-frames frames b-memory o-memory n-memory memory b-pool o-pool n-pool pool b-work o-work n-work work b-bytes o-bytes n-bytes bytes b-answers o-answers n-answers answers = ((((ν-numbers ∷ []), ((ν-deques ∷ []), ((ν-frames ∷ []), ((ν-memory ∷ []), ((ν-pool ∷ []), ((ν-work ∷ []), ((ν-bytes ∷ []), ((ν-answers ∷ []), tt)))))))), (full_share, (full_share, (full_share, (full_share, (full_share, (full_share, (full_share, (full_share, tt)))))))), tt, (at_list b-numbers o-numbers δ-numbers numbers, (at_list b-deques o-deques δ-deques deques, (at_list b-frames o-frames δ-frames frames, (at_list b-memory o-memory δ-memory memory, (at_list b-pool o-pool δ-pool pool, (at_list b-work o-work δ-work work, (at_list b-bytes o-bytes δ-bytes bytes, (at_list b-answers o-answers δ-answers answers, tt)))))))), (slice_val (b-numbers, o-numbers) n-numbers ∷ [], (slice_val (b-deques, o-deques) n-deques ∷ [], (slice_val (b-frames, o-frames) n-frames ∷ [], (slice_val (b-memory, o-memory) n-memory ∷ [], (slice_val (b-pool, o-pool) n-pool ∷ [], (slice_val (b-work, o-work) n-work ∷ [], (slice_val (b-bytes, o-bytes) n-bytes ∷ [], (slice_val (b-answers, o-answers) n-answers ∷ [], tt))))))))), tt)
+  abbrev pub to-step-s : (ν-numbers : ℕ) (δ-numbers : GName) (ν-deques : ℕ) (δ-deques : GName) (ν-frames : ℕ) (δ-frames : GName) (ν-pool : ℕ) (δ-pool : GName) (ν-work : ℕ) (δ-work : GName) (ν-bytes : ℕ) (δ-bytes : GName) (ν-answers : ℕ) (δ-answers : GName) (b-numbers o-numbers n-numbers : ℕ) (numbers : List ℕ) (b-deques o-deques n-deques : ℕ) (deques : List ℕ) (b-frames o-frames n-frames : ℕ) (frames : List Frame) (b-pool o-pool n-pool : ℕ) (pool : List ℕ) (b-work o-work n-work : ℕ) (work : List ℕ) (b-bytes o-bytes n-bytes : ℕ) (bytes : List ℕ) (b-answers o-answers n-answers : ℕ) (answers : List ℕ) → Asked.Ghost
+  to-step-s ν-numbers δ-numbers ν-deques δ-deques ν-frames δ-frames ν-pool δ-pool ν-work δ-work ν-bytes δ-bytes ν-answers δ-answers b-numbers o-numbers n-numbers numbers b-deques o-deques n-deques deques b-frames o-frames n-frames frames b-pool o-pool n-pool pool b-work o-work n-work work b-bytes o-bytes n-bytes bytes b-answers o-answers n-answers answers = ((((ν-numbers ∷ []), ((ν-deques ∷ []), ((ν-frames ∷ []), ((ν-pool ∷ []), ((ν-work ∷ []), ((ν-bytes ∷ []), ((ν-answers ∷ []), tt))))))), (full_share, (full_share, (full_share, (full_share, (full_share, (full_share, (full_share, tt))))))), tt, (at_list b-numbers o-numbers δ-numbers numbers, (at_list b-deques o-deques δ-deques deques, (at_list b-frames o-frames δ-frames frames, (at_list b-pool o-pool δ-pool pool, (at_list b-work o-work δ-work work, (at_list b-bytes o-bytes δ-bytes bytes, (at_list b-answers o-answers δ-answers answers, tt))))))), (slice_val (b-numbers, o-numbers) n-numbers ∷ [], (slice_val (b-deques, o-deques) n-deques ∷ [], (slice_val (b-frames, o-frames) n-frames ∷ [], (slice_val (b-pool, o-pool) n-pool ∷ [], (slice_val (b-work, o-work) n-work ∷ [], (slice_val (b-bytes, o-bytes) n-bytes ∷ [], (slice_val (b-answers, o-answers) n-answers ∷ [], tt)))))))), tt)
 
-  pub goes-step-s : (ν-numbers : ℕ) (δ-numbers : GName) (ν-deques : ℕ) (δ-deques : GName) (ν-frames : ℕ) (δ-frames : GName) (ν-memory : ℕ) (δ-memory : GName) (ν-pool : ℕ) (δ-pool : GName) (ν-work : ℕ) (δ-work : GName) (ν-bytes : ℕ) (δ-bytes : GName) (ν-answers : ℕ) (δ-answers : GName) (b-numbers o-numbers n-numbers : ℕ) (numbers : List ℕ) (b-deques o-deques n-deques : ℕ) (deques : List ℕ) (b-frames o-frames n-frames : ℕ) (frames : List Frame) (b-memory o-memory n-memory : ℕ) (memory : List ℕ) (b-pool o-pool n-pool : ℕ) (pool : List ℕ) (b-work o-work n-work : ℕ) (work : List ℕ) (b-bytes o-bytes n-bytes : ℕ) (bytes : List ℕ) (b-answers o-answers n-answers : ℕ) (answers : List ℕ) → ent 𝓤 (⋆ 𝓛 (‵ (flft (ν-numbers ∷ []) full_share) ∷ ‵ (flft (ν-deques ∷ []) full_share) ∷ ‵ (flft (ν-frames ∷ []) full_share) ∷ ‵ (flft (ν-memory ∷ []) full_share) ∷ ‵ (flft (ν-pool ∷ []) full_share) ∷ ‵ (flft (ν-work ∷ []) full_share) ∷ ‵ (flft (ν-bytes ∷ []) full_share) ∷ ‵ (flft (ν-answers ∷ []) full_share) ∷ ‵ ((MutSlice (named 0) (ν-numbers ∷ []) u32).own_val (at_list b-numbers o-numbers δ-numbers numbers) (slice_val (b-numbers, o-numbers) n-numbers ∷ [])) ∷ ‵ ((MutSlice (named 0) (ν-deques ∷ []) u32).own_val (at_list b-deques o-deques δ-deques deques) (slice_val (b-deques, o-deques) n-deques ∷ [])) ∷ ‵ ((MutSlice (named 0) (ν-frames ∷ []) R-Frame).own_val (at_list b-frames o-frames δ-frames frames) (slice_val (b-frames, o-frames) n-frames ∷ [])) ∷ ‵ ((MutSlice (named 0) (ν-memory ∷ []) u32).own_val (at_list b-memory o-memory δ-memory memory) (slice_val (b-memory, o-memory) n-memory ∷ [])) ∷ ‵ ((MutSlice (named 0) (ν-pool ∷ []) u32).own_val (at_list b-pool o-pool δ-pool pool) (slice_val (b-pool, o-pool) n-pool ∷ [])) ∷ ‵ ((MutSlice (named 0) (ν-work ∷ []) u32).own_val (at_list b-work o-work δ-work work) (slice_val (b-work, o-work) n-work ∷ [])) ∷ ‵ ((ShrSlice (named 0) (ν-bytes ∷ []) u8).own_val (at_list b-bytes o-bytes δ-bytes bytes) (slice_val (b-bytes, o-bytes) n-bytes ∷ [])) ∷ ‵ ((MutSlice (named 0) (ν-answers ∷ []) u32).own_val (at_list b-answers o-answers δ-answers answers) (slice_val (b-answers, o-answers) n-answers ∷ [])) ∷ [])) (Asked.pre (to-step-s ν-numbers δ-numbers ν-deques δ-deques ν-frames δ-frames ν-memory δ-memory ν-pool δ-pool ν-work δ-work ν-bytes δ-bytes ν-answers δ-answers b-numbers o-numbers n-numbers numbers b-deques o-deques n-deques deques b-frames o-frames n-frames frames b-memory o-memory n-memory memory b-pool o-pool n-pool pool b-work o-work n-work work b-bytes o-bytes n-bytes bytes b-answers o-answers n-answers answers))
-  goes-step-s ν-numbers δ-numbers ν-deques δ-deques ν-frames δ-frames ν-memory δ-memory ν-pool δ-pool ν-work δ-work ν-bytes δ-bytes ν-answers δ-answers b-numbers o-numbers n-numbers numbers b-deques o-deques n-deques deques b-frames o-frames n-frames frames b-memory o-memory n-memory memory b-pool o-pool n-pool pool b-work o-work n-work work b-bytes o-bytes n-bytes bytes b-answers o-answers n-answers answers = qed 𝓛 (‵ (flft (ν-numbers ∷ []) full_share) ∷ ‵ (flft (ν-deques ∷ []) full_share) ∷ ‵ (flft (ν-frames ∷ []) full_share) ∷ ‵ (flft (ν-memory ∷ []) full_share) ∷ ‵ (flft (ν-pool ∷ []) full_share) ∷ ‵ (flft (ν-work ∷ []) full_share) ∷ ‵ (flft (ν-bytes ∷ []) full_share) ∷ ‵ (flft (ν-answers ∷ []) full_share) ∷ ‵ ((MutSlice (named 0) (ν-numbers ∷ []) u32).own_val (at_list b-numbers o-numbers δ-numbers numbers) (slice_val (b-numbers, o-numbers) n-numbers ∷ [])) ∷ ‵ ((MutSlice (named 0) (ν-deques ∷ []) u32).own_val (at_list b-deques o-deques δ-deques deques) (slice_val (b-deques, o-deques) n-deques ∷ [])) ∷ ‵ ((MutSlice (named 0) (ν-frames ∷ []) R-Frame).own_val (at_list b-frames o-frames δ-frames frames) (slice_val (b-frames, o-frames) n-frames ∷ [])) ∷ ‵ ((MutSlice (named 0) (ν-memory ∷ []) u32).own_val (at_list b-memory o-memory δ-memory memory) (slice_val (b-memory, o-memory) n-memory ∷ [])) ∷ ‵ ((MutSlice (named 0) (ν-pool ∷ []) u32).own_val (at_list b-pool o-pool δ-pool pool) (slice_val (b-pool, o-pool) n-pool ∷ [])) ∷ ‵ ((MutSlice (named 0) (ν-work ∷ []) u32).own_val (at_list b-work o-work δ-work work) (slice_val (b-work, o-work) n-work ∷ [])) ∷ ‵ ((ShrSlice (named 0) (ν-bytes ∷ []) u8).own_val (at_list b-bytes o-bytes δ-bytes bytes) (slice_val (b-bytes, o-bytes) n-bytes ∷ [])) ∷ ‵ ((MutSlice (named 0) (ν-answers ∷ []) u32).own_val (at_list b-answers o-answers δ-answers answers) (slice_val (b-answers, o-answers) n-answers ∷ [])) ∷ []) ∵ nothing ! $ move ! (1 ∷ 2 ∷ 3 ∷ 4 ∷ 5 ∷ 6 ∷ 7 ∷ 8 ∷ 0 ∷ []) $ group ! 9 $ move ! (1 ∷ 2 ∷ 3 ∷ 4 ∷ 5 ∷ 6 ∷ 7 ∷ 8 ∷ 0 ∷ []) $
-      nothing ! $ move ! (8 ∷ 0 ∷ []) $ fjoin ! $ move ! (7 ∷ 0 ∷ []) $ fjoin ! $ move ! (6 ∷ 0 ∷ []) $ fjoin ! $ move ! (5 ∷ 0 ∷ []) $ fjoin ! $ move ! (4 ∷ 0 ∷ []) $ fjoin ! $ move ! (3 ∷ 0 ∷ []) $ fjoin ! $ move ! (2 ∷ 0 ∷ []) $ fjoin ! $ move ! (1 ∷ 0 ∷ []) $ fjoin ! $ move ! (1 ∷ 0 ∷ []) $ join ! $ frame ! $ done !
+  pub goes-step-s : (ν-numbers : ℕ) (δ-numbers : GName) (ν-deques : ℕ) (δ-deques : GName) (ν-frames : ℕ) (δ-frames : GName) (ν-pool : ℕ) (δ-pool : GName) (ν-work : ℕ) (δ-work : GName) (ν-bytes : ℕ) (δ-bytes : GName) (ν-answers : ℕ) (δ-answers : GName) (b-numbers o-numbers n-numbers : ℕ) (numbers : List ℕ) (b-deques o-deques n-deques : ℕ) (deques : List ℕ) (b-frames o-frames n-frames : ℕ) (frames : List Frame) (b-pool o-pool n-pool : ℕ) (pool : List ℕ) (b-work o-work n-work : ℕ) (work : List ℕ) (b-bytes o-bytes n-bytes : ℕ) (bytes : List ℕ) (b-answers o-answers n-answers : ℕ) (answers : List ℕ) → ent 𝓤 (⋆ 𝓛 (‵ (flft (ν-numbers ∷ []) full_share) ∷ ‵ (flft (ν-deques ∷ []) full_share) ∷ ‵ (flft (ν-frames ∷ []) full_share) ∷ ‵ (flft (ν-pool ∷ []) full_share) ∷ ‵ (flft (ν-work ∷ []) full_share) ∷ ‵ (flft (ν-bytes ∷ []) full_share) ∷ ‵ (flft (ν-answers ∷ []) full_share) ∷ ‵ ((MutSlice (named 0) (ν-numbers ∷ []) u32).own_val (at_list b-numbers o-numbers δ-numbers numbers) (slice_val (b-numbers, o-numbers) n-numbers ∷ [])) ∷ ‵ ((MutSlice (named 0) (ν-deques ∷ []) u32).own_val (at_list b-deques o-deques δ-deques deques) (slice_val (b-deques, o-deques) n-deques ∷ [])) ∷ ‵ ((MutSlice (named 0) (ν-frames ∷ []) R-Frame).own_val (at_list b-frames o-frames δ-frames frames) (slice_val (b-frames, o-frames) n-frames ∷ [])) ∷ ‵ ((MutSlice (named 0) (ν-pool ∷ []) u32).own_val (at_list b-pool o-pool δ-pool pool) (slice_val (b-pool, o-pool) n-pool ∷ [])) ∷ ‵ ((MutSlice (named 0) (ν-work ∷ []) u32).own_val (at_list b-work o-work δ-work work) (slice_val (b-work, o-work) n-work ∷ [])) ∷ ‵ ((ShrSlice (named 0) (ν-bytes ∷ []) u8).own_val (at_list b-bytes o-bytes δ-bytes bytes) (slice_val (b-bytes, o-bytes) n-bytes ∷ [])) ∷ ‵ ((MutSlice (named 0) (ν-answers ∷ []) u32).own_val (at_list b-answers o-answers δ-answers answers) (slice_val (b-answers, o-answers) n-answers ∷ [])) ∷ [])) (Asked.pre (to-step-s ν-numbers δ-numbers ν-deques δ-deques ν-frames δ-frames ν-pool δ-pool ν-work δ-work ν-bytes δ-bytes ν-answers δ-answers b-numbers o-numbers n-numbers numbers b-deques o-deques n-deques deques b-frames o-frames n-frames frames b-pool o-pool n-pool pool b-work o-work n-work work b-bytes o-bytes n-bytes bytes b-answers o-answers n-answers answers))
+  goes-step-s ν-numbers δ-numbers ν-deques δ-deques ν-frames δ-frames ν-pool δ-pool ν-work δ-work ν-bytes δ-bytes ν-answers δ-answers b-numbers o-numbers n-numbers numbers b-deques o-deques n-deques deques b-frames o-frames n-frames frames b-pool o-pool n-pool pool b-work o-work n-work work b-bytes o-bytes n-bytes bytes b-answers o-answers n-answers answers = qed 𝓛 (‵ (flft (ν-numbers ∷ []) full_share) ∷ ‵ (flft (ν-deques ∷ []) full_share) ∷ ‵ (flft (ν-frames ∷ []) full_share) ∷ ‵ (flft (ν-pool ∷ []) full_share) ∷ ‵ (flft (ν-work ∷ []) full_share) ∷ ‵ (flft (ν-bytes ∷ []) full_share) ∷ ‵ (flft (ν-answers ∷ []) full_share) ∷ ‵ ((MutSlice (named 0) (ν-numbers ∷ []) u32).own_val (at_list b-numbers o-numbers δ-numbers numbers) (slice_val (b-numbers, o-numbers) n-numbers ∷ [])) ∷ ‵ ((MutSlice (named 0) (ν-deques ∷ []) u32).own_val (at_list b-deques o-deques δ-deques deques) (slice_val (b-deques, o-deques) n-deques ∷ [])) ∷ ‵ ((MutSlice (named 0) (ν-frames ∷ []) R-Frame).own_val (at_list b-frames o-frames δ-frames frames) (slice_val (b-frames, o-frames) n-frames ∷ [])) ∷ ‵ ((MutSlice (named 0) (ν-pool ∷ []) u32).own_val (at_list b-pool o-pool δ-pool pool) (slice_val (b-pool, o-pool) n-pool ∷ [])) ∷ ‵ ((MutSlice (named 0) (ν-work ∷ []) u32).own_val (at_list b-work o-work δ-work work) (slice_val (b-work, o-work) n-work ∷ [])) ∷ ‵ ((ShrSlice (named 0) (ν-bytes ∷ []) u8).own_val (at_list b-bytes o-bytes δ-bytes bytes) (slice_val (b-bytes, o-bytes) n-bytes ∷ [])) ∷ ‵ ((MutSlice (named 0) (ν-answers ∷ []) u32).own_val (at_list b-answers o-answers δ-answers answers) (slice_val (b-answers, o-answers) n-answers ∷ [])) ∷ []) ∵ nothing ! $ move ! (1 ∷ 2 ∷ 3 ∷ 4 ∷ 5 ∷ 6 ∷ 7 ∷ 0 ∷ []) $ group ! 8 $ move ! (1 ∷ 2 ∷ 3 ∷ 4 ∷ 5 ∷ 6 ∷ 7 ∷ 0 ∷ []) $
+      nothing ! $ move ! (7 ∷ 0 ∷ []) $ fjoin ! $ move ! (6 ∷ 0 ∷ []) $ fjoin ! $ move ! (5 ∷ 0 ∷ []) $ fjoin ! $ move ! (4 ∷ 0 ∷ []) $ fjoin ! $ move ! (3 ∷ 0 ∷ []) $ fjoin ! $ move ! (2 ∷ 0 ∷ []) $ fjoin ! $ move ! (1 ∷ 0 ∷ []) $ fjoin ! $ move ! (1 ∷ 0 ∷ []) $ join ! $ frame ! $ done !
 
 module _ {M : Type 1} {𝓤 : Ura M} {𝓛 : Logic 𝓤} {K : Type 0} (mem : Memory → SProp 𝓤) (run : Routine → Fun 𝓤)
     {Γ : List (Item 𝓤)} {E : Env 𝓤 𝓛.H} {C : Calls 𝓤 𝓛.H} {Λ : Loops 𝓤 𝓛.H} {post' : Post 𝓤 𝓛.H} {dest' : Place} {name' : Name} {opds' : List Operand} {rest' : Body} where
   open 𝓛 use {H}
 
-  pub step-g : K → FmC 𝓤 H 𝓛.laws C → Triple 𝓤 (C name') (Asked 𝓛 mem run) → {κ-numbers : Lft} {q-numbers : Share} {γ-numbers : GName} {κ-deques : Lft} {q-deques : Share} {γ-deques : GName} {κ-frames : Lft} {q-frames : Share} {γ-frames : GName} {κ-memory : Lft} {q-memory : Share} {γ-memory : GName} {κ-pool : Lft} {q-pool : Share} {γ-pool : GName} {κ-work : Lft} {q-work : Share} {γ-work : GName} {κ-bytes : Lft} {q-bytes : Share} {γ-bytes : GName} {κ-answers : Lft} {q-answers : Share} {γ-answers : GName} → (b-numbers o-numbers n-numbers : ℕ) (numbers : List ℕ) (b-deques o-deques n-deques : ℕ) (deques : List ℕ) (b-frames o-frames n-frames : ℕ) (frames : List Frame) (b-memory o-memory n-memory : ℕ) (memory : List ℕ) (b-pool o-pool n-pool : ℕ) (pool : List ℕ) (b-work o-work n-work : ℕ) (work : List ℕ) (b-bytes o-bytes n-bytes : ℕ) (bytes : List ℕ) (b-answers o-answers n-answers : ℕ) (answers : List ℕ) → length numbers ≡ n-numbers → Room u32 n-numbers → length deques ≡ n-deques → Room u32 n-deques → length frames ≡ n-frames → Room R-Frame n-frames → length memory ≡ n-memory → Room u32 n-memory → length pool ≡ n-pool → Room u32 n-pool → length work ≡ n-work → Room u32 n-work → length answers ≡ n-answers → Room u32 n-answers →
-      ((ν-numbers : ℕ) (δ-numbers : GName) (ν-deques : ℕ) (δ-deques : GName) (ν-frames : ℕ) (δ-frames : GName) (ν-memory : ℕ) (δ-memory : GName) (ν-pool : ℕ) (δ-pool : GName) (ν-work : ℕ) (δ-work : GName) (ν-answers : ℕ) (δ-answers : GName) → Opds K 𝓛 (raw ((Asked 𝓛 mem run).pre (to-step-g 𝓛 mem run ν-numbers δ-numbers ν-deques δ-deques ν-frames δ-frames ν-memory δ-memory ν-pool δ-pool ν-work δ-work κ-bytes q-bytes γ-bytes ν-answers δ-answers b-numbers o-numbers n-numbers numbers b-deques o-deques n-deques deques b-frames o-frames n-frames frames b-memory o-memory n-memory memory b-pool o-pool n-pool pool b-work o-work n-work work b-bytes o-bytes n-bytes bytes b-answers o-answers n-answers answers)) ∷ ‵ (Lent u32 κ-answers (ν-answers ∷ []) q-answers γ-answers b-answers o-answers δ-answers answers) ∷ ‵ ((ShrSlice (named 0) κ-bytes u8).own_val (at_list b-bytes o-bytes γ-bytes bytes) (slice_val (b-bytes, o-bytes) n-bytes ∷ [])) ∷ ‵ (Lent u32 κ-work (ν-work ∷ []) q-work γ-work b-work o-work δ-work work) ∷ ‵ (Lent u32 κ-pool (ν-pool ∷ []) q-pool γ-pool b-pool o-pool δ-pool pool) ∷ ‵ (Lent u32 κ-memory (ν-memory ∷ []) q-memory γ-memory b-memory o-memory δ-memory memory) ∷ ‵ (Lent R-Frame κ-frames (ν-frames ∷ []) q-frames γ-frames b-frames o-frames δ-frames frames) ∷ ‵ (Lent u32 κ-deques (ν-deques ∷ []) q-deques γ-deques b-deques o-deques δ-deques deques) ∷ ‵ (Lent u32 κ-numbers (ν-numbers ∷ []) q-numbers γ-numbers b-numbers o-numbers δ-numbers numbers) ∷ Γ) E opds' (slice_val (b-numbers, o-numbers) n-numbers ∷ slice_val (b-deques, o-deques) n-deques ∷ slice_val (b-frames, o-frames) n-frames ∷ slice_val (b-memory, o-memory) n-memory ∷ slice_val (b-pool, o-pool) n-pool ∷ slice_val (b-work, o-work) n-work ∷ slice_val (b-bytes, o-bytes) n-bytes ∷ slice_val (b-answers, o-answers) n-answers ∷ [])) →
-      ((res' : Taped) (zs-numbers : List ℕ) (zs-deques : List ℕ) (zs-frames : List Frame) (zs-memory : List ℕ) (zs-pool : List ℕ) (zs-work : List ℕ) (zs-answers : List ℕ) → Is R-Taped res' (val-Taped res' ∷ []) → IsTapeWith (tape_remembering two_words (parts numbers deques frames) memory pool work bytes answers) zs-numbers zs-deques zs-frames zs-memory zs-pool zs-work zs-answers res'.result res'.visits → length zs-numbers ≡ length numbers → length zs-deques ≡ length deques → length zs-frames ≡ length frames → length zs-memory ≡ length memory → length zs-pool ≡ length pool → length zs-work ≡ length work → length zs-answers ≡ length answers → Seq K 𝓛 (‵ (Mine u32 κ-numbers q-numbers γ-numbers b-numbers o-numbers n-numbers zs-numbers) ∷ ‵ (Mine u32 κ-deques q-deques γ-deques b-deques o-deques n-deques zs-deques) ∷ ‵ (Mine R-Frame κ-frames q-frames γ-frames b-frames o-frames n-frames zs-frames) ∷ ‵ (Mine u32 κ-memory q-memory γ-memory b-memory o-memory n-memory zs-memory) ∷ ‵ (Mine u32 κ-pool q-pool γ-pool b-pool o-pool n-pool zs-pool) ∷ ‵ (Mine u32 κ-work q-work γ-work b-work o-work n-work zs-work) ∷ ‵ (Yours u8 κ-bytes q-bytes γ-bytes b-bytes o-bytes n-bytes bytes) ∷ ‵ (Mine u32 κ-answers q-answers γ-answers b-answers o-answers n-answers zs-answers) ∷ Γ) (lands C Λ E dest' (val-Taped res') rest' post')) →
-      Seq K 𝓛 (‵ (Mine u32 κ-numbers q-numbers γ-numbers b-numbers o-numbers n-numbers numbers) ∷ ‵ (Mine u32 κ-deques q-deques γ-deques b-deques o-deques n-deques deques) ∷ ‵ (Mine R-Frame κ-frames q-frames γ-frames b-frames o-frames n-frames frames) ∷ ‵ (Mine u32 κ-memory q-memory γ-memory b-memory o-memory n-memory memory) ∷ ‵ (Mine u32 κ-pool q-pool γ-pool b-pool o-pool n-pool pool) ∷ ‵ (Mine u32 κ-work q-work γ-work b-work o-work n-work work) ∷ ‵ (Yours u8 κ-bytes q-bytes γ-bytes b-bytes o-bytes n-bytes bytes) ∷ ‵ (Mine u32 κ-answers q-answers γ-answers b-answers o-answers n-answers answers) ∷ Γ) (runs C Λ E (seq (call name' opds' dest') rest') post')
-  step-g t' fm' known' {κ-numbers} {q-numbers} {γ-numbers} {κ-deques} {q-deques} {γ-deques} {κ-frames} {q-frames} {γ-frames} {κ-memory} {q-memory} {γ-memory} {κ-pool} {q-pool} {γ-pool} {κ-work} {q-work} {γ-work} {κ-bytes} {q-bytes} {γ-bytes} {κ-answers} {q-answers} {γ-answers} b-numbers o-numbers n-numbers numbers b-deques o-deques n-deques deques b-frames o-frames n-frames frames b-memory o-memory n-memory memory b-pool o-pool n-pool pool b-work o-work n-work work b-bytes o-bytes n-bytes bytes b-answers o-answers n-answers answers len-numbers room-numbers len-deques room-deques len-frames room-frames len-memory room-memory len-pool room-pool len-work room-work len-answers room-answers os' k' =
-      lend t' tt u32 b-numbers o-numbers n-numbers numbers len-numbers (λ ν-numbers δ-numbers. move t' (3 ∷ []) $ lend t' tt u32 b-deques o-deques n-deques deques len-deques (λ ν-deques δ-deques. move t' (6 ∷ []) $ lend t' tt R-Frame b-frames o-frames n-frames frames len-frames (λ ν-frames δ-frames. move t' (9 ∷ []) $ lend t' tt u32 b-memory o-memory n-memory memory len-memory (λ ν-memory δ-memory. move t' (12 ∷ []) $ lend t' tt u32 b-pool o-pool n-pool pool len-pool (λ ν-pool δ-pool. move t' (15 ∷ []) $ lend t' tt u32 b-work o-work n-work work len-work (λ ν-work δ-work. move t' (18 ∷ []) $ give t' u8 b-bytes o-bytes n-bytes bytes $ move t' (21 ∷ []) $ lend t' tt u32 b-answers o-answers n-answers answers len-answers (λ ν-answers δ-answers.
-      move t' (21 ∷ 18 ∷ 15 ∷ 12 ∷ 9 ∷ 6 ∷ 3 ∷ 0 ∷ 22 ∷ 19 ∷ 16 ∷ 13 ∷ 10 ∷ 7 ∷ 4 ∷ 1 ∷ []) $ group t' 16 $ use1 𝓛 (raw ((Asked 𝓛 mem run).pre (to-step-g 𝓛 mem run ν-numbers δ-numbers ν-deques δ-deques ν-frames δ-frames ν-memory δ-memory ν-pool δ-pool ν-work δ-work κ-bytes q-bytes γ-bytes ν-answers δ-answers b-numbers o-numbers n-numbers numbers b-deques o-deques n-deques deques b-frames o-frames n-frames frames b-memory o-memory n-memory memory b-pool o-pool n-pool pool b-work o-work n-work work b-bytes o-bytes n-bytes bytes b-answers o-answers n-answers answers))) (goes-step-g 𝓛 mem run ν-numbers δ-numbers ν-deques δ-deques ν-frames δ-frames ν-memory δ-memory ν-pool δ-pool ν-work δ-work κ-bytes q-bytes γ-bytes ν-answers δ-answers b-numbers o-numbers n-numbers numbers b-deques o-deques n-deques deques b-frames o-frames n-frames frames b-memory o-memory n-memory memory b-pool o-pool n-pool pool b-work o-work n-work work b-bytes o-bytes n-bytes bytes b-answers o-answers n-answers answers) $
-      calls_at t' fm' (Asked 𝓛 mem run) known' (to-step-g 𝓛 mem run ν-numbers δ-numbers ν-deques δ-deques ν-frames δ-frames ν-memory δ-memory ν-pool δ-pool ν-work δ-work κ-bytes q-bytes γ-bytes ν-answers δ-answers b-numbers o-numbers n-numbers numbers b-deques o-deques n-deques deques b-frames o-frames n-frames frames b-memory o-memory n-memory memory b-pool o-pool n-pool pool b-work o-work n-work work b-bytes o-bytes n-bytes bytes b-answers o-answers n-answers answers) (os' ν-numbers δ-numbers ν-deques δ-deques ν-frames δ-frames ν-memory δ-memory ν-pool δ-pool ν-work δ-work ν-answers δ-answers) (λ w'.
-      use1 𝓛 (later (some (λ (res' : Taped). ((‵ (flft (ν-numbers ∷ []) full_share) ⊛ (‵ (flft (ν-deques ∷ []) full_share) ⊛ (‵ (flft (ν-frames ∷ []) full_share) ⊛ (‵ (flft (ν-memory ∷ []) full_share) ⊛ (‵ (flft (ν-pool ∷ []) full_share) ⊛ (‵ (flft (ν-work ∷ []) full_share) ⊛ (‵ (flft κ-bytes q-bytes) ⊛ (‵ (flft (ν-answers ∷ []) full_share) ⊛ ‵ ftrue)))))))) ⊛ ‵ (R-Taped.own res' (w' ∷ []))) ⊛ raw (ensured 𝓛 callee'.ended (callee'.clauses 𝓛 mem run) ((ν-numbers ∷ []), ((ν-deques ∷ []), ((ν-frames ∷ []), ((ν-memory ∷ []), ((ν-pool ∷ []), ((ν-work ∷ []), (κ-bytes, ((ν-answers ∷ []), tt)))))))) (at_list b-numbers o-numbers δ-numbers numbers, (at_list b-deques o-deques δ-deques deques, (at_list b-frames o-frames δ-frames frames, (at_list b-memory o-memory δ-memory memory, (at_list b-pool o-pool δ-pool pool, (at_list b-work o-work δ-work work, (at_list b-bytes o-bytes γ-bytes bytes, (at_list b-answers o-answers δ-answers answers, tt)))))))) tt res')))) (id⊢ 𝓤 _) $ await t' tt $ pick t' (λ res'. split t' $ move t' (1 ∷ []) $
-      use1 𝓛 (some (λ (zs' : List ℕ × (List ℕ × (List Frame × (List ℕ × (List ℕ × (List ℕ × (Unit {0} × (List ℕ × Unit {0})))))))). ‵ (lasts callee'.ended ((ν-numbers ∷ []), ((ν-deques ∷ []), ((ν-frames ∷ []), ((ν-memory ∷ []), ((ν-pool ∷ []), ((ν-work ∷ []), (κ-bytes, ((ν-answers ∷ []), tt)))))))) (at_list b-numbers o-numbers δ-numbers numbers, (at_list b-deques o-deques δ-deques deques, (at_list b-frames o-frames δ-frames frames, (at_list b-memory o-memory δ-memory memory, (at_list b-pool o-pool δ-pool pool, (at_list b-work o-work δ-work work, (at_list b-bytes o-bytes γ-bytes bytes, (at_list b-answers o-answers δ-answers answers, tt)))))))) zs') ⊛ raw (fact 𝓤 (IsTapeWith (tape_remembering two_words (parts numbers deques frames) memory pool work bytes answers) zs'.0 zs'.1.0 zs'.1.1.0 zs'.1.1.1.0 zs'.1.1.1.1.0 zs'.1.1.1.1.1.0 zs'.1.1.1.1.1.1.1.0 res'.result res'.visits)))) (id⊢ 𝓤 _) $ pick t' (λ zs'. split t' $ move t' (1 ∷ []) $ heard t' (IsTapeWith (tape_remembering two_words (parts numbers deques frames) memory pool work bytes answers) zs'.0 zs'.1.0 zs'.1.1.0 zs'.1.1.1.0 zs'.1.1.1.1.0 zs'.1.1.1.1.1.0 zs'.1.1.1.1.1.1.1.0 res'.result res'.visits) (λ e'.
-      fsplit t' $ fsplit t' $ move t' (1 ∷ []) $ feq_l t' (λ same_numbers. move t' (1 ∷ []) $ fsplit t' $ fsplit t' $ move t' (1 ∷ []) $ feq_l t' (λ same-deques. move t' (1 ∷ []) $ fsplit t' $ fsplit t' $ move t' (1 ∷ []) $ feq_l t' (λ same-frames. move t' (1 ∷ []) $ fsplit t' $ fsplit t' $ move t' (1 ∷ []) $ feq_l t' (λ same_memory. move t' (1 ∷ []) $ fsplit t' $ fsplit t' $ move t' (1 ∷ []) $ feq_l t' (λ same-pool. move t' (1 ∷ []) $ fsplit t' $ fsplit t' $ move t' (1 ∷ []) $ feq_l t' (λ same_work. move t' (1 ∷ []) $ fsplit t' $ drop t' $ fsplit t' $ fsplit t' $ move t' (1 ∷ []) $ feq_l t' (λ same-answers. move t' (1 ∷ []) $ drop t' $
-      move t' (7 ∷ []) $ split t' $ move t' (1 ∷ []) $ peeks t' R-Taped (Is R-Taped) (shows 𝓛 R-Taped) res' (w' ∷ []) (λ is'. drop t' $ split t' $ move t' (1 ∷ []) $ split t' $ move t' (1 ∷ []) $ split t' $ move t' (1 ∷ []) $ split t' $ move t' (1 ∷ []) $ split t' $ move t' (1 ∷ []) $ split t' $ move t' (1 ∷ []) $ split t' $ move t' (1 ∷ []) $ split t' $ move t' (1 ∷ []) $ drop t' $
-      move t' (0 ∷ 15 ∷ 8 ∷ []) $ home t' tt u32 b-answers o-answers n-answers answers zs'.1.1.1.1.1.1.1.0 len-answers room-answers same-answers $ move t' (14 ∷ 1 ∷ []) $ fjoin t' $ move t' (2 ∷ 14 ∷ 8 ∷ []) $ home t' tt u32 b-work o-work n-work work zs'.1.1.1.1.1.0 len-work room-work same_work $ move t' (3 ∷ 13 ∷ 8 ∷ []) $ home t' tt u32 b-pool o-pool n-pool pool zs'.1.1.1.1.0 len-pool room-pool same-pool $ move t' (4 ∷ 12 ∷ 8 ∷ []) $ home t' tt u32 b-memory o-memory n-memory memory zs'.1.1.1.0 len-memory room-memory same_memory $ move t' (5 ∷ 11 ∷ 8 ∷ []) $ home t' tt R-Frame b-frames o-frames n-frames frames zs'.1.1.0 len-frames room-frames same-frames $ move t' (6 ∷ 10 ∷ 8 ∷ []) $ home t' tt u32 b-deques o-deques n-deques deques zs'.1.0 len-deques room-deques same-deques $ move t' (7 ∷ 9 ∷ 8 ∷ []) $ home t' tt u32 b-numbers o-numbers n-numbers numbers zs'.0 len-numbers room-numbers same_numbers $
-      subst (λ (v' : Val). Seq K 𝓛 (‵ (Mine u32 κ-numbers q-numbers γ-numbers b-numbers o-numbers n-numbers zs'.0) ∷ ‵ (Mine u32 κ-deques q-deques γ-deques b-deques o-deques n-deques zs'.1.0) ∷ ‵ (Mine R-Frame κ-frames q-frames γ-frames b-frames o-frames n-frames zs'.1.1.0) ∷ ‵ (Mine u32 κ-memory q-memory γ-memory b-memory o-memory n-memory zs'.1.1.1.0) ∷ ‵ (Mine u32 κ-pool q-pool γ-pool b-pool o-pool n-pool zs'.1.1.1.1.0) ∷ ‵ (Mine u32 κ-work q-work γ-work b-work o-work n-work zs'.1.1.1.1.1.0) ∷ ‵ (Yours u8 κ-bytes q-bytes γ-bytes b-bytes o-bytes n-bytes bytes) ∷ ‵ (Mine u32 κ-answers q-answers γ-answers b-answers o-answers n-answers zs'.1.1.1.1.1.1.1.0) ∷ Γ) (lands C Λ E dest' v' rest' post')) (sym (ap only (LL.tells M-Taped.the_type L-Taped.the_laws res' _ is'))) (k' res' zs'.0 zs'.1.0 zs'.1.1.0 zs'.1.1.1.0 zs'.1.1.1.1.0 zs'.1.1.1.1.1.0 zs'.1.1.1.1.1.1.1.0 (subst (Is R-Taped res') (LL.tells M-Taped.the_type L-Taped.the_laws res' _ is') is') e' same_numbers same-deques same-frames same_memory same-pool same_work same-answers))))))))))))))))))))
+  pub step-g : K → FmC 𝓤 H 𝓛.laws C → Triple 𝓤 (C name') (Asked 𝓛 mem run) → {κ-numbers : Lft} {q-numbers : Share} {γ-numbers : GName} {κ-deques : Lft} {q-deques : Share} {γ-deques : GName} {κ-frames : Lft} {q-frames : Share} {γ-frames : GName} {κ-pool : Lft} {q-pool : Share} {γ-pool : GName} {κ-work : Lft} {q-work : Share} {γ-work : GName} {κ-bytes : Lft} {q-bytes : Share} {γ-bytes : GName} {κ-answers : Lft} {q-answers : Share} {γ-answers : GName} → (b-numbers o-numbers n-numbers : ℕ) (numbers : List ℕ) (b-deques o-deques n-deques : ℕ) (deques : List ℕ) (b-frames o-frames n-frames : ℕ) (frames : List Frame) (b-pool o-pool n-pool : ℕ) (pool : List ℕ) (b-work o-work n-work : ℕ) (work : List ℕ) (b-bytes o-bytes n-bytes : ℕ) (bytes : List ℕ) (b-answers o-answers n-answers : ℕ) (answers : List ℕ) → length numbers ≡ n-numbers → Room u32 n-numbers → length deques ≡ n-deques → Room u32 n-deques → length frames ≡ n-frames → Room R-Frame n-frames → length pool ≡ n-pool → Room u32 n-pool → length work ≡ n-work → Room u32 n-work → length answers ≡ n-answers → Room u32 n-answers →
+      ((ν-numbers : ℕ) (δ-numbers : GName) (ν-deques : ℕ) (δ-deques : GName) (ν-frames : ℕ) (δ-frames : GName) (ν-pool : ℕ) (δ-pool : GName) (ν-work : ℕ) (δ-work : GName) (ν-answers : ℕ) (δ-answers : GName) → Opds K 𝓛 (raw ((Asked 𝓛 mem run).pre (to-step-g 𝓛 mem run ν-numbers δ-numbers ν-deques δ-deques ν-frames δ-frames ν-pool δ-pool ν-work δ-work κ-bytes q-bytes γ-bytes ν-answers δ-answers b-numbers o-numbers n-numbers numbers b-deques o-deques n-deques deques b-frames o-frames n-frames frames b-pool o-pool n-pool pool b-work o-work n-work work b-bytes o-bytes n-bytes bytes b-answers o-answers n-answers answers)) ∷ ‵ (Lent u32 κ-answers (ν-answers ∷ []) q-answers γ-answers b-answers o-answers δ-answers answers) ∷ ‵ ((ShrSlice (named 0) κ-bytes u8).own_val (at_list b-bytes o-bytes γ-bytes bytes) (slice_val (b-bytes, o-bytes) n-bytes ∷ [])) ∷ ‵ (Lent u32 κ-work (ν-work ∷ []) q-work γ-work b-work o-work δ-work work) ∷ ‵ (Lent u32 κ-pool (ν-pool ∷ []) q-pool γ-pool b-pool o-pool δ-pool pool) ∷ ‵ (Lent R-Frame κ-frames (ν-frames ∷ []) q-frames γ-frames b-frames o-frames δ-frames frames) ∷ ‵ (Lent u32 κ-deques (ν-deques ∷ []) q-deques γ-deques b-deques o-deques δ-deques deques) ∷ ‵ (Lent u32 κ-numbers (ν-numbers ∷ []) q-numbers γ-numbers b-numbers o-numbers δ-numbers numbers) ∷ Γ) E opds' (slice_val (b-numbers, o-numbers) n-numbers ∷ slice_val (b-deques, o-deques) n-deques ∷ slice_val (b-frames, o-frames) n-frames ∷ slice_val (b-pool, o-pool) n-pool ∷ slice_val (b-work, o-work) n-work ∷ slice_val (b-bytes, o-bytes) n-bytes ∷ slice_val (b-answers, o-answers) n-answers ∷ [])) →
+      ((res' : ℕ) (zs-numbers : List ℕ) (zs-deques : List ℕ) (zs-frames : List Frame) (zs-pool : List ℕ) (zs-work : List ℕ) (zs-answers : List ℕ) → res' < 2 ^ 32 → IsTape (tape_on two_words (parts numbers deques frames) pool work bytes answers) zs-numbers zs-deques zs-frames zs-pool zs-work zs-answers res' → length zs-numbers ≡ length numbers → length zs-deques ≡ length deques → length zs-frames ≡ length frames → length zs-pool ≡ length pool → length zs-work ≡ length work → length zs-answers ≡ length answers → Seq K 𝓛 (‵ (Mine u32 κ-numbers q-numbers γ-numbers b-numbers o-numbers n-numbers zs-numbers) ∷ ‵ (Mine u32 κ-deques q-deques γ-deques b-deques o-deques n-deques zs-deques) ∷ ‵ (Mine R-Frame κ-frames q-frames γ-frames b-frames o-frames n-frames zs-frames) ∷ ‵ (Mine u32 κ-pool q-pool γ-pool b-pool o-pool n-pool zs-pool) ∷ ‵ (Mine u32 κ-work q-work γ-work b-work o-work n-work zs-work) ∷ ‵ (Yours u8 κ-bytes q-bytes γ-bytes b-bytes o-bytes n-bytes bytes) ∷ ‵ (Mine u32 κ-answers q-answers γ-answers b-answers o-answers n-answers zs-answers) ∷ Γ) (lands C Λ E dest' (vint w32 res') rest' post')) →
+      Seq K 𝓛 (‵ (Mine u32 κ-numbers q-numbers γ-numbers b-numbers o-numbers n-numbers numbers) ∷ ‵ (Mine u32 κ-deques q-deques γ-deques b-deques o-deques n-deques deques) ∷ ‵ (Mine R-Frame κ-frames q-frames γ-frames b-frames o-frames n-frames frames) ∷ ‵ (Mine u32 κ-pool q-pool γ-pool b-pool o-pool n-pool pool) ∷ ‵ (Mine u32 κ-work q-work γ-work b-work o-work n-work work) ∷ ‵ (Yours u8 κ-bytes q-bytes γ-bytes b-bytes o-bytes n-bytes bytes) ∷ ‵ (Mine u32 κ-answers q-answers γ-answers b-answers o-answers n-answers answers) ∷ Γ) (runs C Λ E (seq (call name' opds' dest') rest') post')
+  step-g t' fm' known' {κ-numbers} {q-numbers} {γ-numbers} {κ-deques} {q-deques} {γ-deques} {κ-frames} {q-frames} {γ-frames} {κ-pool} {q-pool} {γ-pool} {κ-work} {q-work} {γ-work} {κ-bytes} {q-bytes} {γ-bytes} {κ-answers} {q-answers} {γ-answers} b-numbers o-numbers n-numbers numbers b-deques o-deques n-deques deques b-frames o-frames n-frames frames b-pool o-pool n-pool pool b-work o-work n-work work b-bytes o-bytes n-bytes bytes b-answers o-answers n-answers answers len-numbers room-numbers len-deques room-deques len-frames room-frames len-pool room-pool len-work room-work len-answers room-answers os' k' =
+      lend t' tt u32 b-numbers o-numbers n-numbers numbers len-numbers (λ ν-numbers δ-numbers. move t' (3 ∷ []) $ lend t' tt u32 b-deques o-deques n-deques deques len-deques (λ ν-deques δ-deques. move t' (6 ∷ []) $ lend t' tt R-Frame b-frames o-frames n-frames frames len-frames (λ ν-frames δ-frames. move t' (9 ∷ []) $ lend t' tt u32 b-pool o-pool n-pool pool len-pool (λ ν-pool δ-pool. move t' (12 ∷ []) $ lend t' tt u32 b-work o-work n-work work len-work (λ ν-work δ-work. move t' (15 ∷ []) $ give t' u8 b-bytes o-bytes n-bytes bytes $ move t' (18 ∷ []) $ lend t' tt u32 b-answers o-answers n-answers answers len-answers (λ ν-answers δ-answers.
+      move t' (18 ∷ 15 ∷ 12 ∷ 9 ∷ 6 ∷ 3 ∷ 0 ∷ 19 ∷ 16 ∷ 13 ∷ 10 ∷ 7 ∷ 4 ∷ 1 ∷ []) $ group t' 14 $ use1 𝓛 (raw ((Asked 𝓛 mem run).pre (to-step-g 𝓛 mem run ν-numbers δ-numbers ν-deques δ-deques ν-frames δ-frames ν-pool δ-pool ν-work δ-work κ-bytes q-bytes γ-bytes ν-answers δ-answers b-numbers o-numbers n-numbers numbers b-deques o-deques n-deques deques b-frames o-frames n-frames frames b-pool o-pool n-pool pool b-work o-work n-work work b-bytes o-bytes n-bytes bytes b-answers o-answers n-answers answers))) (goes-step-g 𝓛 mem run ν-numbers δ-numbers ν-deques δ-deques ν-frames δ-frames ν-pool δ-pool ν-work δ-work κ-bytes q-bytes γ-bytes ν-answers δ-answers b-numbers o-numbers n-numbers numbers b-deques o-deques n-deques deques b-frames o-frames n-frames frames b-pool o-pool n-pool pool b-work o-work n-work work b-bytes o-bytes n-bytes bytes b-answers o-answers n-answers answers) $
+      calls_at t' fm' (Asked 𝓛 mem run) known' (to-step-g 𝓛 mem run ν-numbers δ-numbers ν-deques δ-deques ν-frames δ-frames ν-pool δ-pool ν-work δ-work κ-bytes q-bytes γ-bytes ν-answers δ-answers b-numbers o-numbers n-numbers numbers b-deques o-deques n-deques deques b-frames o-frames n-frames frames b-pool o-pool n-pool pool b-work o-work n-work work b-bytes o-bytes n-bytes bytes b-answers o-answers n-answers answers) (os' ν-numbers δ-numbers ν-deques δ-deques ν-frames δ-frames ν-pool δ-pool ν-work δ-work ν-answers δ-answers) (λ w'.
+      use1 𝓛 (later (some (λ (res' : ℕ). ((‵ (flft (ν-numbers ∷ []) full_share) ⊛ (‵ (flft (ν-deques ∷ []) full_share) ⊛ (‵ (flft (ν-frames ∷ []) full_share) ⊛ (‵ (flft (ν-pool ∷ []) full_share) ⊛ (‵ (flft (ν-work ∷ []) full_share) ⊛ (‵ (flft κ-bytes q-bytes) ⊛ (‵ (flft (ν-answers ∷ []) full_share) ⊛ ‵ ftrue))))))) ⊛ ‵ (u32.own_val res' (w' ∷ []))) ⊛ raw (ensured 𝓛 callee'.ended (callee'.clauses 𝓛 mem run) ((ν-numbers ∷ []), ((ν-deques ∷ []), ((ν-frames ∷ []), ((ν-pool ∷ []), ((ν-work ∷ []), (κ-bytes, ((ν-answers ∷ []), tt))))))) (at_list b-numbers o-numbers δ-numbers numbers, (at_list b-deques o-deques δ-deques deques, (at_list b-frames o-frames δ-frames frames, (at_list b-pool o-pool δ-pool pool, (at_list b-work o-work δ-work work, (at_list b-bytes o-bytes γ-bytes bytes, (at_list b-answers o-answers δ-answers answers, tt))))))) tt res')))) (id⊢ 𝓤 _) $ await t' tt $ pick t' (λ res'. split t' $ move t' (1 ∷ []) $
+      use1 𝓛 (some (λ (zs' : List ℕ × (List ℕ × (List Frame × (List ℕ × (List ℕ × (Unit {0} × (List ℕ × Unit {0}))))))). ‵ (lasts callee'.ended ((ν-numbers ∷ []), ((ν-deques ∷ []), ((ν-frames ∷ []), ((ν-pool ∷ []), ((ν-work ∷ []), (κ-bytes, ((ν-answers ∷ []), tt))))))) (at_list b-numbers o-numbers δ-numbers numbers, (at_list b-deques o-deques δ-deques deques, (at_list b-frames o-frames δ-frames frames, (at_list b-pool o-pool δ-pool pool, (at_list b-work o-work δ-work work, (at_list b-bytes o-bytes γ-bytes bytes, (at_list b-answers o-answers δ-answers answers, tt))))))) zs') ⊛ raw (fact 𝓤 (IsTape (tape_on two_words (parts numbers deques frames) pool work bytes answers) zs'.0 zs'.1.0 zs'.1.1.0 zs'.1.1.1.0 zs'.1.1.1.1.0 zs'.1.1.1.1.1.1.0 res')))) (id⊢ 𝓤 _) $ pick t' (λ zs'. split t' $ move t' (1 ∷ []) $ heard t' (IsTape (tape_on two_words (parts numbers deques frames) pool work bytes answers) zs'.0 zs'.1.0 zs'.1.1.0 zs'.1.1.1.0 zs'.1.1.1.1.0 zs'.1.1.1.1.1.1.0 res') (λ e'.
+      fsplit t' $ fsplit t' $ move t' (1 ∷ []) $ feq_l t' (λ same_numbers. move t' (1 ∷ []) $ fsplit t' $ fsplit t' $ move t' (1 ∷ []) $ feq_l t' (λ same-deques. move t' (1 ∷ []) $ fsplit t' $ fsplit t' $ move t' (1 ∷ []) $ feq_l t' (λ same-frames. move t' (1 ∷ []) $ fsplit t' $ fsplit t' $ move t' (1 ∷ []) $ feq_l t' (λ same-pool. move t' (1 ∷ []) $ fsplit t' $ fsplit t' $ move t' (1 ∷ []) $ feq_l t' (λ same_work. move t' (1 ∷ []) $ fsplit t' $ drop t' $ fsplit t' $ fsplit t' $ move t' (1 ∷ []) $ feq_l t' (λ same-answers. move t' (1 ∷ []) $ drop t' $
+      move t' (6 ∷ []) $ split t' $ move t' (1 ∷ []) $ peeks t' u32 (Is u32) (shows 𝓛 u32) res' (w' ∷ []) (λ is'. drop t' $ split t' $ move t' (1 ∷ []) $ split t' $ move t' (1 ∷ []) $ split t' $ move t' (1 ∷ []) $ split t' $ move t' (1 ∷ []) $ split t' $ move t' (1 ∷ []) $ split t' $ move t' (1 ∷ []) $ split t' $ move t' (1 ∷ []) $ drop t' $
+      move t' (0 ∷ 13 ∷ 7 ∷ []) $ home t' tt u32 b-answers o-answers n-answers answers zs'.1.1.1.1.1.1.0 len-answers room-answers same-answers $ move t' (12 ∷ 1 ∷ []) $ fjoin t' $ move t' (2 ∷ 12 ∷ 7 ∷ []) $ home t' tt u32 b-work o-work n-work work zs'.1.1.1.1.0 len-work room-work same_work $ move t' (3 ∷ 11 ∷ 7 ∷ []) $ home t' tt u32 b-pool o-pool n-pool pool zs'.1.1.1.0 len-pool room-pool same-pool $ move t' (4 ∷ 10 ∷ 7 ∷ []) $ home t' tt R-Frame b-frames o-frames n-frames frames zs'.1.1.0 len-frames room-frames same-frames $ move t' (5 ∷ 9 ∷ 7 ∷ []) $ home t' tt u32 b-deques o-deques n-deques deques zs'.1.0 len-deques room-deques same-deques $ move t' (6 ∷ 8 ∷ 7 ∷ []) $ home t' tt u32 b-numbers o-numbers n-numbers numbers zs'.0 len-numbers room-numbers same_numbers $
+      subst (λ (v' : Val). Seq K 𝓛 (‵ (Mine u32 κ-numbers q-numbers γ-numbers b-numbers o-numbers n-numbers zs'.0) ∷ ‵ (Mine u32 κ-deques q-deques γ-deques b-deques o-deques n-deques zs'.1.0) ∷ ‵ (Mine R-Frame κ-frames q-frames γ-frames b-frames o-frames n-frames zs'.1.1.0) ∷ ‵ (Mine u32 κ-pool q-pool γ-pool b-pool o-pool n-pool zs'.1.1.1.0) ∷ ‵ (Mine u32 κ-work q-work γ-work b-work o-work n-work zs'.1.1.1.1.0) ∷ ‵ (Yours u8 κ-bytes q-bytes γ-bytes b-bytes o-bytes n-bytes bytes) ∷ ‵ (Mine u32 κ-answers q-answers γ-answers b-answers o-answers n-answers zs'.1.1.1.1.1.1.0) ∷ Γ) (lands C Λ E dest' v' rest' post')) (sym (ap only (uint_Tells w32 res' _ is'))) (k' res' zs'.0 zs'.1.0 zs'.1.1.0 zs'.1.1.1.0 zs'.1.1.1.1.0 zs'.1.1.1.1.1.1.0 is'.1 e' same_numbers same-deques same-frames same-pool same_work same-answers))))))))))))))))))
 
-  pub step-s : K → FmC 𝓤 H 𝓛.laws C → Triple 𝓤 (C name') (Asked 𝓛 mem run) → {κ-numbers : Lft} {q-numbers : Share} {γ-numbers : GName} {κ-deques : Lft} {q-deques : Share} {γ-deques : GName} {κ-frames : Lft} {q-frames : Share} {γ-frames : GName} {κ-memory : Lft} {q-memory : Share} {γ-memory : GName} {κ-pool : Lft} {q-pool : Share} {γ-pool : GName} {κ-work : Lft} {q-work : Share} {γ-work : GName} {κ-bytes : Lft} {q-bytes : Share} {γ-bytes : GName} {κ-answers : Lft} {q-answers : Share} {γ-answers : GName} → (b-numbers o-numbers n-numbers : ℕ) (numbers : List ℕ) (b-deques o-deques n-deques : ℕ) (deques : List ℕ) (b-frames o-frames n-frames : ℕ) (frames : List Frame) (b-memory o-memory n-memory : ℕ) (memory : List ℕ) (b-pool o-pool n-pool : ℕ) (pool : List ℕ) (b-work o-work n-work : ℕ) (work : List ℕ) (b-bytes o-bytes n-bytes : ℕ) (bytes : List ℕ) (b-answers o-answers n-answers : ℕ) (answers : List ℕ) → length numbers ≡ n-numbers → Room u32 n-numbers → length deques ≡ n-deques → Room u32 n-deques → length frames ≡ n-frames → Room R-Frame n-frames → length memory ≡ n-memory → Room u32 n-memory → length pool ≡ n-pool → Room u32 n-pool → length work ≡ n-work → Room u32 n-work → length bytes ≡ n-bytes → Room u8 n-bytes → length answers ≡ n-answers → Room u32 n-answers →
-      ((ν-numbers : ℕ) (δ-numbers : GName) (ν-deques : ℕ) (δ-deques : GName) (ν-frames : ℕ) (δ-frames : GName) (ν-memory : ℕ) (δ-memory : GName) (ν-pool : ℕ) (δ-pool : GName) (ν-work : ℕ) (δ-work : GName) (ν-bytes : ℕ) (δ-bytes : GName) (ν-answers : ℕ) (δ-answers : GName) → Opds K 𝓛 (raw ((Asked 𝓛 mem run).pre (to-step-s 𝓛 mem run ν-numbers δ-numbers ν-deques δ-deques ν-frames δ-frames ν-memory δ-memory ν-pool δ-pool ν-work δ-work ν-bytes δ-bytes ν-answers δ-answers b-numbers o-numbers n-numbers numbers b-deques o-deques n-deques deques b-frames o-frames n-frames frames b-memory o-memory n-memory memory b-pool o-pool n-pool pool b-work o-work n-work work b-bytes o-bytes n-bytes bytes b-answers o-answers n-answers answers)) ∷ ‵ (Lent u32 κ-answers (ν-answers ∷ []) q-answers γ-answers b-answers o-answers δ-answers answers) ∷ ‵ (Shown u8 κ-bytes (ν-bytes ∷ []) q-bytes γ-bytes b-bytes o-bytes bytes) ∷ ‵ (Lent u32 κ-work (ν-work ∷ []) q-work γ-work b-work o-work δ-work work) ∷ ‵ (Lent u32 κ-pool (ν-pool ∷ []) q-pool γ-pool b-pool o-pool δ-pool pool) ∷ ‵ (Lent u32 κ-memory (ν-memory ∷ []) q-memory γ-memory b-memory o-memory δ-memory memory) ∷ ‵ (Lent R-Frame κ-frames (ν-frames ∷ []) q-frames γ-frames b-frames o-frames δ-frames frames) ∷ ‵ (Lent u32 κ-deques (ν-deques ∷ []) q-deques γ-deques b-deques o-deques δ-deques deques) ∷ ‵ (Lent u32 κ-numbers (ν-numbers ∷ []) q-numbers γ-numbers b-numbers o-numbers δ-numbers numbers) ∷ Γ) E opds' (slice_val (b-numbers, o-numbers) n-numbers ∷ slice_val (b-deques, o-deques) n-deques ∷ slice_val (b-frames, o-frames) n-frames ∷ slice_val (b-memory, o-memory) n-memory ∷ slice_val (b-pool, o-pool) n-pool ∷ slice_val (b-work, o-work) n-work ∷ slice_val (b-bytes, o-bytes) n-bytes ∷ slice_val (b-answers, o-answers) n-answers ∷ [])) →
-      ((res' : Taped) (zs-numbers : List ℕ) (zs-deques : List ℕ) (zs-frames : List Frame) (zs-memory : List ℕ) (zs-pool : List ℕ) (zs-work : List ℕ) (zs-answers : List ℕ) → Is R-Taped res' (val-Taped res' ∷ []) → IsTapeWith (tape_remembering two_words (parts numbers deques frames) memory pool work bytes answers) zs-numbers zs-deques zs-frames zs-memory zs-pool zs-work zs-answers res'.result res'.visits → length zs-numbers ≡ length numbers → length zs-deques ≡ length deques → length zs-frames ≡ length frames → length zs-memory ≡ length memory → length zs-pool ≡ length pool → length zs-work ≡ length work → length zs-answers ≡ length answers → Seq K 𝓛 (‵ (Mine u32 κ-numbers q-numbers γ-numbers b-numbers o-numbers n-numbers zs-numbers) ∷ ‵ (Mine u32 κ-deques q-deques γ-deques b-deques o-deques n-deques zs-deques) ∷ ‵ (Mine R-Frame κ-frames q-frames γ-frames b-frames o-frames n-frames zs-frames) ∷ ‵ (Mine u32 κ-memory q-memory γ-memory b-memory o-memory n-memory zs-memory) ∷ ‵ (Mine u32 κ-pool q-pool γ-pool b-pool o-pool n-pool zs-pool) ∷ ‵ (Mine u32 κ-work q-work γ-work b-work o-work n-work zs-work) ∷ ‵ (Mine u8 κ-bytes q-bytes γ-bytes b-bytes o-bytes n-bytes bytes) ∷ ‵ (Mine u32 κ-answers q-answers γ-answers b-answers o-answers n-answers zs-answers) ∷ Γ) (lands C Λ E dest' (val-Taped res') rest' post')) →
-      Seq K 𝓛 (‵ (Mine u32 κ-numbers q-numbers γ-numbers b-numbers o-numbers n-numbers numbers) ∷ ‵ (Mine u32 κ-deques q-deques γ-deques b-deques o-deques n-deques deques) ∷ ‵ (Mine R-Frame κ-frames q-frames γ-frames b-frames o-frames n-frames frames) ∷ ‵ (Mine u32 κ-memory q-memory γ-memory b-memory o-memory n-memory memory) ∷ ‵ (Mine u32 κ-pool q-pool γ-pool b-pool o-pool n-pool pool) ∷ ‵ (Mine u32 κ-work q-work γ-work b-work o-work n-work work) ∷ ‵ (Mine u8 κ-bytes q-bytes γ-bytes b-bytes o-bytes n-bytes bytes) ∷ ‵ (Mine u32 κ-answers q-answers γ-answers b-answers o-answers n-answers answers) ∷ Γ) (runs C Λ E (seq (call name' opds' dest') rest') post')
-  step-s t' fm' known' {κ-numbers} {q-numbers} {γ-numbers} {κ-deques} {q-deques} {γ-deques} {κ-frames} {q-frames} {γ-frames} {κ-memory} {q-memory} {γ-memory} {κ-pool} {q-pool} {γ-pool} {κ-work} {q-work} {γ-work} {κ-bytes} {q-bytes} {γ-bytes} {κ-answers} {q-answers} {γ-answers} b-numbers o-numbers n-numbers numbers b-deques o-deques n-deques deques b-frames o-frames n-frames frames b-memory o-memory n-memory memory b-pool o-pool n-pool pool b-work o-work n-work work b-bytes o-bytes n-bytes bytes b-answers o-answers n-answers answers len-numbers room-numbers len-deques room-deques len-frames room-frames len-memory room-memory len-pool room-pool len-work room-work len-bytes room-bytes len-answers room-answers os' k' =
-      lend t' tt u32 b-numbers o-numbers n-numbers numbers len-numbers (λ ν-numbers δ-numbers. move t' (3 ∷ []) $ lend t' tt u32 b-deques o-deques n-deques deques len-deques (λ ν-deques δ-deques. move t' (6 ∷ []) $ lend t' tt R-Frame b-frames o-frames n-frames frames len-frames (λ ν-frames δ-frames. move t' (9 ∷ []) $ lend t' tt u32 b-memory o-memory n-memory memory len-memory (λ ν-memory δ-memory. move t' (12 ∷ []) $ lend t' tt u32 b-pool o-pool n-pool pool len-pool (λ ν-pool δ-pool. move t' (15 ∷ []) $ lend t' tt u32 b-work o-work n-work work len-work (λ ν-work δ-work. move t' (18 ∷ []) $ show t' tt u8 b-bytes o-bytes n-bytes bytes len-bytes (λ ν-bytes δ-bytes. move t' (21 ∷ []) $ lend t' tt u32 b-answers o-answers n-answers answers len-answers (λ ν-answers δ-answers.
-      move t' (21 ∷ 18 ∷ 15 ∷ 12 ∷ 9 ∷ 6 ∷ 3 ∷ 0 ∷ 22 ∷ 19 ∷ 16 ∷ 13 ∷ 10 ∷ 7 ∷ 4 ∷ 1 ∷ []) $ group t' 16 $ use1 𝓛 (raw ((Asked 𝓛 mem run).pre (to-step-s 𝓛 mem run ν-numbers δ-numbers ν-deques δ-deques ν-frames δ-frames ν-memory δ-memory ν-pool δ-pool ν-work δ-work ν-bytes δ-bytes ν-answers δ-answers b-numbers o-numbers n-numbers numbers b-deques o-deques n-deques deques b-frames o-frames n-frames frames b-memory o-memory n-memory memory b-pool o-pool n-pool pool b-work o-work n-work work b-bytes o-bytes n-bytes bytes b-answers o-answers n-answers answers))) (goes-step-s 𝓛 mem run ν-numbers δ-numbers ν-deques δ-deques ν-frames δ-frames ν-memory δ-memory ν-pool δ-pool ν-work δ-work ν-bytes δ-bytes ν-answers δ-answers b-numbers o-numbers n-numbers numbers b-deques o-deques n-deques deques b-frames o-frames n-frames frames b-memory o-memory n-memory memory b-pool o-pool n-pool pool b-work o-work n-work work b-bytes o-bytes n-bytes bytes b-answers o-answers n-answers answers) $
-      calls_at t' fm' (Asked 𝓛 mem run) known' (to-step-s 𝓛 mem run ν-numbers δ-numbers ν-deques δ-deques ν-frames δ-frames ν-memory δ-memory ν-pool δ-pool ν-work δ-work ν-bytes δ-bytes ν-answers δ-answers b-numbers o-numbers n-numbers numbers b-deques o-deques n-deques deques b-frames o-frames n-frames frames b-memory o-memory n-memory memory b-pool o-pool n-pool pool b-work o-work n-work work b-bytes o-bytes n-bytes bytes b-answers o-answers n-answers answers) (os' ν-numbers δ-numbers ν-deques δ-deques ν-frames δ-frames ν-memory δ-memory ν-pool δ-pool ν-work δ-work ν-bytes δ-bytes ν-answers δ-answers) (λ w'.
-      use1 𝓛 (later (some (λ (res' : Taped). ((‵ (flft (ν-numbers ∷ []) full_share) ⊛ (‵ (flft (ν-deques ∷ []) full_share) ⊛ (‵ (flft (ν-frames ∷ []) full_share) ⊛ (‵ (flft (ν-memory ∷ []) full_share) ⊛ (‵ (flft (ν-pool ∷ []) full_share) ⊛ (‵ (flft (ν-work ∷ []) full_share) ⊛ (‵ (flft (ν-bytes ∷ []) full_share) ⊛ (‵ (flft (ν-answers ∷ []) full_share) ⊛ ‵ ftrue)))))))) ⊛ ‵ (R-Taped.own res' (w' ∷ []))) ⊛ raw (ensured 𝓛 callee'.ended (callee'.clauses 𝓛 mem run) ((ν-numbers ∷ []), ((ν-deques ∷ []), ((ν-frames ∷ []), ((ν-memory ∷ []), ((ν-pool ∷ []), ((ν-work ∷ []), ((ν-bytes ∷ []), ((ν-answers ∷ []), tt)))))))) (at_list b-numbers o-numbers δ-numbers numbers, (at_list b-deques o-deques δ-deques deques, (at_list b-frames o-frames δ-frames frames, (at_list b-memory o-memory δ-memory memory, (at_list b-pool o-pool δ-pool pool, (at_list b-work o-work δ-work work, (at_list b-bytes o-bytes δ-bytes bytes, (at_list b-answers o-answers δ-answers answers, tt)))))))) tt res')))) (id⊢ 𝓤 _) $ await t' tt $ pick t' (λ res'. split t' $ move t' (1 ∷ []) $
-      use1 𝓛 (some (λ (zs' : List ℕ × (List ℕ × (List Frame × (List ℕ × (List ℕ × (List ℕ × (Unit {0} × (List ℕ × Unit {0})))))))). ‵ (lasts callee'.ended ((ν-numbers ∷ []), ((ν-deques ∷ []), ((ν-frames ∷ []), ((ν-memory ∷ []), ((ν-pool ∷ []), ((ν-work ∷ []), ((ν-bytes ∷ []), ((ν-answers ∷ []), tt)))))))) (at_list b-numbers o-numbers δ-numbers numbers, (at_list b-deques o-deques δ-deques deques, (at_list b-frames o-frames δ-frames frames, (at_list b-memory o-memory δ-memory memory, (at_list b-pool o-pool δ-pool pool, (at_list b-work o-work δ-work work, (at_list b-bytes o-bytes δ-bytes bytes, (at_list b-answers o-answers δ-answers answers, tt)))))))) zs') ⊛ raw (fact 𝓤 (IsTapeWith (tape_remembering two_words (parts numbers deques frames) memory pool work bytes answers) zs'.0 zs'.1.0 zs'.1.1.0 zs'.1.1.1.0 zs'.1.1.1.1.0 zs'.1.1.1.1.1.0 zs'.1.1.1.1.1.1.1.0 res'.result res'.visits)))) (id⊢ 𝓤 _) $ pick t' (λ zs'. split t' $ move t' (1 ∷ []) $ heard t' (IsTapeWith (tape_remembering two_words (parts numbers deques frames) memory pool work bytes answers) zs'.0 zs'.1.0 zs'.1.1.0 zs'.1.1.1.0 zs'.1.1.1.1.0 zs'.1.1.1.1.1.0 zs'.1.1.1.1.1.1.1.0 res'.result res'.visits) (λ e'.
-      fsplit t' $ fsplit t' $ move t' (1 ∷ []) $ feq_l t' (λ same_numbers. move t' (1 ∷ []) $ fsplit t' $ fsplit t' $ move t' (1 ∷ []) $ feq_l t' (λ same-deques. move t' (1 ∷ []) $ fsplit t' $ fsplit t' $ move t' (1 ∷ []) $ feq_l t' (λ same-frames. move t' (1 ∷ []) $ fsplit t' $ fsplit t' $ move t' (1 ∷ []) $ feq_l t' (λ same_memory. move t' (1 ∷ []) $ fsplit t' $ fsplit t' $ move t' (1 ∷ []) $ feq_l t' (λ same-pool. move t' (1 ∷ []) $ fsplit t' $ fsplit t' $ move t' (1 ∷ []) $ feq_l t' (λ same_work. move t' (1 ∷ []) $ fsplit t' $ drop t' $ fsplit t' $ fsplit t' $ move t' (1 ∷ []) $ feq_l t' (λ same-answers. move t' (1 ∷ []) $ drop t' $
-      move t' (7 ∷ []) $ split t' $ move t' (1 ∷ []) $ peeks t' R-Taped (Is R-Taped) (shows 𝓛 R-Taped) res' (w' ∷ []) (λ is'. drop t' $ split t' $ move t' (1 ∷ []) $ split t' $ move t' (1 ∷ []) $ split t' $ move t' (1 ∷ []) $ split t' $ move t' (1 ∷ []) $ split t' $ move t' (1 ∷ []) $ split t' $ move t' (1 ∷ []) $ split t' $ move t' (1 ∷ []) $ split t' $ move t' (1 ∷ []) $ drop t' $
-      move t' (0 ∷ 15 ∷ 8 ∷ []) $ home t' tt u32 b-answers o-answers n-answers answers zs'.1.1.1.1.1.1.1.0 len-answers room-answers same-answers $ move t' (1 ∷ 14 ∷ []) $ back t' tt u8 b-bytes o-bytes n-bytes bytes len-bytes room-bytes $ move t' (2 ∷ 14 ∷ 8 ∷ []) $ home t' tt u32 b-work o-work n-work work zs'.1.1.1.1.1.0 len-work room-work same_work $ move t' (3 ∷ 13 ∷ 8 ∷ []) $ home t' tt u32 b-pool o-pool n-pool pool zs'.1.1.1.1.0 len-pool room-pool same-pool $ move t' (4 ∷ 12 ∷ 8 ∷ []) $ home t' tt u32 b-memory o-memory n-memory memory zs'.1.1.1.0 len-memory room-memory same_memory $ move t' (5 ∷ 11 ∷ 8 ∷ []) $ home t' tt R-Frame b-frames o-frames n-frames frames zs'.1.1.0 len-frames room-frames same-frames $ move t' (6 ∷ 10 ∷ 8 ∷ []) $ home t' tt u32 b-deques o-deques n-deques deques zs'.1.0 len-deques room-deques same-deques $ move t' (7 ∷ 9 ∷ 8 ∷ []) $ home t' tt u32 b-numbers o-numbers n-numbers numbers zs'.0 len-numbers room-numbers same_numbers $
-      subst (λ (v' : Val). Seq K 𝓛 (‵ (Mine u32 κ-numbers q-numbers γ-numbers b-numbers o-numbers n-numbers zs'.0) ∷ ‵ (Mine u32 κ-deques q-deques γ-deques b-deques o-deques n-deques zs'.1.0) ∷ ‵ (Mine R-Frame κ-frames q-frames γ-frames b-frames o-frames n-frames zs'.1.1.0) ∷ ‵ (Mine u32 κ-memory q-memory γ-memory b-memory o-memory n-memory zs'.1.1.1.0) ∷ ‵ (Mine u32 κ-pool q-pool γ-pool b-pool o-pool n-pool zs'.1.1.1.1.0) ∷ ‵ (Mine u32 κ-work q-work γ-work b-work o-work n-work zs'.1.1.1.1.1.0) ∷ ‵ (Mine u8 κ-bytes q-bytes γ-bytes b-bytes o-bytes n-bytes bytes) ∷ ‵ (Mine u32 κ-answers q-answers γ-answers b-answers o-answers n-answers zs'.1.1.1.1.1.1.1.0) ∷ Γ) (lands C Λ E dest' v' rest' post')) (sym (ap only (LL.tells M-Taped.the_type L-Taped.the_laws res' _ is'))) (k' res' zs'.0 zs'.1.0 zs'.1.1.0 zs'.1.1.1.0 zs'.1.1.1.1.0 zs'.1.1.1.1.1.0 zs'.1.1.1.1.1.1.1.0 (subst (Is R-Taped res') (LL.tells M-Taped.the_type L-Taped.the_laws res' _ is') is') e' same_numbers same-deques same-frames same_memory same-pool same_work same-answers)))))))))))))))))))))
+  pub step-s : K → FmC 𝓤 H 𝓛.laws C → Triple 𝓤 (C name') (Asked 𝓛 mem run) → {κ-numbers : Lft} {q-numbers : Share} {γ-numbers : GName} {κ-deques : Lft} {q-deques : Share} {γ-deques : GName} {κ-frames : Lft} {q-frames : Share} {γ-frames : GName} {κ-pool : Lft} {q-pool : Share} {γ-pool : GName} {κ-work : Lft} {q-work : Share} {γ-work : GName} {κ-bytes : Lft} {q-bytes : Share} {γ-bytes : GName} {κ-answers : Lft} {q-answers : Share} {γ-answers : GName} → (b-numbers o-numbers n-numbers : ℕ) (numbers : List ℕ) (b-deques o-deques n-deques : ℕ) (deques : List ℕ) (b-frames o-frames n-frames : ℕ) (frames : List Frame) (b-pool o-pool n-pool : ℕ) (pool : List ℕ) (b-work o-work n-work : ℕ) (work : List ℕ) (b-bytes o-bytes n-bytes : ℕ) (bytes : List ℕ) (b-answers o-answers n-answers : ℕ) (answers : List ℕ) → length numbers ≡ n-numbers → Room u32 n-numbers → length deques ≡ n-deques → Room u32 n-deques → length frames ≡ n-frames → Room R-Frame n-frames → length pool ≡ n-pool → Room u32 n-pool → length work ≡ n-work → Room u32 n-work → length bytes ≡ n-bytes → Room u8 n-bytes → length answers ≡ n-answers → Room u32 n-answers →
+      ((ν-numbers : ℕ) (δ-numbers : GName) (ν-deques : ℕ) (δ-deques : GName) (ν-frames : ℕ) (δ-frames : GName) (ν-pool : ℕ) (δ-pool : GName) (ν-work : ℕ) (δ-work : GName) (ν-bytes : ℕ) (δ-bytes : GName) (ν-answers : ℕ) (δ-answers : GName) → Opds K 𝓛 (raw ((Asked 𝓛 mem run).pre (to-step-s 𝓛 mem run ν-numbers δ-numbers ν-deques δ-deques ν-frames δ-frames ν-pool δ-pool ν-work δ-work ν-bytes δ-bytes ν-answers δ-answers b-numbers o-numbers n-numbers numbers b-deques o-deques n-deques deques b-frames o-frames n-frames frames b-pool o-pool n-pool pool b-work o-work n-work work b-bytes o-bytes n-bytes bytes b-answers o-answers n-answers answers)) ∷ ‵ (Lent u32 κ-answers (ν-answers ∷ []) q-answers γ-answers b-answers o-answers δ-answers answers) ∷ ‵ (Shown u8 κ-bytes (ν-bytes ∷ []) q-bytes γ-bytes b-bytes o-bytes bytes) ∷ ‵ (Lent u32 κ-work (ν-work ∷ []) q-work γ-work b-work o-work δ-work work) ∷ ‵ (Lent u32 κ-pool (ν-pool ∷ []) q-pool γ-pool b-pool o-pool δ-pool pool) ∷ ‵ (Lent R-Frame κ-frames (ν-frames ∷ []) q-frames γ-frames b-frames o-frames δ-frames frames) ∷ ‵ (Lent u32 κ-deques (ν-deques ∷ []) q-deques γ-deques b-deques o-deques δ-deques deques) ∷ ‵ (Lent u32 κ-numbers (ν-numbers ∷ []) q-numbers γ-numbers b-numbers o-numbers δ-numbers numbers) ∷ Γ) E opds' (slice_val (b-numbers, o-numbers) n-numbers ∷ slice_val (b-deques, o-deques) n-deques ∷ slice_val (b-frames, o-frames) n-frames ∷ slice_val (b-pool, o-pool) n-pool ∷ slice_val (b-work, o-work) n-work ∷ slice_val (b-bytes, o-bytes) n-bytes ∷ slice_val (b-answers, o-answers) n-answers ∷ [])) →
+      ((res' : ℕ) (zs-numbers : List ℕ) (zs-deques : List ℕ) (zs-frames : List Frame) (zs-pool : List ℕ) (zs-work : List ℕ) (zs-answers : List ℕ) → res' < 2 ^ 32 → IsTape (tape_on two_words (parts numbers deques frames) pool work bytes answers) zs-numbers zs-deques zs-frames zs-pool zs-work zs-answers res' → length zs-numbers ≡ length numbers → length zs-deques ≡ length deques → length zs-frames ≡ length frames → length zs-pool ≡ length pool → length zs-work ≡ length work → length zs-answers ≡ length answers → Seq K 𝓛 (‵ (Mine u32 κ-numbers q-numbers γ-numbers b-numbers o-numbers n-numbers zs-numbers) ∷ ‵ (Mine u32 κ-deques q-deques γ-deques b-deques o-deques n-deques zs-deques) ∷ ‵ (Mine R-Frame κ-frames q-frames γ-frames b-frames o-frames n-frames zs-frames) ∷ ‵ (Mine u32 κ-pool q-pool γ-pool b-pool o-pool n-pool zs-pool) ∷ ‵ (Mine u32 κ-work q-work γ-work b-work o-work n-work zs-work) ∷ ‵ (Mine u8 κ-bytes q-bytes γ-bytes b-bytes o-bytes n-bytes bytes) ∷ ‵ (Mine u32 κ-answers q-answers γ-answers b-answers o-answers n-answers zs-answers) ∷ Γ) (lands C Λ E dest' (vint w32 res') rest' post')) →
+      Seq K 𝓛 (‵ (Mine u32 κ-numbers q-numbers γ-numbers b-numbers o-numbers n-numbers numbers) ∷ ‵ (Mine u32 κ-deques q-deques γ-deques b-deques o-deques n-deques deques) ∷ ‵ (Mine R-Frame κ-frames q-frames γ-frames b-frames o-frames n-frames frames) ∷ ‵ (Mine u32 κ-pool q-pool γ-pool b-pool o-pool n-pool pool) ∷ ‵ (Mine u32 κ-work q-work γ-work b-work o-work n-work work) ∷ ‵ (Mine u8 κ-bytes q-bytes γ-bytes b-bytes o-bytes n-bytes bytes) ∷ ‵ (Mine u32 κ-answers q-answers γ-answers b-answers o-answers n-answers answers) ∷ Γ) (runs C Λ E (seq (call name' opds' dest') rest') post')
+  step-s t' fm' known' {κ-numbers} {q-numbers} {γ-numbers} {κ-deques} {q-deques} {γ-deques} {κ-frames} {q-frames} {γ-frames} {κ-pool} {q-pool} {γ-pool} {κ-work} {q-work} {γ-work} {κ-bytes} {q-bytes} {γ-bytes} {κ-answers} {q-answers} {γ-answers} b-numbers o-numbers n-numbers numbers b-deques o-deques n-deques deques b-frames o-frames n-frames frames b-pool o-pool n-pool pool b-work o-work n-work work b-bytes o-bytes n-bytes bytes b-answers o-answers n-answers answers len-numbers room-numbers len-deques room-deques len-frames room-frames len-pool room-pool len-work room-work len-bytes room-bytes len-answers room-answers os' k' =
+      lend t' tt u32 b-numbers o-numbers n-numbers numbers len-numbers (λ ν-numbers δ-numbers. move t' (3 ∷ []) $ lend t' tt u32 b-deques o-deques n-deques deques len-deques (λ ν-deques δ-deques. move t' (6 ∷ []) $ lend t' tt R-Frame b-frames o-frames n-frames frames len-frames (λ ν-frames δ-frames. move t' (9 ∷ []) $ lend t' tt u32 b-pool o-pool n-pool pool len-pool (λ ν-pool δ-pool. move t' (12 ∷ []) $ lend t' tt u32 b-work o-work n-work work len-work (λ ν-work δ-work. move t' (15 ∷ []) $ show t' tt u8 b-bytes o-bytes n-bytes bytes len-bytes (λ ν-bytes δ-bytes. move t' (18 ∷ []) $ lend t' tt u32 b-answers o-answers n-answers answers len-answers (λ ν-answers δ-answers.
+      move t' (18 ∷ 15 ∷ 12 ∷ 9 ∷ 6 ∷ 3 ∷ 0 ∷ 19 ∷ 16 ∷ 13 ∷ 10 ∷ 7 ∷ 4 ∷ 1 ∷ []) $ group t' 14 $ use1 𝓛 (raw ((Asked 𝓛 mem run).pre (to-step-s 𝓛 mem run ν-numbers δ-numbers ν-deques δ-deques ν-frames δ-frames ν-pool δ-pool ν-work δ-work ν-bytes δ-bytes ν-answers δ-answers b-numbers o-numbers n-numbers numbers b-deques o-deques n-deques deques b-frames o-frames n-frames frames b-pool o-pool n-pool pool b-work o-work n-work work b-bytes o-bytes n-bytes bytes b-answers o-answers n-answers answers))) (goes-step-s 𝓛 mem run ν-numbers δ-numbers ν-deques δ-deques ν-frames δ-frames ν-pool δ-pool ν-work δ-work ν-bytes δ-bytes ν-answers δ-answers b-numbers o-numbers n-numbers numbers b-deques o-deques n-deques deques b-frames o-frames n-frames frames b-pool o-pool n-pool pool b-work o-work n-work work b-bytes o-bytes n-bytes bytes b-answers o-answers n-answers answers) $
+      calls_at t' fm' (Asked 𝓛 mem run) known' (to-step-s 𝓛 mem run ν-numbers δ-numbers ν-deques δ-deques ν-frames δ-frames ν-pool δ-pool ν-work δ-work ν-bytes δ-bytes ν-answers δ-answers b-numbers o-numbers n-numbers numbers b-deques o-deques n-deques deques b-frames o-frames n-frames frames b-pool o-pool n-pool pool b-work o-work n-work work b-bytes o-bytes n-bytes bytes b-answers o-answers n-answers answers) (os' ν-numbers δ-numbers ν-deques δ-deques ν-frames δ-frames ν-pool δ-pool ν-work δ-work ν-bytes δ-bytes ν-answers δ-answers) (λ w'.
+      use1 𝓛 (later (some (λ (res' : ℕ). ((‵ (flft (ν-numbers ∷ []) full_share) ⊛ (‵ (flft (ν-deques ∷ []) full_share) ⊛ (‵ (flft (ν-frames ∷ []) full_share) ⊛ (‵ (flft (ν-pool ∷ []) full_share) ⊛ (‵ (flft (ν-work ∷ []) full_share) ⊛ (‵ (flft (ν-bytes ∷ []) full_share) ⊛ (‵ (flft (ν-answers ∷ []) full_share) ⊛ ‵ ftrue))))))) ⊛ ‵ (u32.own_val res' (w' ∷ []))) ⊛ raw (ensured 𝓛 callee'.ended (callee'.clauses 𝓛 mem run) ((ν-numbers ∷ []), ((ν-deques ∷ []), ((ν-frames ∷ []), ((ν-pool ∷ []), ((ν-work ∷ []), ((ν-bytes ∷ []), ((ν-answers ∷ []), tt))))))) (at_list b-numbers o-numbers δ-numbers numbers, (at_list b-deques o-deques δ-deques deques, (at_list b-frames o-frames δ-frames frames, (at_list b-pool o-pool δ-pool pool, (at_list b-work o-work δ-work work, (at_list b-bytes o-bytes δ-bytes bytes, (at_list b-answers o-answers δ-answers answers, tt))))))) tt res')))) (id⊢ 𝓤 _) $ await t' tt $ pick t' (λ res'. split t' $ move t' (1 ∷ []) $
+      use1 𝓛 (some (λ (zs' : List ℕ × (List ℕ × (List Frame × (List ℕ × (List ℕ × (Unit {0} × (List ℕ × Unit {0}))))))). ‵ (lasts callee'.ended ((ν-numbers ∷ []), ((ν-deques ∷ []), ((ν-frames ∷ []), ((ν-pool ∷ []), ((ν-work ∷ []), ((ν-bytes ∷ []), ((ν-answers ∷ []), tt))))))) (at_list b-numbers o-numbers δ-numbers numbers, (at_list b-deques o-deques δ-deques deques, (at_list b-frames o-frames δ-frames frames, (at_list b-pool o-pool δ-pool pool, (at_list b-work o-work δ-work work, (at_list b-bytes o-bytes δ-bytes bytes, (at_list b-answers o-answers δ-answers answers, tt))))))) zs') ⊛ raw (fact 𝓤 (IsTape (tape_on two_words (parts numbers deques frames) pool work bytes answers) zs'.0 zs'.1.0 zs'.1.1.0 zs'.1.1.1.0 zs'.1.1.1.1.0 zs'.1.1.1.1.1.1.0 res')))) (id⊢ 𝓤 _) $ pick t' (λ zs'. split t' $ move t' (1 ∷ []) $ heard t' (IsTape (tape_on two_words (parts numbers deques frames) pool work bytes answers) zs'.0 zs'.1.0 zs'.1.1.0 zs'.1.1.1.0 zs'.1.1.1.1.0 zs'.1.1.1.1.1.1.0 res') (λ e'.
+      fsplit t' $ fsplit t' $ move t' (1 ∷ []) $ feq_l t' (λ same_numbers. move t' (1 ∷ []) $ fsplit t' $ fsplit t' $ move t' (1 ∷ []) $ feq_l t' (λ same-deques. move t' (1 ∷ []) $ fsplit t' $ fsplit t' $ move t' (1 ∷ []) $ feq_l t' (λ same-frames. move t' (1 ∷ []) $ fsplit t' $ fsplit t' $ move t' (1 ∷ []) $ feq_l t' (λ same-pool. move t' (1 ∷ []) $ fsplit t' $ fsplit t' $ move t' (1 ∷ []) $ feq_l t' (λ same_work. move t' (1 ∷ []) $ fsplit t' $ drop t' $ fsplit t' $ fsplit t' $ move t' (1 ∷ []) $ feq_l t' (λ same-answers. move t' (1 ∷ []) $ drop t' $
+      move t' (6 ∷ []) $ split t' $ move t' (1 ∷ []) $ peeks t' u32 (Is u32) (shows 𝓛 u32) res' (w' ∷ []) (λ is'. drop t' $ split t' $ move t' (1 ∷ []) $ split t' $ move t' (1 ∷ []) $ split t' $ move t' (1 ∷ []) $ split t' $ move t' (1 ∷ []) $ split t' $ move t' (1 ∷ []) $ split t' $ move t' (1 ∷ []) $ split t' $ move t' (1 ∷ []) $ drop t' $
+      move t' (0 ∷ 13 ∷ 7 ∷ []) $ home t' tt u32 b-answers o-answers n-answers answers zs'.1.1.1.1.1.1.0 len-answers room-answers same-answers $ move t' (1 ∷ 12 ∷ []) $ back t' tt u8 b-bytes o-bytes n-bytes bytes len-bytes room-bytes $ move t' (2 ∷ 12 ∷ 7 ∷ []) $ home t' tt u32 b-work o-work n-work work zs'.1.1.1.1.0 len-work room-work same_work $ move t' (3 ∷ 11 ∷ 7 ∷ []) $ home t' tt u32 b-pool o-pool n-pool pool zs'.1.1.1.0 len-pool room-pool same-pool $ move t' (4 ∷ 10 ∷ 7 ∷ []) $ home t' tt R-Frame b-frames o-frames n-frames frames zs'.1.1.0 len-frames room-frames same-frames $ move t' (5 ∷ 9 ∷ 7 ∷ []) $ home t' tt u32 b-deques o-deques n-deques deques zs'.1.0 len-deques room-deques same-deques $ move t' (6 ∷ 8 ∷ 7 ∷ []) $ home t' tt u32 b-numbers o-numbers n-numbers numbers zs'.0 len-numbers room-numbers same_numbers $
+      subst (λ (v' : Val). Seq K 𝓛 (‵ (Mine u32 κ-numbers q-numbers γ-numbers b-numbers o-numbers n-numbers zs'.0) ∷ ‵ (Mine u32 κ-deques q-deques γ-deques b-deques o-deques n-deques zs'.1.0) ∷ ‵ (Mine R-Frame κ-frames q-frames γ-frames b-frames o-frames n-frames zs'.1.1.0) ∷ ‵ (Mine u32 κ-pool q-pool γ-pool b-pool o-pool n-pool zs'.1.1.1.0) ∷ ‵ (Mine u32 κ-work q-work γ-work b-work o-work n-work zs'.1.1.1.1.0) ∷ ‵ (Mine u8 κ-bytes q-bytes γ-bytes b-bytes o-bytes n-bytes bytes) ∷ ‵ (Mine u32 κ-answers q-answers γ-answers b-answers o-answers n-answers zs'.1.1.1.1.1.1.0) ∷ Γ) (lands C Λ E dest' v' rest' post')) (sym (ap only (uint_Tells w32 res' _ is'))) (k' res' zs'.0 zs'.1.0 zs'.1.1.0 zs'.1.1.1.0 zs'.1.1.1.1.0 zs'.1.1.1.1.1.1.0 is'.1 e' same_numbers same-deques same-frames same-pool same_work same-answers)))))))))))))))))))

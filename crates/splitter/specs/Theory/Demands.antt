@@ -1,26 +1,18 @@
--- Demands 1 to 3 of document 01, and what R-1 to R-10 add, for the layout that the library's functions promise (two_words). Crate semantics has them for every
--- layout whose pools have their laws (Theory.Pools, Theory.Leaves), and two-word nodes have these (Theory.TwoPools, Theory.TwoLeaves). Its Demands, ReportDemands, ConvertDemands,
--- Matching and RememberingDemands say what each means. The library's functions promise the entries with the memory (Remembering); the sections before R-10's are about
--- the entries without it, and R-10's says that these do the same.
-use Rattle.std.specs.Prelude.{◌≡◌, ◌≢◌, true, false, List, ℕ, ◌*◌, ◌<◌, ◌≤◌, length, take}
+-- Demands 1 to 3 of document 01, and what R-1 to R-9 add, for the layout that the library's functions promise (two_words). Crate semantics has them for every
+-- layout whose pools have their laws (Theory.Pools), and two-word nodes have these (Theory.TwoPools). Its Demands, ReportDemands, ConvertDemands and Matching say what each means.
+use Rattle.std.specs.Prelude.{◌≡◌, ◌≢◌, true, false, List, ℕ, ◌*◌, ◌<◌, ◌≤◌, length}
 use Rattle.words.specs.Below.{Words}
-use Rattle.memory.specs.Memory.{memory_words}
 use Rattle.soundness.specs.Layout.{four_words, two_words}
-use Rattle.model.specs.declared.Decoded.{Decoded}
-use Rattle.semantics.specs.Entries.{State, fits, numbers_of, is_sound, whole_nodes, start_on, outside_on, tape_on}
-use Rattle.semantics.specs.Images.{saved_bytes, save_on, load_on}
-use Rattle.semantics.specs.Report.{Lent, report_on}
-use Rattle.semantics.specs.Calls.{Start, start_result, after_start, HostCall, tape, StateAndPool, save_result, Run, Call, begun}
+use Rattle.semantics.specs.Entries.{State, fits, numbers_of, is_sound, whole_nodes}
+use Rattle.semantics.specs.Images.{load_on}
+use Rattle.semantics.specs.Report.{Lent}
+use Rattle.semantics.specs.Calls.{Start, start_result, after_start, HostCall, StateAndPool, save_result, Call, begun}
 use Rattle.semantics.specs.Demands.{Demand2, MainReturned, Demand3, RestIsCounted, WritesAgain, SoundRun, StateWords, StartWords, AllCallWords, run_from, RefusedStart, AcceptedStart, IsRefused, RefusedCall, SamePast, WorkAfter, AcceptedSave, WorkAfterSave, RefusedLoad, AcceptedLoad, WorkAfterLoad, written_image, ReadsBack}
 use Rattle.semantics.specs.ReportDemands.{report_result, AloneFits, AloneReport, RefusedReport, ReportChecks, TapeRan, SameRun, ReportIs, NoOverflow, SamePair}
-use Rattle.semantics.specs.Convert.{convert_on, change_over, changed_run}
+use Rattle.semantics.specs.Convert.{convert_on, change_over}
 use Rattle.semantics.specs.ConvertDemands.{ConvertChecks, RefusedConvert, WorkAfterConvert, AcceptedConvert, SameTwice, RefusedTwice, OldImageRefused, ChangedDemand2, ChangedReturned, ChangedDemand3, SameMachine, SameCalls, in_pool, AsIfBegunSo}
 use Rattle.semantics.specs.Matching.{AsManyNodes}
-use Rattle.semantics.specs.Remembering.{fits_with, right_memory, start_remembering, outside_remembering, tape_remembering, report_remembering, save_remembering, load_remembering, convert_remembering}
-use Rattle.semantics.specs.RememberingCalls.{Holding, start_holding, held_from}
-use Rattle.semantics.specs.RememberingDemands.{RightWhere, Sure, AsWithout, StartLeaves, LoadLeaves, ReadsBackWith, ConvertLeaves, IsRefusedWith, RefusedWith, RefusedTape, WorkAfterWith, run_with, Demand2With, MainReturnedWith, Demand3With, SoundRunWith, changed_with, changed_run_with, ReportLeaves}
 use Rattle.semantics.specs.Theory.TwoPools.{two_pools}
-use Rattle.semantics.specs.Theory.TwoLeaves.{two_leaves}
 use Rattle.semantics.specs.Theory.RefusedCalls as calls
 use Rattle.semantics.specs.Theory.Images as images
 use Rattle.semantics.specs.Theory.StartedRuns as started
@@ -33,8 +25,6 @@ use Rattle.semantics.specs.Theory.ChangedRuns as changed
 use Rattle.semantics.specs.Theory.SameMachine as machine
 use Rattle.semantics.specs.Theory.AsIfBegun as begun-so
 use Rattle.semantics.specs.Theory.OldImages as old
-use Rattle.semantics.specs.Theory.RememberingRuns as remembering
-use Rattle.semantics.specs.Theory.RememberingDemands as remembered
 
 -- ---- demand 1
 
@@ -167,85 +157,3 @@ as_if_begun_so = begun-so.as_if_begun_so
 pub begun_so_too : (b : Start) (before : List Call) (ws : List ℕ) → (start_result four_words b).result ≡ 0 → StartWords b → Words ws → AsManyNodes ws b.pool → AllCallWords before
     → (before₂ : List Call) × AllCallWords before₂ × SameCalls (begun (after_start two_words (in_pool b ws))) (begun (after_start four_words b)) before₂ before
 begun_so_too = begun-so.begun_so_too
-
--- ---- R-10's memory: each call with it is the call without it, but for the memory
-
-pub same_start : (s : State) (ms : List ℕ) (workers : ℕ) (vs ws : List ℕ) → length ms ≡ memory_words → (start_remembering two_words s ms workers vs ws).call ≡ start_on two_words s workers vs ws
-same_start = remembering.start-same two_words
-
--- if the memory is right where state and pool are sound; else the check finds 6
-pub same_step : (s : State) (ms ws work : List ℕ) → length ms ≡ memory_words → RightWhere two_words s ws ms → (d : Decoded) → (outside_remembering two_words s ms ws work d).call ≡ outside_on two_words s ws work d
-same_step = remembering.outside_same two_words
-
-pub same-tape : (s : State) (ms ws work : List ℕ) → length ms ≡ memory_words → RightWhere two_words s ws ms → (bytes answers : List ℕ) → (tape_remembering two_words s ms ws work bytes answers).tape ≡ tape_on two_words s ws work bytes answers
-same-tape = remembering.tape-same two_words
-
-pub same_save : (s : State) (ms ws work : List ℕ) → length ms ≡ memory_words → RightWhere two_words s ws ms → (target : List ℕ) → save_remembering two_words s ms ws work target ≡ save_on two_words s ws work target
-same_save = remembering.save_same two_words
-
-pub same_load : (s : State) (ms ws work image : List ℕ) → length ms ≡ memory_words → (load_remembering two_words s ms ws work image).call ≡ load_on two_words s ws work image
-same_load = remembering.load_same two_words
-
-pub same_report_with : (s : State) (ms : List ℕ) (workers : ℕ) (vs ws bytes : List ℕ) (l : Lent) → length ms ≡ memory_words → (report_remembering two_words s ms workers vs ws bytes l).call ≡ report_on two_words s workers vs ws bytes l
-same_report_with = remembered.report_same two_words
-
-pub same_convert : (s : State) (ms ws work : List ℕ) → length ms ≡ memory_words → (convert_remembering s ms ws work).call ≡ convert_on s ws work
-same_convert = remembered.convert_same
-
--- "No remembered leaf alters an answer": of whole runs, in which the memory stays right
-pub start_sure : (b : Start) (ms : List ℕ) → length ms ≡ memory_words → Sure two_words (held_from two_words b ms)
-start_sure = remembering.start_sure two_words two_pools two_leaves
-
-pub as_without : (g : Holding) → Sure two_words g → (calls : List Call) → AsWithout two_words g calls
-as_without = remembering.as_without two_words two_pools two_leaves
-
-pub run-same : (b : Start) (ms : List ℕ) (calls : List Call) → length ms ≡ memory_words → run_with two_words b ms calls ≡ run_from two_words b calls
-run-same = remembered.run-same two_words two_pools two_leaves
-
--- demand 1
-pub start-leaves : (b : Start) (ms : List ℕ) → StartLeaves two_words b ms
-start-leaves = remembered.start-leaves two_words two_pools
-
-pub load_leaves : (s : State) (ms ws work image : List ℕ) → LoadLeaves two_words s ms ws work image
-load_leaves = remembered.load_leaves two_words
-
-pub convert_leaves : (s : State) (ms ws work : List ℕ) → ConvertLeaves s ms ws work
-convert_leaves = remembered.convert_leaves
-
-pub report_leaves : (b : Start) (ms bytes : List ℕ) (l : Lent) → ReportLeaves two_words b ms bytes l
-report_leaves = remembered.report_leaves two_words two_pools
-
-pub refused_with : (h : StateAndPool) (ms : List ℕ) (c : HostCall) → IsRefusedWith two_words h ms c → RefusedWith two_words h ms c
-refused_with = remembered.refused_with two_words
-
-pub refused_tape : (h : StateAndPool) (ms bytes work answers : List ℕ) → IsRefusedWith two_words h ms (tape bytes work answers) → RefusedTape two_words h ms bytes work answers
-refused_tape = remembered.refused_tape two_words
-
-pub work_after_with : (h : StateAndPool) (ms : List ℕ) (c : HostCall) → WorkAfterWith two_words h ms c
-work_after_with = remembered.work_after_with two_words
-
-pub reads_back_with : (h : StateAndPool) (ms₀ work₀ target : List ℕ) → let o = save_remembering two_words h.state ms₀ h.pool work₀ target in o.result ≡ 0 → StateWords h.state h.pool
-    → (s : State) (ms ws work : List ℕ) → fits_with s ms ≡ true → length s.frames ≡ length h.state.frames → 2 * (numbers_of h.state).nodes ≤ length ws → (numbers_of h.state).nodes ≤ length work
-    → ReadsBackWith two_words h (take (saved_bytes two_words h.state) o.target) s ms ws work
-reads_back_with = remembered.reads_back_with two_words two_pools
-
--- demands 2 and 3
-pub demand2_with : (b : Start) (ms : List ℕ) (calls : List Call) → (start_holding two_words b ms).call.result ≡ 0 → StartWords b → AllCallWords calls → Demand2With two_words b ms calls
-demand2_with = remembered.demand2_with two_words two_pools two_leaves
-
-pub sound-run_with : (h : StateAndPool) (ms : List ℕ) (calls : List Call) → fits_with h.state ms ≡ true → is_sound two_words h.state h.pool ≡ true → right_memory two_words h.state h.pool ms ≡ true → StateWords h.state h.pool → AllCallWords calls
-    → SoundRunWith two_words h ms calls
-sound-run_with = remembered.sound-run_with two_words two_pools two_leaves
-
-pub demand3_with : (b : Start) (ms : List ℕ) (calls : List Call) (parts : State) (ms₁ ws : List ℕ) (works : ℕ → List ℕ) → (start_holding two_words b ms).call.result ≡ 0 → StartWords b → AllCallWords calls → MainReturnedWith two_words b ms calls
-    → fits parts ≡ true → length ms₁ ≡ memory_words → length parts.frames ≡ length b.parts.frames → whole_nodes two_words ws ≡ whole_nodes two_words b.pool → ((j : ℕ) → whole_nodes two_words b.pool ≤ length (works j))
-    → Demand3With two_words b ms calls parts ms₁ ws works
-demand3_with = remembered.demand3_with two_words two_pools two_leaves
-
--- the run that goes on after a change-over
-pub changed_as_without : (r : Run) (ms work : List ℕ) (after : List Call) → (convert_remembering r.now.state ms r.now.pool work).call.result ≡ 0 → AsWithout two_words (changed_with r ms work) after
-changed_as_without = remembered.changed_as_without
-
-pub changed_same : (b : Start) (before : List Call) (ms work : List ℕ) (after : List Call) → let h = (run_from four_words b before).now in (convert_remembering h.state ms h.pool work).call.result ≡ 0
-    → changed_run_with b before ms work after ≡ changed_run b before work after
-changed_same = remembered.changed_same

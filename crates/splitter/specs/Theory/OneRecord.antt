@@ -1,6 +1,6 @@
 -- A step as a tape of one record: the record's bytes, and what the tape leaves and answers.
-use Rattle.std.specs.Prelude.{◌≡◌, false, List, [], ◌∷◌, ℕ, ◌+◌, ◌*◌, ◌/◌, ◌%◌, ◌^◌, ◌<◌, min, length, get_or, set}
-use Rattle.std.proofs.Math.Path.{refl, ap}
+use Rattle.std.specs.Prelude.{◌≡◌, List, [], ◌∷◌, ℕ, ◌+◌, ◌*◌, ◌/◌, ◌%◌, ◌^◌, ◌<◌, min, length, get_or, set}
+use Rattle.std.proofs.Math.Path.{refl}
 use Rattle.std.proofs.Math.Logic.{inl, inr}
 use Rattle.std.proofs.Math.Nat.{div-div-eq-div-mul}
 use Rattle.std.proofs.Common.{arith}
@@ -9,8 +9,7 @@ use Rattle.soundness.specs.declared.Checked.{Checked}
 use Rattle.soundness.specs.declared.Checked.TheVariants.{NoRoom, Sound}
 use Rattle.model.specs.Record.{little, record_of, decode_at}
 use Rattle.semantics.specs.Answers.{answer_words, both_words}
-use Rattle.semantics.specs.Entries.{State, OutsideResult, TapeResult, core_of, record_on, records_from, records_of, run_on, outside_checked, tape_checked, unfit_tape}
-use Rattle.semantics.specs.Remembering.{WithMemory, TapeRemembering, fits_with, checked_with, memory_checked, outside_remembering, tape_remembering}
+use Rattle.semantics.specs.Entries.{State, OutsideResult, TapeResult, core_of, checked_state, record_on, records_from, records_of, run_on, outside_checked, outside_with, outside_on, tape_checked, tape_with, tape_on, fits}
 use Rattle.splitter.specs.OneRecord.{bytes_of, result_words}
 use Rattle.soundness.specs.Layout.{two_words}
 
@@ -53,18 +52,10 @@ put_two [] e a b = absurd (omega arith)
 put_two (x ∷ []) e a b = absurd (omega arith)
 put_two (x ∷ y ∷ l) e a b = refl
 
--- with the memory
-pub record SameWith (p : TapeRemembering) (o : WithMemory OutsideResult) : Type 0 where
-  pub call : Same p.tape o.call
-  pub memory : p.memory ≡ o.memory
-
-module _ (s : State) (ms ws ks bytes rs : List ℕ) (long : length bytes ≡ 8) (two : length rs ≡ 2) where
+module _ (s : State) (ws ks bytes rs : List ℕ) (long : length bytes ≡ 8) (two : length rs ≡ 2) where
   one : records_of bytes ≡ decode_at bytes 0 ∷ []
   unfolding records_from
   one = rw long
-
-  fit : unfit_tape bytes rs ≡ false
-  fit = rw (long, two)
 
   one_checked : (k : Checked) → Same (tape_checked two_words k s ws ks bytes rs) (outside_checked two_words k s ws ks (decode_at bytes 0))
   unfolding run_on
@@ -74,12 +65,14 @@ module _ (s : State) (ms ws ks bytes rs : List ℕ) (long : length bytes ≡ 8) 
       let o = record_on two_words (core_of s ws k) (decode_at bytes 0) in
       rw one (record { state = refl; pool = refl; work = refl; words = put_two rs two (answer_words o.answer).0 (answer_words o.answer).1 })
 
+  one_record : Same (tape_with two_words s ws ks bytes rs) (outside_with two_words s ws ks (decode_at bytes 0))
+  unfolding tape_with outside_with
+  one_record = rw (long, two) (one_checked (checked_state two_words s ws ks))
+
   -- on all inputs: a part that has another length is refused alike
-  pub one_step : SameWith (tape_remembering two_words s ms ws ks bytes rs) (outside_remembering two_words s ms ws ks (decode_at bytes 0))
-  unfolding tape_remembering outside_remembering
-  one_step = elim (decided (fits_with s ms)) [
-    | inl e ↦
-        let k : Checked = checked_with two_words s ms ws ks in
-        rw (e, fit) (record { call = one_checked k; memory = ap (λ ds. memory_checked two_words k s ws ms ds) one })
-    | inr e ↦ rw e (record { call = record { state = refl; pool = refl; work = refl; words = refl }; memory = refl })
+  pub one_step : Same (tape_on two_words s ws ks bytes rs) (outside_on two_words s ws ks (decode_at bytes 0))
+  unfolding tape_on outside_on
+  one_step = elim (decided (fits s)) [
+    | inl e ↦ rw e one_record
+    | inr e ↦ rw e (record { state = refl; pool = refl; work = refl; words = refl })
   ]

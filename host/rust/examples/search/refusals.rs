@@ -30,7 +30,7 @@ pub fn tape() -> Outcome {
     let mut engine = memory.lend();
     println!("\nTape: 2 workers, 5 splitters, 20 nodes");
     engine.start(2, &[10, 20, 30, 40, 50])?;
-    let visits = engine.tape(&EXAMPLE.map(Step::to_bytes).concat(), &mut words)?;
+    engine.tape(&EXAMPLE.map(Step::to_bytes).concat(), &mut words)?;
     for answer in answers(&words) {
         match answer {
             Ok(done) => println!("{} {}  {done}", done.words()[0], done.words()[1]),
@@ -38,7 +38,6 @@ pub fn tape() -> Outcome {
         }
     }
     print_totals(engine.state.totals().ok_or("surprise: Main has not returned")?);
-    println!("visits {visits}");
     Ok(())
 }
 
@@ -80,10 +79,6 @@ fn refused_calls(memory: &mut Memory) -> Outcome {
     parts.deques = &mut parts.deques[1..];
     let words = raw::step(parts, frames, pool, work, [5, 0, 3, 0]);
     show(answer(words), Refusal::BadState, "deques with a word too few")?;
-    let mut parts = state.parts();
-    parts.memory = &mut parts.memory[1..];
-    let words = raw::step(parts, frames, pool, work, [5, 0, 3, 0]);
-    show(answer(words), Refusal::BadState, "a memory with a word too few")?;
     let last = memory.frames.pop().ok_or("surprise: no table")?;
     show(memory.lend().read(0, 3), Refusal::Unsound, "a table with a place less than at the start")?;
     memory.frames.extend([last, Frame::ZERO]);
@@ -93,9 +88,6 @@ fn refused_calls(memory: &mut Memory) -> Outcome {
     engine.pool[0] ^= 1;
     show(engine.read(0, 3), Refusal::Unsound, "a bit of the pool has flipped")?;
     engine.pool[0] ^= 1;
-    engine.state.memory[3] += 1;
-    show(engine.read(0, 3), Refusal::Unsound, "a worker remembers another leaf")?;
-    engine.state.memory[3] -= 1;
     println!("    the bit flipped back, block 3 reads {}", engine.read(0, 3)?);
     Ok(())
 }

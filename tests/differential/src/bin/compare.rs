@@ -1,7 +1,6 @@
 //! The differential test: `compare PROGRAM [--runs 3000] [--seed S]` runs
 //! PROGRAM (splitrun) on document 01's edges and on seeded inputs, beside the
-//! copying machine, and sees demand 3, R-5's totals and R-10's visits from
-//! outside.
+//! copying machine, and sees demand 3 and R-5's totals from outside.
 
 use differential::demand3::{self, Run};
 use differential::machine::Counting;
@@ -82,9 +81,8 @@ fn compare(options: &Options) -> bool {
     let waited = returns_waited(&random.tally);
     let large = families_seen(&random.tally);
     let shown = wrong_rules_shown(&random.shown);
-    let remembered = reads_remembered(&random.tally);
     let written = writes_at_every_n(&random.tally, options.runs);
-    seen && waited && large && shown && remembered && written
+    seen && waited && large && shown && written
 }
 
 /// Every event of the table occurred in both columns.
@@ -113,16 +111,6 @@ fn families_seen(random: &Tally) -> bool {
     println!("random: {line}");
     if !met {
         println!("too few random runs have so many");
-    }
-    met
-}
-
-/// Enough reads of the random runs are of a remembered splitter.
-fn reads_remembered(random: &Tally) -> bool {
-    let (line, met) = random.remembering.line();
-    println!("random: {line}");
-    if !met {
-        println!("too few reads of the random runs are of a remembered splitter");
     }
     met
 }
@@ -172,7 +160,7 @@ fn compare_edges(program: &Program, tally: &mut Tally) -> bool {
     for edge in &edges {
         match expect(program, &edge.input, &edge.expected) {
             Ok(output) => {
-                tally.add(&edge.input, &output);
+                tally.add(&output);
                 let mut watch = |machine: &_, record| tally.see(machine, record);
                 splitrun::watched_output(&edge.input, Counting::Cached, &mut watch);
             }
@@ -266,7 +254,7 @@ impl<'a> RandomRuns<'a> {
         let mut watch = |machine: &_, record| self.tally.see(machine, record);
         let expected = splitrun::watched_output(&bytes, self.counting, &mut watch);
         let output = expect(self.program, &bytes, &expected)?;
-        self.tally.add(&bytes, &output);
+        self.tally.add(&output);
         if output.contains("\nfree ") {
             self.tally.families.end_run();
         }

@@ -16,14 +16,8 @@ pub fn lengths() -> Vec<Edge> {
     edges
 }
 
-/// n, T(n) and H, by hand.
-const TREES: [(u16, u32, usize); 5] = [
-    (1, 1, 0),
-    (2, 3, 1),
-    (5, 11, 3),
-    (255, 510, 8),
-    (256, 511, 8),
-];
+/// n and T(n), by hand.
+const TREES: [(u16, u32); 5] = [(1, 1), (2, 3), (5, 11), (255, 510), (256, 511)];
 
 /// Reads of the last splitter, as many bytes as are asked; the last record
 /// may be cut.
@@ -47,19 +41,17 @@ fn all_answered<'a>(
     first: &'a str,
     count: usize,
     answer: &'static str,
-    last: [&'a str; 2],
+    last: &'static str,
 ) -> Vec<&'a str> {
     let mut lines = vec![first];
     lines.extend([answer].repeat(count));
-    lines.extend(last);
+    lines.push(last);
     lines
 }
 
 /// By the bytes of records, for each n.
-fn records_lengths((n, tree, height): (u16, u32, usize)) -> Vec<Edge> {
+fn records_lengths((n, tree): (u16, u32)) -> Vec<Edge> {
     let first = format!("1 {n} {tree}");
-    // the first of them visits H + 1 nodes, each other one
-    let visits = |reads: usize| format!("visits {}", height + reads);
     let named = |length: usize, lines: &[&str], outcome: &str| {
         edge(
             format!("n {n}, {length} bytes of records: {outcome}"),
@@ -70,12 +62,12 @@ fn records_lengths((n, tree, height): (u16, u32, usize)) -> Vec<Edge> {
     let mut edges = vec![
         named(
             16_376,
-            &all_answered(&first, 2_047, "105 3", ["free 0", &visits(2_047)]),
+            &all_answered(&first, 2_047, "105 3", "free 0"),
             "2,047 answers",
         ),
         named(
             16_384,
-            &all_answered(&first, 2_048, "105 3", ["free 0", &visits(2_048)]),
+            &all_answered(&first, 2_048, "105 3", "free 0"),
             "2,048 answers",
         ),
     ];
@@ -109,12 +101,8 @@ fn input_length(length: usize) -> Vec<Edge> {
             input.extend(values.into_iter().take(length - input.len()));
             input.extend(reads(n, length - input.len()));
             let lines = match (n, length) {
-                (255, 17_412) => {
-                    all_answered("1 255 520", 2_048, "105 3", ["free 10", "visits 2056"])
-                }
-                (256, 17_416) => {
-                    all_answered("1 256 520", 2_048, "105 3", ["free 9", "visits 2056"])
-                }
+                (255, 17_412) => all_answered("1 255 520", 2_048, "105 3", "free 10"),
+                (256, 17_416) => all_answered("1 256 520", 2_048, "105 3", "free 9"),
                 (256, 17_412..=17_415) => vec!["1 256 520", "refused 4"],
                 _ => vec!["unfit"],
             };
@@ -166,12 +154,11 @@ pub fn telling_ends() -> Vec<Edge> {
     let mut returned = tape.clone();
     returned.extend(ret(0));
     let mut returned_lines = lines.clone();
-    // 9 and 2,044 for the reads, 9 for the write, 1 for the last read
-    returned_lines.extend(["102 3", "free 520", IDENTITIES, "visits 2063"]);
+    returned_lines.extend(["102 3", "free 520", IDENTITIES]);
     let mut spawned = tape;
     spawned.extend(spawn(0));
     let mut spawned_lines = lines;
-    spawned_lines.extend(["101 1", "free 9", "visits 2063"]);
+    spawned_lines.extend(["101 1", "free 9"]);
     let values = [3; 256];
     let mut longer = returned.clone();
     longer.push(0);
@@ -194,7 +181,7 @@ pub fn telling_ends() -> Vec<Edge> {
         edge(
             "n 256, 16,384 bytes of zero records: all 7",
             bytes(1, 511, &values, &[0; 16_384]),
-            &all_answered("1 256 511", 2_048, "7 0", ["free 0", "visits 0"]),
+            &all_answered("1 256 511", 2_048, "7 0", "free 0"),
         ),
         edge(
             "n 256, 16,385 bytes of zero records: unfit",

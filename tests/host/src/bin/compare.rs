@@ -156,7 +156,6 @@ fn compare_runs(options: &Options, session: &mut Session) -> Result<(), Failure>
             session.waits.lines(),
             session.families.lines(),
             vec![session.tables.line()],
-            session.remembering.lines(),
         ]
         .concat();
         lines.iter().for_each(|line| println!("{line}"));
@@ -172,10 +171,6 @@ fn compare_runs(options: &Options, session: &mut Session) -> Result<(), Failure>
     let missing = session.tables.missing();
     if options.runs >= ENOUGH_RUNS && !missing.is_empty() {
         return Err(format!("tables never full: {missing:?}"));
-    }
-    let missing = session.remembering.missing();
-    if options.runs >= ENOUGH_RUNS && !missing.is_empty() {
-        return Err(format!("not met of what is remembered: {missing:?}"));
     }
     let missing = session.families.missing();
     if options.runs >= ENOUGH_RUNS && !missing.is_empty() {
@@ -337,7 +332,7 @@ fn report(counts: &Counts) {
         println!("  {times:6}  {}", sentence.text);
     }
     let fewest = counts.turns.iter().min().unwrap_or(&0);
-    println!("each word of numbers, deques and memory was the one changed at least {fewest} times");
+    println!("each word of numbers and deques was the one changed at least {fewest} times");
     let [none, some, all] = counts.writes;
     println!(
         "writes from sound pairs: {none} with none of the path shared, {some} with some, {all} with all; {} by the only frame, in a tree with a node in two places",
@@ -363,7 +358,7 @@ fn all_met(counts: &Counts) -> Result<(), Failure> {
         return Err(format!("never broken alone: {}", sentence.text));
     }
     if counts.turns.contains(&0) {
-        return Err("a word of numbers, deques or memory never had its turn".to_string());
+        return Err("a word of numbers or deques never had its turn".to_string());
     }
     if counts.writes.contains(&0) || counts.beside_itself == 0 {
         return Err("a case of a write from a sound pair was never met".to_string());

@@ -128,7 +128,7 @@ pub fn free_node_as_leaf(pair: &mut Old, random: &Random) -> Option<()> {
 /// The pool has two-word nodes already.
 fn convert(pair: &mut Old) -> Option<()> {
     let mut work = vec![0; pair.state.nodes as usize];
-    (plain::convert(&mut pair.state, &mut pair.pool, &mut work) == 0).then_some(())
+    (plain::convert(&pair.state, &mut pair.pool, &mut work) == 0).then_some(())
 }
 
 /// With zeros after them, as a change-over leaves it. Only 1 or 2 nodes can be sound so, if no frame lives; they are left out.

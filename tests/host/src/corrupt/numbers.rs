@@ -49,5 +49,4 @@ fn record_nodes<N: Layout>(pair: &mut Pair<N>, nodes: usize) {
     pair.state.nodes = nodes as u32;
     let free: Vec<u32> = (used.len() as u32..nodes as u32).collect();
     pair.rechain(&free);
-    pair.mend_memory();
 }

@@ -1,16 +1,13 @@
 //! Words changed without regard to what they mean.
 
 use super::Pair;
-use crate::plain::{
-    self, Layout, View, Words, DEQUES_WORDS, FRAME_WORDS, MEMORY_WORDS, NONE, NUMBERS_WORDS,
-};
+use crate::plain::{self, Layout, View, Words, DEQUES_WORDS, FRAME_WORDS, NONE, NUMBERS_WORDS};
 use crate::random::Random;
 use crate::steps;
 use std::array;
 
-/// The words of numbers, deques and memory, which have their turns; and those that an image has, and a change-over looks at.
-pub const TURNS: usize = BUT_MEMORY + MEMORY_WORDS;
-pub const BUT_MEMORY: usize = NUMBERS_WORDS + DEQUES_WORDS;
+/// The words of numbers and deques, which have their turns.
+pub const TURNS: usize = NUMBERS_WORDS + DEQUES_WORDS;
 
 /// A word that is not the old one, near it or far.
 fn another(old: u32, random: &Random) -> u32 {
@@ -50,7 +47,6 @@ fn change_state<N: Layout>(pair: &mut Pair<N>, position: usize, random: &Random)
     let mut words = plain::to_words(&pair.state);
     let mut all = (words.numbers.iter_mut())
         .chain(&mut words.deques)
-        .chain(&mut words.memory)
         .chain(&mut words.frames);
     if let Some(word) = all.nth(position) {
         *word = another(*word, random);
@@ -99,7 +95,6 @@ fn fill<N: Layout>(pair: &mut Pair<N>, random: &Random, word: impl Fn(&Random) -
         frames: (0..old.frames.len() * FRAME_WORDS)
             .map(|_| word(random))
             .collect(),
-        memory: array::from_fn(|_| word(random)),
     };
     pair.state = plain::from_words(&words);
     pair.pool.fill_with(|| word(random));
@@ -108,9 +103,6 @@ fn fill<N: Layout>(pair: &mut Pair<N>, random: &Random, word: impl Fn(&Random) -
         pair.state.splitters = old.splitters;
         pair.state.nodes = old.nodes;
         pair.state.places = old.places;
-    }
-    if random.one_in(2) {
-        pair.state.memory = old.head.memory;
     }
 }
 

@@ -69,7 +69,6 @@ fn present() -> (Parts, Vec<u32>) {
         numbers: [&words[..5], &[0; 4], &[64]].concat(),
         deques,
         frames,
-        memory: vec![0; 8 * 256 + 8],
     };
     (parts, four_words().iter().flat_map(two_words).collect())
 }

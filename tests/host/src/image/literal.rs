@@ -75,7 +75,7 @@ fn word_at(data: &[u8], word: usize) -> u32 {
 }
 
 fn whole(state: &Parts) -> bool {
-    [state.numbers.len(), state.deques.len(), state.memory.len()] == LENGTHS
+    [state.numbers.len(), state.deques.len()] == LENGTHS
 }
 
 /// Whether they are sound; the work slice's first words, one for each recorded node, are zero afterwards.
@@ -174,8 +174,6 @@ pub fn load(state: &mut Parts, pool: &mut [u32], work: &mut [u32], image: &[u8])
     let zeros = |words: &mut [u32], count: usize| (0..count).for_each(|at| words[at] = 0);
     zeros(&mut state.numbers, LENGTHS[0]);
     zeros(&mut state.deques, LENGTHS[1]);
-    // "so do .. reading an image", of which a worker that remembers none is left
-    zeros(&mut state.memory, LENGTHS[2]);
     let data = match accepted(image) {
         Ok(data) => data,
         Err(refusal) => return refusal,

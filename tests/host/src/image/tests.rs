@@ -110,7 +110,6 @@ fn parts_of(words: &[u32]) -> Parts {
         numbers,
         deques,
         frames: words[records..records + 12 * places].to_vec(),
-        memory: vec![0; 8 * 256 + 8],
     }
 }
 
@@ -124,7 +123,6 @@ fn zeros(frames: Vec<u32>) -> Parts {
         numbers: vec![0; 10],
         deques: vec![0; 8 * 257],
         frames,
-        memory: vec![0; 8 * 256 + 8],
     }
 }
 

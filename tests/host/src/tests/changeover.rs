@@ -55,7 +55,7 @@ fn the_example_changed_over() {
         let call = converting(&call, &after, [OLD.concat(), past.clone()].concat());
         let changed = both(&call);
         assert_eq!(changed.result, [0, 0]);
-        assert!(changed.state == call.state.without_memory());
+        assert_eq!(changed.state, call.state);
         assert_eq!(changed.pool, [NEW.concat(), vec![0; 40], past].concat());
         assert_eq!(changed.work, [vec![0; 20], vec![9; 4]].concat());
     }

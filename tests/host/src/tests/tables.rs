@@ -96,7 +96,7 @@ fn nested_spawns() {
         let after = both(&next(&full, tape(&again)));
         if places > 1 {
             assert_eq!(after.answers, [102, 0, 101, deepest, 13, 0]);
-            assert!(after.state.without_memory() == full.state.without_memory());
+            assert_eq!(after.state, full.state);
         } else {
             assert_eq!(after.answers, [102, 3, 9, 0, 9, 0]);
         }

@@ -357,7 +357,7 @@ pub fn saved_and_read(before: &Outcome) -> Outcome {
     };
     let read = both(&load);
     assert_eq!(read.result[0], 0);
-    assert!(read.state == before.state.without_memory() && read.pool == before.pool);
+    assert!(read.state == before.state && read.pool == before.pool);
     read
 }
 

@@ -1,6 +1,7 @@
 -- Each arm has its number.
-use Rattle.std.proofs.Common.{sym, ap, rules}
+use mathlib.Core.Path.{sym, ap}
 use Rattle.semantics.specs.Answers.{refusal_number}
+use borrow.Author.Rules.{rules}
 use Rattle.engine.proofs.answers.refusal_number.Statement.{statement}
 use Rattle.engine.proofs.answers.refusal_number.Tie as tie
 

@@ -1,5 +1,5 @@
 -- An `if`, as the definition's test.
-use Rattle.std.proofs.Common.{eq-eqb, ne_eqb}
+use borrow.Author.Tests.{eq-eqb, ne_eqb}
 use Rattle.engine.proofs.begin.first_free.Statement.{statement}
 use Rattle.engine.proofs.begin.first_free.Tie as tie
 

@@ -1,5 +1,5 @@
 -- Each number.
-use Rattle.std.proofs.Common.{rules}
+use borrow.Author.Rules.{rules}
 use Rattle.engine.proofs.begin.first_numbers.Statement.{statement}
 use Rattle.engine.proofs.begin.first_numbers.Tie as tie
 

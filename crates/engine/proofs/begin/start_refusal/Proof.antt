@@ -1,5 +1,7 @@
 -- The tests in order: the ways out are in `proofs.Starts`.
-use Rattle.std.proofs.Common.{◌≤◌, ◌∙◌, rules}
+use mathlib.Core.Path.{◌∙◌}
+use borrow.Author.Rules.{rules}
+use Prim.Native.Nat.{◌≤◌}
 use Rattle.engine.proofs.Starts.{few, start-values, start_workers, start_places, start-nodes, start_passes}
 use Rattle.engine.proofs.begin.start_refusal.Statement.{statement}
 use Rattle.engine.proofs.begin.start_refusal.Tie as tie

@@ -1,5 +1,5 @@
 -- The tests of the numbers are the sentences'.
-use Rattle.std.proofs.Common.{rules}
+use borrow.Author.Rules.{rules}
 use Rattle.soundness.specs.Soundness.{numbers_sound}
 use Rattle.engine.proofs.checking.check_numbers.Statement.{statement}
 use Rattle.engine.proofs.checking.check_numbers.Tie as tie

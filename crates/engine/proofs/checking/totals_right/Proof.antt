@@ -1,5 +1,8 @@
 -- No frame lives, or the totals are zero.
-use Rattle.std.proofs.Common.{Bool, ◌||◌, eqb, ap, rules}
+use mathlib.Core.Path.{ap}
+use mathlib.Core.Bool.{Bool, ◌||◌}
+use lib.Dec.{eqb}
+use borrow.Author.Rules.{rules}
 use Rattle.engine.proofs.checking.totals_right.Statement.{statement}
 use Rattle.engine.proofs.checking.totals_right.Tie as tie
 

@@ -1,5 +1,6 @@
 -- Two words for each place: an even number of them, half of it the places.
-use Rattle.std.proofs.Common.{eqb, length}
+use lib.Dec.{eqb}
+use lib.ListN.{length}
 use Rattle.engine.proofs.Reports.{halved}
 use Rattle.engine.proofs.entries.fit_report.Statement.{statement}
 use Rattle.engine.proofs.entries.fit_report.Tie as tie

@@ -1,12 +1,16 @@
 -- Written by tools/walk: `engine::entries::start` meets its contract, by a walk of its MIR. Do not edit: the facts are in Proof/Facts.antt. Assumes nothing.
 mod Facts
-use Rattle.std.proofs.Common.{◌≡◌, ℕ, ◌+◌, ◌-◌, ◌*◌, ◌^◌, ◌<◌, ◌≤◌, Bool, true, false, not, T as Holds, eqb, ltb, leb, List, [], ◌∷◌, length, get_or, set, sym, refl, ap, ◌∙◌, subst, lit<, eqb→eq, ltb→lt, leb→le, nltb→le, length-set, w8, w16, w32, w64, Bor}
-use lib.Dec.{nleb→lt}
+use mathlib.Core.Path.{◌≡◌, refl, sym, ◌∙◌, ap, subst}
+use Prim.Native.Nat.{ℕ, ◌+◌, ◌-◌, ◌*◌, ◌<◌, ◌≤◌, ◌^◌}
+use mathlib.Core.List.{List, [], ◌∷◌}
+use mathlib.Core.Bool.{Bool, true, false, not}
+use lib.Dec.{T as Holds, ltb, leb, eqb, ltb→lt, leb→le, nltb→le, nleb→lt, eqb→eq, lit<}
+use lib.ListN.{length, get_or, set, length-set}
 use lib.WfN.{lt-wf_rel}
 use mathlib.Core.WellFounded.{WellFounded}
 use seplogic.Ra.Ura.{Ura}
 use seplogic.Ra.TreeShare.{full_share}
-use mir.Syntax.{named, ty_int, ty_bool, ty_ptr, Ty, Body as Code, loop as loopᴹ}
+use mir.Syntax.{named, w8, w16, w32, w64, ty_int, ty_bool, ty_ptr, Ty, Body as Code, loop as loopᴹ}
 use mir.Val.{Val, vunit, vbool, vint, vptr}
 use base.Logic.{SProp, ent, via, fst∗, emp}
 use base.Fml.{Lft, GName, Share, ftrue, flft, fat, froom, fdies}
@@ -28,6 +32,7 @@ use denote.Memory.{cell_at}
 use denote.Index.{place as place', place_is, place_byte}
 use denote.Plain.{uint_copy, uint_Makes, uint_vals, uint_Tells, bool_Makes, bool_vals, bool_Tells, Nothing-Makes}
 use denote.Builtin.{u8, u16, u32, u64, usize, bool, unit}
+use denote.Ref.{Bor}
 use denote.Slice.{slice_val, MutSlice, ShrSlice, Room, shr_slice_vals, mut_slice_Tells, shr_slice_Tells}
 use denote.Signature.{plain}
 use denote.Steps.{nothing, owned}
@@ -40,9 +45,8 @@ use denote.Triple.Table.{entered, cited}
 use denote.Triple.Walked.{says, needs, Stays, stay_slice, stay_none, stay_none_slice, walk_of, Walks, ends_at, walked, Goes-slice, Goes-none, Goes-none_slice, walk_Meets}
 use borrow.Author.Rules.{scaled_Fits}
 use Rattle.frames.proofs.Lent.{at_list, Mine, Yours, ty_at, exit_unless, exit_if, leave_if, fork, skipped, regroup, matched, matched_last, const, is_true, is_false, not_not, differ, widen, less_fits, after, turn_of_lem, take_out, put_in, put_back, look_out, look_back, free_all}
-use Rattle.semantics.specs.Promises.{parts, IsStartWith}
-use Rattle.semantics.specs.Remembering.{start_remembering}
-use Rattle.soundness.specs.Layout.{two_words}
+use Rattle.semantics.specs.Entries.{start_on}
+use Rattle.semantics.specs.Promises.{parts, IsStart}
 use Rattle.engine.proofs.Called.fit as S-fit
 use Rattle.engine.proofs.entries.fit.Symbol as D-fit
 use Rattle.engine.proofs.entries.fit.Symbol.{name as #fit}
@@ -51,10 +55,6 @@ use Rattle.engine.proofs.Called.unfit as S-unfit
 use Rattle.engine.proofs.entries.unfit.Symbol as D-unfit
 use Rattle.engine.proofs.entries.unfit.Symbol.{name as #unfit}
 use Rattle.engine.proofs.entries.unfit.Met as T-unfit
-use Rattle.engine.proofs.Called.clear_all as S-clear-all
-use Rattle.words.proofs.clear_all.Symbol as D-clear-all
-use Rattle.words.proofs.clear_all.Symbol.{name as #clear-all}
-use Rattle.words.proofs.clear_all.Met as T-clear-all
 use Rattle.engine.proofs.Called.start_on as S-start-on
 use Rattle.engine.proofs.begin.start_on.Symbol as D-start-on
 use Rattle.engine.proofs.begin.start_on.Symbol.{name as #start-on}
@@ -67,6 +67,7 @@ use Rattle.engine.proofs.entries.start.Proof.Facts as F
 use Rattle.frames.specs.contracts.Frame as M-Frame
 use Rattle.frames.proofs.Frame.TheLaws as L-Frame
 use Rattle.frames.specs.declared.Frame.{Frame}
+use Rattle.soundness.specs.Layout.{two_words}
 
 abbrev R-Frame : RattleType
 R-Frame = M-Frame.the_row
@@ -75,10 +76,10 @@ abbrev val-Frame : Frame → Val
 val-Frame d = LL.val M-Frame.the_type L-Frame.the_laws d
 
 abbrev stayed : Stays (f'.ended).signature.params (f'.ended).kept
-stayed = (stay_slice (0 ∷ []) tt (plain (λ _. u32)), (stay_slice (1 ∷ []) tt (plain (λ _. u32)), (stay_slice (2 ∷ []) tt (plain (λ _. R-Frame)), (stay_slice (3 ∷ []) tt (plain (λ _. u32)), (stay_none (λ _. u32) yes, (stay_none_slice (4 ∷ []) tt (plain (λ _. u32)) yes, (stay_slice (5 ∷ []) tt (plain (λ _. u32)), tt)))))))
+stayed = (stay_slice (0 ∷ []) tt (plain (λ _. u32)), (stay_slice (1 ∷ []) tt (plain (λ _. u32)), (stay_slice (2 ∷ []) tt (plain (λ _. R-Frame)), (stay_none (λ _. u32) yes, (stay_none_slice (3 ∷ []) tt (plain (λ _. u32)) yes, (stay_slice (4 ∷ []) tt (plain (λ _. u32)), tt))))))
 
 module _ {M : Type 1} {𝓤 : Ura M} (𝓛 : Logic 𝓤) (mem : Memory → SProp 𝓤) (run : Routine → Fun 𝓤)
-    (κ-numbers : Lft) (q-numbers : Share) (b-numbers o-numbers : ℕ) (γ-numbers : GName) (numbers : List ℕ) (κ-deques : Lft) (q-deques : Share) (b-deques o-deques : ℕ) (γ-deques : GName) (deques : List ℕ) (κ-frames : Lft) (q-frames : Share) (b-frames o-frames : ℕ) (γ-frames : GName) (frames : List Frame) (κ-memory : Lft) (q-memory : Share) (b-memory o-memory : ℕ) (γ-memory : GName) (memory : List ℕ) (κ-values : Lft) (q-values : Share) (b-values o-values : ℕ) (γ-values : GName) (values : List ℕ) (κ-pool : Lft) (q-pool : Share) (b-pool o-pool : ℕ) (γ-pool : GName) (pool : List ℕ) (workers : ℕ) (workers-fits : workers < 2 ^ 32) (room-numbers : Room u32 (length numbers)) (room-deques : Room u32 (length deques)) (room-frames : Room R-Frame (length frames)) (room-memory : Room u32 (length memory)) (room-values : Room u32 (length values)) (room-pool : Room u32 (length pool)) where
+    (κ-numbers : Lft) (q-numbers : Share) (b-numbers o-numbers : ℕ) (γ-numbers : GName) (numbers : List ℕ) (κ-deques : Lft) (q-deques : Share) (b-deques o-deques : ℕ) (γ-deques : GName) (deques : List ℕ) (κ-frames : Lft) (q-frames : Share) (b-frames o-frames : ℕ) (γ-frames : GName) (frames : List Frame) (κ-values : Lft) (q-values : Share) (b-values o-values : ℕ) (γ-values : GName) (values : List ℕ) (κ-pool : Lft) (q-pool : Share) (b-pool o-pool : ℕ) (γ-pool : GName) (pool : List ℕ) (workers : ℕ) (workers-fits : workers < 2 ^ 32) (room-numbers : Room u32 (length numbers)) (room-deques : Room u32 (length deques)) (room-frames : Room R-Frame (length frames)) (room-values : Room u32 (length values)) (room-pool : Room u32 (length pool)) where
   open 𝓛 use {H}
 
   abbrev n-numbers : ℕ
@@ -90,108 +91,92 @@ module _ {M : Type 1} {𝓤 : Ura M} (𝓛 : Logic 𝓤) (mem : Memory → SProp
   abbrev n-frames : ℕ
   n-frames = length frames
 
-  abbrev n-memory : ℕ
-  n-memory = length memory
-
   abbrev n-values : ℕ
   n-values = length values
 
   abbrev n-pool : ℕ
   n-pool = length pool
 
-  abbrev args' : Bor (List ℕ) × (Bor (List ℕ) × (Bor (List Frame) × (Bor (List ℕ) × (ℕ × (Bor (List ℕ) × (Bor (List ℕ) × Unit {0}))))))
-  args' = (at_list b-numbers o-numbers γ-numbers numbers, (at_list b-deques o-deques γ-deques deques, (at_list b-frames o-frames γ-frames frames, (at_list b-memory o-memory γ-memory memory, (workers, (at_list b-values o-values γ-values values, (at_list b-pool o-pool γ-pool pool, tt)))))))
+  abbrev args' : Bor (List ℕ) × (Bor (List ℕ) × (Bor (List Frame) × (ℕ × (Bor (List ℕ) × (Bor (List ℕ) × Unit {0})))))
+  args' = (at_list b-numbers o-numbers γ-numbers numbers, (at_list b-deques o-deques γ-deques deques, (at_list b-frames o-frames γ-frames frames, (workers, (at_list b-values o-values γ-values values, (at_list b-pool o-pool γ-pool pool, tt))))))
 
-  abbrev vals' : Vals f'.signature (κ-numbers, (κ-deques, (κ-frames, (κ-memory, (κ-values, (κ-pool, tt))))))
-  vals' = (slice_val (b-numbers, o-numbers) (length numbers) ∷ [], (slice_val (b-deques, o-deques) (length deques) ∷ [], (slice_val (b-frames, o-frames) (length frames) ∷ [], (slice_val (b-memory, o-memory) (length memory) ∷ [], (vint w32 workers ∷ [], (slice_val (b-values, o-values) (length values) ∷ [], (slice_val (b-pool, o-pool) (length pool) ∷ [], tt)))))))
+  abbrev vals' : Vals f'.signature (κ-numbers, (κ-deques, (κ-frames, (κ-values, (κ-pool, tt)))))
+  vals' = (slice_val (b-numbers, o-numbers) (length numbers) ∷ [], (slice_val (b-deques, o-deques) (length deques) ∷ [], (slice_val (b-frames, o-frames) (length frames) ∷ [], (vint w32 workers ∷ [], (slice_val (b-values, o-values) (length values) ∷ [], (slice_val (b-pool, o-pool) (length pool) ∷ [], tt))))))
 
   abbrev bound' : (walk_of 𝓛 f'.ended stayed (f'.clauses 𝓛 mem run)).Ghost
-  bound' = (((κ-numbers, (κ-deques, (κ-frames, (κ-memory, (κ-values, (κ-pool, tt)))))), (q-numbers, (q-deques, (q-frames, (q-memory, (q-values, (q-pool, tt)))))), tt, args', vals'), tt)
+  bound' = (((κ-numbers, (κ-deques, (κ-frames, (κ-values, (κ-pool, tt))))), (q-numbers, (q-deques, (q-frames, (q-values, (q-pool, tt))))), tt, args', vals'), tt)
 
   abbrev Post : Val → SProp 𝓤
   Post = (walk_of 𝓛 f'.ended stayed (f'.clauses 𝓛 mem run)).post bound'
 
-  exits' : (res' : ℕ) (zs-numbers : List ℕ) (zs-deques : List ℕ) (zs-frames : List Frame) (zs-memory : List ℕ) (zs-pool : List ℕ) → res' < 2 ^ 32 → IsStartWith (start_remembering two_words (parts numbers deques frames) memory workers values pool) zs-numbers zs-deques zs-frames zs-memory zs-pool res' → length zs-numbers ≡ length numbers → length zs-deques ≡ length deques → length zs-frames ≡ length frames → length zs-memory ≡ length memory → length zs-pool ≡ length pool → ent 𝓤 (⋆ 𝓛 (‵ (Mine u32 κ-numbers q-numbers γ-numbers b-numbers o-numbers n-numbers zs-numbers) ∷ ‵ (Mine u32 κ-deques q-deques γ-deques b-deques o-deques n-deques zs-deques) ∷ ‵ (Mine R-Frame κ-frames q-frames γ-frames b-frames o-frames n-frames zs-frames) ∷ ‵ (Mine u32 κ-memory q-memory γ-memory b-memory o-memory n-memory zs-memory) ∷ ‵ (Yours u32 κ-values q-values γ-values b-values o-values n-values values) ∷ ‵ (Mine u32 κ-pool q-pool γ-pool b-pool o-pool n-pool zs-pool) ∷ [])) (Post (vint w32 res'))
-  exits' res' zs-numbers zs-deques zs-frames zs-memory zs-pool good' e' same_numbers same-deques same-frames same_memory same-pool =
-      qed 𝓛 (‵ (Mine u32 κ-numbers q-numbers γ-numbers b-numbers o-numbers n-numbers zs-numbers) ∷ ‵ (Mine u32 κ-deques q-deques γ-deques b-deques o-deques n-deques zs-deques) ∷ ‵ (Mine R-Frame κ-frames q-frames γ-frames b-frames o-frames n-frames zs-frames) ∷ ‵ (Mine u32 κ-memory q-memory γ-memory b-memory o-memory n-memory zs-memory) ∷ ‵ (Yours u32 κ-values q-values γ-values b-values o-values n-values values) ∷ ‵ (Mine u32 κ-pool q-pool γ-pool b-pool o-pool n-pool zs-pool) ∷ []) ∵
-      suffices ! _ (ends_at 𝓛 f'.ended stayed (f'.clauses 𝓛 mem run) bound' (vint w32 res') res' (zs-numbers, (zs-deques, (zs-frames, (zs-memory, (tt, (tt, (zs-pool, tt))))))) (same_numbers, (same-deques, (same-frames, (same_memory, (tt, (tt, (same-pool, tt)))))))) $ says ! e' $
-      fsplit ! $ move ! (2 ∷ []) $ fsplit ! $ move ! (4 ∷ []) $ fsplit ! $ move ! (6 ∷ []) $ fsplit ! $ move ! (8 ∷ []) $ fsplit ! $ move ! (10 ∷ []) $ fsplit ! $ nothing ! $ move ! (12 ∷ 10 ∷ 8 ∷ 6 ∷ 4 ∷ 2 ∷ 0 ∷ []) $ group ! 7 $ frame ! $
-      nothing ! $ move ! (1 ∷ 0 ∷ []) $ fjoin ! $ move ! (1 ∷ 0 ∷ []) $ fjoin ! $ owned ! u32 (Is u32) (uint_Makes 𝓛 w32) workers _ (refl, workers-fits) $ fjoin ! $ move ! (1 ∷ 0 ∷ []) $ fjoin ! $ move ! (1 ∷ 0 ∷ []) $ fjoin ! $ move ! (1 ∷ 0 ∷ []) $ fjoin ! $ move ! (1 ∷ 0 ∷ []) $ fjoin ! $ frame ! $
+  exits' : (res' : ℕ) (zs-numbers : List ℕ) (zs-deques : List ℕ) (zs-frames : List Frame) (zs-pool : List ℕ) → res' < 2 ^ 32 → IsStart (start_on two_words (parts numbers deques frames) workers values pool) zs-numbers zs-deques zs-frames zs-pool res' → length zs-numbers ≡ length numbers → length zs-deques ≡ length deques → length zs-frames ≡ length frames → length zs-pool ≡ length pool → ent 𝓤 (⋆ 𝓛 (‵ (Mine u32 κ-numbers q-numbers γ-numbers b-numbers o-numbers n-numbers zs-numbers) ∷ ‵ (Mine u32 κ-deques q-deques γ-deques b-deques o-deques n-deques zs-deques) ∷ ‵ (Mine R-Frame κ-frames q-frames γ-frames b-frames o-frames n-frames zs-frames) ∷ ‵ (Yours u32 κ-values q-values γ-values b-values o-values n-values values) ∷ ‵ (Mine u32 κ-pool q-pool γ-pool b-pool o-pool n-pool zs-pool) ∷ [])) (Post (vint w32 res'))
+  exits' res' zs-numbers zs-deques zs-frames zs-pool good' e' same_numbers same-deques same-frames same-pool =
+      qed 𝓛 (‵ (Mine u32 κ-numbers q-numbers γ-numbers b-numbers o-numbers n-numbers zs-numbers) ∷ ‵ (Mine u32 κ-deques q-deques γ-deques b-deques o-deques n-deques zs-deques) ∷ ‵ (Mine R-Frame κ-frames q-frames γ-frames b-frames o-frames n-frames zs-frames) ∷ ‵ (Yours u32 κ-values q-values γ-values b-values o-values n-values values) ∷ ‵ (Mine u32 κ-pool q-pool γ-pool b-pool o-pool n-pool zs-pool) ∷ []) ∵
+      suffices ! _ (ends_at 𝓛 f'.ended stayed (f'.clauses 𝓛 mem run) bound' (vint w32 res') res' (zs-numbers, (zs-deques, (zs-frames, (tt, (tt, (zs-pool, tt)))))) (same_numbers, (same-deques, (same-frames, (tt, (tt, (same-pool, tt))))))) $ says ! e' $
+      fsplit ! $ move ! (2 ∷ []) $ fsplit ! $ move ! (4 ∷ []) $ fsplit ! $ move ! (6 ∷ []) $ fsplit ! $ move ! (8 ∷ []) $ fsplit ! $ nothing ! $ move ! (10 ∷ 8 ∷ 6 ∷ 4 ∷ 2 ∷ 0 ∷ []) $ group ! 6 $ frame ! $
+      nothing ! $ move ! (1 ∷ 0 ∷ []) $ fjoin ! $ move ! (1 ∷ 0 ∷ []) $ fjoin ! $ owned ! u32 (Is u32) (uint_Makes 𝓛 w32) workers _ (refl, workers-fits) $ fjoin ! $ move ! (1 ∷ 0 ∷ []) $ fjoin ! $ move ! (1 ∷ 0 ∷ []) $ fjoin ! $ move ! (1 ∷ 0 ∷ []) $ fjoin ! $ frame ! $
       owned ! u32 (Is u32) (uint_Makes 𝓛 w32) res' _ (refl, good') $ done !
 
-  module _ (𝓣 : Tables 𝓤 H) (known-fit : Triple 𝓤 (𝓣.C #fit) (S-fit.Asked 𝓛 mem run)) (known-unfit : Triple 𝓤 (𝓣.C #unfit) (S-unfit.Asked 𝓛 mem run)) (known-clear-all : Triple 𝓤 (𝓣.C #clear-all) (S-clear-all.Asked 𝓛 mem run)) (known-start-on : Triple 𝓤 (𝓣.C #start-on) (S-start-on.Asked 𝓛 mem run)) where
+  module _ (𝓣 : Tables 𝓤 H) (known-fit : Triple 𝓤 (𝓣.C #fit) (S-fit.Asked 𝓛 mem run)) (known-unfit : Triple 𝓤 (𝓣.C #unfit) (S-unfit.Asked 𝓛 mem run)) (known-start-on : Triple 𝓤 (𝓣.C #start-on) (S-start-on.Asked 𝓛 mem run)) where
     abbrev fm : FmC 𝓤 H 𝓛.laws 𝓣.C
     fm = fm_of 𝓤 H 𝓛.laws 𝓣
 
-    walk : ent 𝓤 (on_entry 𝓛 f'.signature (κ-numbers, (κ-deques, (κ-frames, (κ-memory, (κ-values, (κ-pool, tt)))))) (q-numbers, (q-deques, (q-frames, (q-memory, (q-values, (q-pool, tt)))))) args' vals') (WpFn 𝓤 H 𝓣.C 𝓣.Λ code.function (slice_val (b-numbers, o-numbers) (length numbers) ∷ slice_val (b-deques, o-deques) (length deques) ∷ slice_val (b-frames, o-frames) (length frames) ∷ slice_val (b-memory, o-memory) (length memory) ∷ vint w32 workers ∷ slice_val (b-values, o-values) (length values) ∷ slice_val (b-pool, o-pool) (length pool) ∷ []) Post)
+    walk : ent 𝓤 (on_entry 𝓛 f'.signature (κ-numbers, (κ-deques, (κ-frames, (κ-values, (κ-pool, tt))))) (q-numbers, (q-deques, (q-frames, (q-values, (q-pool, tt))))) args' vals') (WpFn 𝓤 H 𝓣.C 𝓣.Λ code.function (slice_val (b-numbers, o-numbers) (length numbers) ∷ slice_val (b-deques, o-deques) (length deques) ∷ slice_val (b-frames, o-frames) (length frames) ∷ vint w32 workers ∷ slice_val (b-values, o-values) (length values) ∷ slice_val (b-pool, o-pool) (length pool) ∷ []) Post)
     walk =
-        qed 𝓛 ((‵ (flft κ-numbers q-numbers) ⊛ ‵ (flft κ-deques q-deques) ⊛ ‵ (flft κ-frames q-frames) ⊛ ‵ (flft κ-memory q-memory) ⊛ ‵ (flft κ-values q-values) ⊛ ‵ (flft κ-pool q-pool) ⊛ ‵ ftrue) ∷ ‵ (owns (MutSlice (named 0) κ-numbers u32 ∷ MutSlice (named 1) κ-deques u32 ∷ MutSlice (named 2) κ-frames R-Frame ∷ MutSlice (named 3) κ-memory u32 ∷ u32 ∷ ShrSlice (named 4) κ-values u32 ∷ MutSlice (named 5) κ-pool u32 ∷ []) args' vals') ∷ []) ∵ enter ! 𝓣.C 𝓣.Λ code.function (slice_val (b-numbers, o-numbers) (length numbers) ∷ slice_val (b-deques, o-deques) (length deques) ∷ slice_val (b-frames, o-frames) (length frames) ∷ slice_val (b-memory, o-memory) (length memory) ∷ vint w32 workers ∷ slice_val (b-values, o-values) (length values) ∷ slice_val (b-pool, o-pool) (length pool) ∷ []) _ $
-        alloc1 ! (λ l₀. alloc1 ! (λ l₁. alloc1 ! (λ l₂. alloc1 ! (λ l₃. alloc1 ! (λ l₄. alloc1 ! (λ l₅. alloc1 ! (λ l₆. alloc1 ! (λ l₇. alloc1 ! (λ l₈. alloc1 ! (λ l₉. alloc1 ! (λ l₁₀. alloc1 ! (λ l₁₁. alloc1 ! (λ l₁₂. alloc1 ! (λ l₁₃. alloc1 ! (λ l₁₄. alloc1 ! (λ l₁₅. alloc1 ! (λ l₁₆. alloc1 ! (λ l₁₇. alloc1 ! (λ l₁₈. alloc1 ! (λ l₁₉. alloc1 ! (λ l₂₀. alloc1 ! (λ l₂₁. alloc1 ! (λ l₂₂. alloc1 ! (λ l₂₃. alloc1 ! (λ l₂₄. alloc1 ! (λ l₂₅. alloc1 ! (λ l₂₆. alloc0 ! $ params1 ! $
-        pass1 ! (init ! 50 refl (tt, (tt, (record { fits = room-numbers.0 }, tt)))) $ pass1 ! (init ! 48 refl (tt, (tt, (record { fits = room-deques.0 }, tt)))) $ pass1 ! (init ! 46 refl (tt, (tt, (record { fits = room-frames.0 }, tt)))) $ pass1 ! (init ! 44 refl (tt, (tt, (record { fits = room-memory.0 }, tt)))) $ pass1 ! (init ! 42 refl (tt, record { fits = workers-fits })) $ pass1 ! (init ! 40 refl (tt, (tt, (record { fits = room-values.0 }, tt)))) $ pass1 ! (init ! 38 refl (tt, (tt, (record { fits = room-pool.0 }, tt)))) $ pass0 ! $
-        move ! (55 ∷ []) $ fsplit ! $ move ! (1 ∷ []) $ fsplit ! $ move ! (1 ∷ []) $ fsplit ! $ move ! (1 ∷ []) $ fsplit ! $ move ! (1 ∷ []) $ fsplit ! $ drop ! $ fsplit ! $ move ! (1 ∷ []) $ fsplit ! $ move ! (1 ∷ []) $ drop ! $ move ! (60 ∷ []) $ split ! $ move ! (1 ∷ []) $ split ! $ move ! (1 ∷ []) $ split ! $ move ! (1 ∷ []) $ split ! $ move ! (1 ∷ []) $ split ! $ move ! (1 ∷ []) $ split ! $ move ! (1 ∷ []) $ drop ! $ move ! (6 ∷ 0 ∷ []) $ fjoin ! $ move ! (6 ∷ 1 ∷ []) $ fjoin ! $ move ! (6 ∷ 2 ∷ []) $ fjoin ! $ move ! (6 ∷ 3 ∷ []) $ fjoin ! $ move ! (6 ∷ 4 ∷ []) $ fjoin ! $ move ! (6 ∷ 5 ∷ []) $ fjoin ! $
-        -- [numbers; deques; frames; memory; values; pool; the locals]
-        assigns ! (addr ! (from ! (fld ! refl (hop ! (look_in ! 56 (sub ! 0 refl (whole !))) (stop !))))) (from ! (stop !)) (init ! 40 refl (tt, tt)) $
-        assigns ! (agg ! (and_then ! (load ! (from ! (stop !)) (look ! 40 refl)) (and_then ! (load ! (from ! (fld ! refl (stop !))) (look_in ! 56 (sub ! 1 refl (whole !)))) (no_more !)))) (from ! (stop !)) (init ! 38 refl (tt, (tt, (record { fits = room-numbers.0 }, tt)))) $
-        assigns ! (addr ! (from ! (fld ! refl (hop ! (look_in ! 54 (sub ! 0 refl (whole !))) (stop !))))) (from ! (stop !)) (init ! 36 refl (tt, tt)) $
-        assigns ! (agg ! (and_then ! (load ! (from ! (stop !)) (look ! 36 refl)) (and_then ! (load ! (from ! (fld ! refl (stop !))) (look_in ! 54 (sub ! 1 refl (whole !)))) (no_more !)))) (from ! (stop !)) (init ! 34 refl (tt, (tt, (record { fits = room-deques.0 }, tt)))) $
-        assigns ! (addr ! (from ! (fld ! refl (hop ! (look_in ! 50 (sub ! 0 refl (whole !))) (stop !))))) (from ! (stop !)) (init ! 32 refl (tt, tt)) $
-        assigns ! (agg ! (and_then ! (load ! (from ! (stop !)) (look ! 32 refl)) (and_then ! (load ! (from ! (fld ! refl (stop !))) (look_in ! 50 (sub ! 1 refl (whole !)))) (no_more !)))) (from ! (stop !)) (init ! 30 refl (tt, (tt, (record { fits = room-memory.0 }, tt)))) $
-        -- _8 = engine::entries::fit(_10, _12, _14)
-        move ! (0 ∷ 1 ∷ 3 ∷ []) $
-        S-fit.step-sss mem run ! fm known-fit b-numbers o-numbers n-numbers numbers b-deques o-deques n-deques deques b-memory o-memory n-memory memory (refl) room-numbers (refl) room-deques (refl) room-memory
-        (λ ν-0 δ-0 ν-1 δ-1 ν-2 δ-2. and_then ! (load ! (from ! (stop !)) (look ! 39 refl)) (and_then ! (load ! (from ! (stop !)) (look ! 35 refl)) (and_then ! (load ! (from ! (stop !)) (look ! 31 refl)) (no_more !)))) (λ r-1 r-1-is.
-        land ! (from ! (stop !)) (init ! 42 refl (tt, tt)) $
-        assigns ! (un ! (load ! (from ! (stop !)) (look ! 42 refl)) tt) (from ! (stop !)) (init ! 28 refl (tt, tt)) $
-        leave_if ! (load ! (from ! (stop !)) (look ! 28 refl))
+        qed 𝓛 ((‵ (flft κ-numbers q-numbers) ⊛ ‵ (flft κ-deques q-deques) ⊛ ‵ (flft κ-frames q-frames) ⊛ ‵ (flft κ-values q-values) ⊛ ‵ (flft κ-pool q-pool) ⊛ ‵ ftrue) ∷ ‵ (owns (MutSlice (named 0) κ-numbers u32 ∷ MutSlice (named 1) κ-deques u32 ∷ MutSlice (named 2) κ-frames R-Frame ∷ u32 ∷ ShrSlice (named 3) κ-values u32 ∷ MutSlice (named 4) κ-pool u32 ∷ []) args' vals') ∷ []) ∵ enter ! 𝓣.C 𝓣.Λ code.function (slice_val (b-numbers, o-numbers) (length numbers) ∷ slice_val (b-deques, o-deques) (length deques) ∷ slice_val (b-frames, o-frames) (length frames) ∷ vint w32 workers ∷ slice_val (b-values, o-values) (length values) ∷ slice_val (b-pool, o-pool) (length pool) ∷ []) _ $
+        alloc1 ! (λ l₀. alloc1 ! (λ l₁. alloc1 ! (λ l₂. alloc1 ! (λ l₃. alloc1 ! (λ l₄. alloc1 ! (λ l₅. alloc1 ! (λ l₆. alloc1 ! (λ l₇. alloc1 ! (λ l₈. alloc1 ! (λ l₉. alloc1 ! (λ l₁₀. alloc1 ! (λ l₁₁. alloc1 ! (λ l₁₂. alloc1 ! (λ l₁₃. alloc1 ! (λ l₁₄. alloc1 ! (λ l₁₅. alloc1 ! (λ l₁₆. alloc1 ! (λ l₁₇. alloc1 ! (λ l₁₈. alloc1 ! (λ l₁₉. alloc1 ! (λ l₂₀. alloc0 ! $ params1 ! $
+        pass1 ! (init ! 38 refl (tt, (tt, (record { fits = room-numbers.0 }, tt)))) $ pass1 ! (init ! 36 refl (tt, (tt, (record { fits = room-deques.0 }, tt)))) $ pass1 ! (init ! 34 refl (tt, (tt, (record { fits = room-frames.0 }, tt)))) $ pass1 ! (init ! 32 refl (tt, record { fits = workers-fits })) $ pass1 ! (init ! 30 refl (tt, (tt, (record { fits = room-values.0 }, tt)))) $ pass1 ! (init ! 28 refl (tt, (tt, (record { fits = room-pool.0 }, tt)))) $ pass0 ! $
+        move ! (43 ∷ []) $ fsplit ! $ move ! (1 ∷ []) $ fsplit ! $ move ! (1 ∷ []) $ fsplit ! $ move ! (1 ∷ []) $ fsplit ! $ drop ! $ fsplit ! $ move ! (1 ∷ []) $ fsplit ! $ move ! (1 ∷ []) $ drop ! $ move ! (47 ∷ []) $ split ! $ move ! (1 ∷ []) $ split ! $ move ! (1 ∷ []) $ split ! $ move ! (1 ∷ []) $ split ! $ move ! (1 ∷ []) $ split ! $ move ! (1 ∷ []) $ drop ! $ move ! (5 ∷ 0 ∷ []) $ fjoin ! $ move ! (5 ∷ 1 ∷ []) $ fjoin ! $ move ! (5 ∷ 2 ∷ []) $ fjoin ! $ move ! (5 ∷ 3 ∷ []) $ fjoin ! $ move ! (5 ∷ 4 ∷ []) $ fjoin ! $
+        -- [numbers; deques; frames; values; pool; the locals]
+        assigns ! (addr ! (from ! (fld ! refl (hop ! (look_in ! 43 (sub ! 0 refl (whole !))) (stop !))))) (from ! (stop !)) (init ! 29 refl (tt, tt)) $
+        assigns ! (agg ! (and_then ! (load ! (from ! (stop !)) (look ! 29 refl)) (and_then ! (load ! (from ! (fld ! refl (stop !))) (look_in ! 43 (sub ! 1 refl (whole !)))) (no_more !)))) (from ! (stop !)) (init ! 27 refl (tt, (tt, (record { fits = room-numbers.0 }, tt)))) $
+        assigns ! (addr ! (from ! (fld ! refl (hop ! (look_in ! 41 (sub ! 0 refl (whole !))) (stop !))))) (from ! (stop !)) (init ! 25 refl (tt, tt)) $
+        assigns ! (agg ! (and_then ! (load ! (from ! (stop !)) (look ! 25 refl)) (and_then ! (load ! (from ! (fld ! refl (stop !))) (look_in ! 41 (sub ! 1 refl (whole !)))) (no_more !)))) (from ! (stop !)) (init ! 23 refl (tt, (tt, (record { fits = room-deques.0 }, tt)))) $
+        -- _7 = engine::entries::fit(_9, _11)
+        S-fit.step-ss mem run ! fm known-fit b-numbers o-numbers n-numbers numbers b-deques o-deques n-deques deques (refl) room-numbers (refl) room-deques
+        (λ ν-0 δ-0 ν-1 δ-1. and_then ! (load ! (from ! (stop !)) (look ! 28 refl)) (and_then ! (load ! (from ! (stop !)) (look ! 24 refl)) (no_more !))) (λ r-1 r-1-is.
+        land ! (from ! (stop !)) (init ! 31 refl (tt, tt)) $
+        assigns ! (un ! (load ! (from ! (stop !)) (look ! 31 refl)) tt) (from ! (stop !)) (init ! 21 refl (tt, tt)) $
+        leave_if ! (load ! (from ! (stop !)) (look ! 21 refl))
         (λ test-2.
         -- _0 = engine::entries::unfit()
         S-unfit.step mem run ! fm known-unfit
         (no_more !) (λ r-3 r-3-fits r-3-is.
-        land ! (from ! (stop !)) (init ! 58 refl (tt, record { fits = r-3-fits })) $
-        returns_within ! Post refl (look ! 58 refl) $ forget ! 28 refl $ forget ! 30 refl $ forget ! 32 refl $ forget ! 34 refl $ forget ! 36 refl $ forget ! 38 refl $ forget ! 40 refl $ forget ! 42 refl $ forget ! 44 refl $ forget ! 46 refl $ forget ! 48 refl $ forget ! 50 refl $ forget ! 52 refl $ forget ! 54 refl $ forget ! 56 refl $ forget ! 58 refl $
-        free_all ! 6 refl $
-        move ! (0 ∷ 1 ∷ 3 ∷ 2 ∷ 4 ∷ 5 ∷ []) $
-        by ! (exits' r-3 numbers deques frames memory pool r-3-fits (F.out-4 numbers deques frames memory workers values pool room-numbers.0 room-deques.0 room-frames.0 room-memory.0 workers-fits room-values.0 room-pool.0 r-1 r-1-is (is_false r-1 test-2) r-3 r-3-fits r-3-is) (refl) (refl) (refl) (refl) (refl))))
+        land ! (from ! (stop !)) (init ! 45 refl (tt, record { fits = r-3-fits })) $
+        returns_within ! Post refl (look ! 45 refl) $ forget ! 21 refl $ forget ! 23 refl $ forget ! 25 refl $ forget ! 27 refl $ forget ! 29 refl $ forget ! 31 refl $ forget ! 33 refl $ forget ! 35 refl $ forget ! 37 refl $ forget ! 39 refl $ forget ! 41 refl $ forget ! 43 refl $ forget ! 45 refl $
+        free_all ! 5 refl $
+        by ! (exits' r-3 numbers deques frames pool r-3-fits (F.out-4 numbers deques frames workers values pool room-numbers.0 room-deques.0 room-frames.0 workers-fits room-values.0 room-pool.0 r-1 r-1-is (is_false r-1 test-2) r-3 r-3-fits r-3-is) (refl) (refl) (refl) (refl))))
         (λ test-2.
-        assigns ! (addr ! (from ! (fld ! refl (hop ! (look_in ! 50 (sub ! 0 refl (whole !))) (stop !))))) (from ! (stop !)) (init ! 24 refl (tt, tt)) $
-        assigns ! (agg ! (and_then ! (load ! (from ! (stop !)) (look ! 24 refl)) (and_then ! (load ! (from ! (fld ! refl (stop !))) (look_in ! 50 (sub ! 1 refl (whole !)))) (no_more !)))) (from ! (stop !)) (init ! 22 refl (tt, (tt, (record { fits = room-memory.0 }, tt)))) $
-        -- _16 = words::clear_all(_18)
-        move ! (2 ∷ []) $
-        S-clear-all.step mem run ! fm known-clear-all b-memory o-memory n-memory memory (refl) room-memory
-        (λ ν-0 δ-0. and_then ! (load ! (from ! (stop !)) (look ! 23 refl)) (no_more !)) (λ memory-5 done-5 same-memory-5.
-        land ! (from ! (stop !)) (init ! 26 refl (tt, tt)) $
-        assigns ! (addr ! (from ! (fld ! refl (hop ! (look_in ! 56 (sub ! 0 refl (whole !))) (stop !))))) (from ! (stop !)) (init ! 20 refl (tt, tt)) $
-        assigns ! (agg ! (and_then ! (load ! (from ! (stop !)) (look ! 20 refl)) (and_then ! (load ! (from ! (fld ! refl (stop !))) (look_in ! 56 (sub ! 1 refl (whole !)))) (no_more !)))) (from ! (stop !)) (init ! 18 refl (tt, (tt, (record { fits = room-numbers.0 }, tt)))) $
-        assigns ! (addr ! (from ! (fld ! refl (hop ! (look_in ! 54 (sub ! 0 refl (whole !))) (stop !))))) (from ! (stop !)) (init ! 16 refl (tt, tt)) $
-        assigns ! (agg ! (and_then ! (load ! (from ! (stop !)) (look ! 16 refl)) (and_then ! (load ! (from ! (fld ! refl (stop !))) (look_in ! 54 (sub ! 1 refl (whole !)))) (no_more !)))) (from ! (stop !)) (init ! 14 refl (tt, (tt, (record { fits = room-deques.0 }, tt)))) $
-        assigns ! (addr ! (from ! (fld ! refl (hop ! (look_in ! 52 (sub ! 0 refl (whole !))) (stop !))))) (from ! (stop !)) (init ! 12 refl (tt, tt)) $
-        assigns ! (agg ! (and_then ! (load ! (from ! (stop !)) (look ! 12 refl)) (and_then ! (load ! (from ! (fld ! refl (stop !))) (look_in ! 52 (sub ! 1 refl (whole !)))) (no_more !)))) (from ! (stop !)) (init ! 10 refl (tt, (tt, (record { fits = room-frames.0 }, tt)))) $
-        assigns ! (addr ! (from ! (fld ! refl (hop ! (look_in ! 44 (sub ! 0 refl (whole !))) (stop !))))) (from ! (stop !)) (init ! 8 refl (tt, tt)) $
-        assigns ! (agg ! (and_then ! (load ! (from ! (stop !)) (look ! 8 refl)) (and_then ! (load ! (from ! (fld ! refl (stop !))) (look_in ! 44 (sub ! 1 refl (whole !)))) (no_more !)))) (from ! (stop !)) (init ! 6 refl (tt, (tt, (record { fits = room-pool.0 }, tt)))) $
-        -- _0 = engine::begin::start_on(_20, _22, _24, _5, _6, _26)
-        move ! (1 ∷ 2 ∷ 3 ∷ 4 ∷ 5 ∷ []) $
-        S-start-on.step-g mem run ! fm known-start-on b-numbers o-numbers n-numbers numbers b-deques o-deques n-deques deques b-frames o-frames n-frames frames b-values o-values n-values values b-pool o-pool n-pool pool workers workers-fits (F.needs-6 numbers deques frames memory workers values pool room-numbers.0 room-deques.0 room-frames.0 room-memory.0 workers-fits room-values.0 room-pool.0 r-1 r-1-is (is_true r-1 (not_not r-1 test-2)) memory-5 done-5 same-memory-5) (refl) room-numbers (refl) room-deques (refl) room-frames (refl) room-pool
-        (λ ν-0 δ-0 ν-1 δ-1 ν-2 δ-2 ν-3 δ-3. and_then ! (load ! (from ! (stop !)) (look ! 19 refl)) (and_then ! (load ! (from ! (stop !)) (look ! 15 refl)) (and_then ! (load ! (from ! (stop !)) (look ! 11 refl)) (and_then ! (load ! (from ! (stop !)) (look ! 49 refl)) (and_then ! (load ! (from ! (stop !)) (look ! 47 refl)) (and_then ! (load ! (from ! (stop !)) (look ! 7 refl)) (no_more !))))))) (λ r-6 numbers-6 deques-6 frames-6 pool-6 r-6-fits r-6-is same-numbers-6 same-deques-6 same-frames-6 same-pool-6.
-        land ! (from ! (stop !)) (init ! 58 refl (tt, record { fits = r-6-fits })) $
-        returns_within ! Post refl (look ! 58 refl) $ forget ! 6 refl $ forget ! 8 refl $ forget ! 10 refl $ forget ! 12 refl $ forget ! 14 refl $ forget ! 16 refl $ forget ! 18 refl $ forget ! 20 refl $ forget ! 22 refl $ forget ! 24 refl $ forget ! 26 refl $ forget ! 28 refl $ forget ! 30 refl $ forget ! 32 refl $ forget ! 34 refl $ forget ! 36 refl $ forget ! 38 refl $ forget ! 40 refl $ forget ! 42 refl $ forget ! 44 refl $ forget ! 46 refl $ forget ! 48 refl $ forget ! 50 refl $ forget ! 52 refl $ forget ! 54 refl $ forget ! 56 refl $ forget ! 58 refl $
-        free_all ! 6 refl $
-        move ! (0 ∷ 1 ∷ 2 ∷ 5 ∷ 3 ∷ 4 ∷ []) $
-        by ! (exits' r-6 numbers-6 deques-6 frames-6 memory-5 pool-6 r-6-fits (F.out-7 numbers deques frames memory workers values pool room-numbers.0 room-deques.0 room-frames.0 room-memory.0 workers-fits room-values.0 room-pool.0 r-1 r-1-is (is_true r-1 (not_not r-1 test-2)) memory-5 done-5 same-memory-5 r-6 numbers-6 deques-6 frames-6 pool-6 r-6-fits r-6-is same-numbers-6 same-deques-6 same-frames-6 same-pool-6) (same-numbers-6) (same-deques-6) (same-frames-6) (same-memory-5) (same-pool-6)))))))))))))))))))))))))))))))))
+        assigns ! (addr ! (from ! (fld ! refl (hop ! (look_in ! 43 (sub ! 0 refl (whole !))) (stop !))))) (from ! (stop !)) (init ! 19 refl (tt, tt)) $
+        assigns ! (agg ! (and_then ! (load ! (from ! (stop !)) (look ! 19 refl)) (and_then ! (load ! (from ! (fld ! refl (stop !))) (look_in ! 43 (sub ! 1 refl (whole !)))) (no_more !)))) (from ! (stop !)) (init ! 17 refl (tt, (tt, (record { fits = room-numbers.0 }, tt)))) $
+        assigns ! (addr ! (from ! (fld ! refl (hop ! (look_in ! 41 (sub ! 0 refl (whole !))) (stop !))))) (from ! (stop !)) (init ! 15 refl (tt, tt)) $
+        assigns ! (agg ! (and_then ! (load ! (from ! (stop !)) (look ! 15 refl)) (and_then ! (load ! (from ! (fld ! refl (stop !))) (look_in ! 41 (sub ! 1 refl (whole !)))) (no_more !)))) (from ! (stop !)) (init ! 13 refl (tt, (tt, (record { fits = room-deques.0 }, tt)))) $
+        assigns ! (addr ! (from ! (fld ! refl (hop ! (look_in ! 39 (sub ! 0 refl (whole !))) (stop !))))) (from ! (stop !)) (init ! 11 refl (tt, tt)) $
+        assigns ! (agg ! (and_then ! (load ! (from ! (stop !)) (look ! 11 refl)) (and_then ! (load ! (from ! (fld ! refl (stop !))) (look_in ! 39 (sub ! 1 refl (whole !)))) (no_more !)))) (from ! (stop !)) (init ! 9 refl (tt, (tt, (record { fits = room-frames.0 }, tt)))) $
+        assigns ! (addr ! (from ! (fld ! refl (hop ! (look_in ! 33 (sub ! 0 refl (whole !))) (stop !))))) (from ! (stop !)) (init ! 7 refl (tt, tt)) $
+        assigns ! (agg ! (and_then ! (load ! (from ! (stop !)) (look ! 7 refl)) (and_then ! (load ! (from ! (fld ! refl (stop !))) (look_in ! 33 (sub ! 1 refl (whole !)))) (no_more !)))) (from ! (stop !)) (init ! 5 refl (tt, (tt, (record { fits = room-pool.0 }, tt)))) $
+        -- _0 = engine::begin::start_on(_14, _16, _18, _4, _5, _20)
+        S-start-on.step-g mem run ! fm known-start-on b-numbers o-numbers n-numbers numbers b-deques o-deques n-deques deques b-frames o-frames n-frames frames b-values o-values n-values values b-pool o-pool n-pool pool workers workers-fits (F.needs-5 numbers deques frames workers values pool room-numbers.0 room-deques.0 room-frames.0 workers-fits room-values.0 room-pool.0 r-1 r-1-is (is_true r-1 (not_not r-1 test-2))) (refl) room-numbers (refl) room-deques (refl) room-frames (refl) room-pool
+        (λ ν-0 δ-0 ν-1 δ-1 ν-2 δ-2 ν-3 δ-3. and_then ! (load ! (from ! (stop !)) (look ! 18 refl)) (and_then ! (load ! (from ! (stop !)) (look ! 14 refl)) (and_then ! (load ! (from ! (stop !)) (look ! 10 refl)) (and_then ! (load ! (from ! (stop !)) (look ! 38 refl)) (and_then ! (load ! (from ! (stop !)) (look ! 36 refl)) (and_then ! (load ! (from ! (stop !)) (look ! 6 refl)) (no_more !))))))) (λ r-5 numbers-5 deques-5 frames-5 pool-5 r-5-fits r-5-is same-numbers-5 same-deques-5 same-frames-5 same-pool-5.
+        land ! (from ! (stop !)) (init ! 45 refl (tt, record { fits = r-5-fits })) $
+        returns_within ! Post refl (look ! 45 refl) $ forget ! 5 refl $ forget ! 7 refl $ forget ! 9 refl $ forget ! 11 refl $ forget ! 13 refl $ forget ! 15 refl $ forget ! 17 refl $ forget ! 19 refl $ forget ! 21 refl $ forget ! 23 refl $ forget ! 25 refl $ forget ! 27 refl $ forget ! 29 refl $ forget ! 31 refl $ forget ! 33 refl $ forget ! 35 refl $ forget ! 37 refl $ forget ! 39 refl $ forget ! 41 refl $ forget ! 43 refl $ forget ! 45 refl $
+        free_all ! 5 refl $
+        by ! (exits' r-5 numbers-5 deques-5 frames-5 pool-5 r-5-fits (F.out-6 numbers deques frames workers values pool room-numbers.0 room-deques.0 room-frames.0 workers-fits room-values.0 room-pool.0 r-1 r-1-is (is_true r-1 (not_not r-1 test-2)) r-5 numbers-5 deques-5 frames-5 pool-5 r-5-fits r-5-is same-numbers-5 same-deques-5 same-frames-5 same-pool-5) (same-numbers-5) (same-deques-5) (same-frames-5) (same-pool-5))))))))))))))))))))))))))
 
 module _ {M : Type 1} {𝓤 : Ura M} (𝓛 : Logic 𝓤) (mem : Memory → SProp 𝓤) (run : Routine → Fun 𝓤) (𝓣 : Tables 𝓤 𝓛.H) where
   open 𝓛 use {H}
 
-  walks : Triple 𝓤 (𝓣.C #fit) (S-fit.Asked 𝓛 mem run) → Triple 𝓤 (𝓣.C #unfit) (S-unfit.Asked 𝓛 mem run) → Triple 𝓤 (𝓣.C #clear-all) (S-clear-all.Asked 𝓛 mem run) → Triple 𝓤 (𝓣.C #start-on) (S-start-on.Asked 𝓛 mem run) → Walks 𝓛 f'.ended stayed (WpFn 𝓤 H 𝓣.C 𝓣.Λ code.function) (f'.clauses 𝓛 mem run)
-  walks known-fit known-unfit known-clear-all known-start-on = walked 𝓛 f'.ended stayed (f'.clauses 𝓛 mem run) (WpFn 𝓤 H 𝓣.C 𝓣.Λ code.function)
-      (λ κs. (shr_slice_vals, (shr_slice_vals, (shr_slice_vals, (shr_slice_vals, (uint_vals w32, (shr_slice_vals, (shr_slice_vals, tt))))))))
-      (λ κs. (mut_slice_Tells (named 0) κs.0 u32, (mut_slice_Tells (named 1) κs.1.0 u32, (mut_slice_Tells (named 2) κs.1.1.0 R-Frame, (mut_slice_Tells (named 3) κs.1.1.1.0 u32, (uint_Tells w32, (shr_slice_Tells (named 4) κs.1.1.1.1.0 u32, (mut_slice_Tells (named 5) κs.1.1.1.1.1.0 u32, tt))))))))
+  walks : Triple 𝓤 (𝓣.C #fit) (S-fit.Asked 𝓛 mem run) → Triple 𝓤 (𝓣.C #unfit) (S-unfit.Asked 𝓛 mem run) → Triple 𝓤 (𝓣.C #start-on) (S-start-on.Asked 𝓛 mem run) → Walks 𝓛 f'.ended stayed (WpFn 𝓤 H 𝓣.C 𝓣.Λ code.function) (f'.clauses 𝓛 mem run)
+  walks known-fit known-unfit known-start-on = walked 𝓛 f'.ended stayed (f'.clauses 𝓛 mem run) (WpFn 𝓤 H 𝓣.C 𝓣.Λ code.function)
+      (λ κs. (shr_slice_vals, (shr_slice_vals, (shr_slice_vals, (uint_vals w32, (shr_slice_vals, (shr_slice_vals, tt)))))))
+      (λ κs. (mut_slice_Tells (named 0) κs.0 u32, (mut_slice_Tells (named 1) κs.1.0 u32, (mut_slice_Tells (named 2) κs.1.1.0 R-Frame, (uint_Tells w32, (shr_slice_Tells (named 3) κs.1.1.1.0 u32, (mut_slice_Tells (named 4) κs.1.1.1.1.0 u32, tt)))))))
       (λ κs qs bounds a g are. via 𝓤 _ (fst∗ 𝓤 _ (emp 𝓤))
-      (walk 𝓛 mem run κs.0 qs.0 a.0.ref_ptr.0 a.0.ref_ptr.1 a.0.ghost_name a.0.now κs.1.0 qs.1.0 a.1.0.ref_ptr.0 a.1.0.ref_ptr.1 a.1.0.ghost_name a.1.0.now κs.1.1.0 qs.1.1.0 a.1.1.0.ref_ptr.0 a.1.1.0.ref_ptr.1 a.1.1.0.ghost_name a.1.1.0.now κs.1.1.1.0 qs.1.1.1.0 a.1.1.1.0.ref_ptr.0 a.1.1.1.0.ref_ptr.1 a.1.1.1.0.ghost_name a.1.1.1.0.now κs.1.1.1.1.0 qs.1.1.1.1.0 a.1.1.1.1.1.0.ref_ptr.0 a.1.1.1.1.1.0.ref_ptr.1 a.1.1.1.1.1.0.ghost_name a.1.1.1.1.1.0.now κs.1.1.1.1.1.0 qs.1.1.1.1.1.0 a.1.1.1.1.1.1.0.ref_ptr.0 a.1.1.1.1.1.1.0.ref_ptr.1 a.1.1.1.1.1.1.0.ghost_name a.1.1.1.1.1.1.0.now a.1.1.1.1.0 are.1.1.1.1.0.1 are.0.0.1 are.1.0.0.1 are.1.1.0.0.1 are.1.1.1.0.0.1 are.1.1.1.1.1.0.0.1 are.1.1.1.1.1.1.0.0.1 𝓣 known-fit known-unfit known-clear-all known-start-on))
+      (walk 𝓛 mem run κs.0 qs.0 a.0.ref_ptr.0 a.0.ref_ptr.1 a.0.ghost_name a.0.now κs.1.0 qs.1.0 a.1.0.ref_ptr.0 a.1.0.ref_ptr.1 a.1.0.ghost_name a.1.0.now κs.1.1.0 qs.1.1.0 a.1.1.0.ref_ptr.0 a.1.1.0.ref_ptr.1 a.1.1.0.ghost_name a.1.1.0.now κs.1.1.1.0 qs.1.1.1.0 a.1.1.1.1.0.ref_ptr.0 a.1.1.1.1.0.ref_ptr.1 a.1.1.1.1.0.ghost_name a.1.1.1.1.0.now κs.1.1.1.1.0 qs.1.1.1.1.0 a.1.1.1.1.1.0.ref_ptr.0 a.1.1.1.1.1.0.ref_ptr.1 a.1.1.1.1.1.0.ghost_name a.1.1.1.1.1.0.now a.1.1.1.0 are.1.1.1.0.1 are.0.0.1 are.1.0.0.1 are.1.1.0.0.1 are.1.1.1.1.0.0.1 are.1.1.1.1.1.0.0.1 𝓣 known-fit known-unfit known-start-on))
 
-  meets : Triple 𝓤 (𝓣.C #fit) (S-fit.Asked 𝓛 mem run) → Triple 𝓤 (𝓣.C #unfit) (S-unfit.Asked 𝓛 mem run) → Triple 𝓤 (𝓣.C #clear-all) (S-clear-all.Asked 𝓛 mem run) → Triple 𝓤 (𝓣.C #start-on) (S-start-on.Asked 𝓛 mem run) → Meets 𝓛 f'.signature (WpFn 𝓤 H 𝓣.C 𝓣.Λ code.function) (f'.spec 𝓛 mem run)
-  meets known-fit known-unfit known-clear-all known-start-on = walk_Meets 𝓛 f'.ended stayed
-      (Goes-slice 𝓛 6 0 tt (plain (λ _. u32)), (Goes-slice 𝓛 6 1 tt (plain (λ _. u32)), (Goes-slice 𝓛 6 2 tt (plain (λ _. R-Frame)), (Goes-slice 𝓛 6 3 tt (plain (λ _. u32)), (Goes-none 𝓛 6 (λ _. u32) yes (λ κs x f. refl), (Goes-none_slice 𝓛 6 (4 ∷ []) tt (plain (λ _. u32)) yes, (Goes-slice 𝓛 6 5 tt (plain (λ _. u32)), tt)))))))
-      (f'.clauses 𝓛 mem run) (WpFn 𝓤 H 𝓣.C 𝓣.Λ code.function) (WpFn-mono 𝓤 H 𝓛.laws 𝓣 code.function) (walks known-fit known-unfit known-clear-all known-start-on)
+  meets : Triple 𝓤 (𝓣.C #fit) (S-fit.Asked 𝓛 mem run) → Triple 𝓤 (𝓣.C #unfit) (S-unfit.Asked 𝓛 mem run) → Triple 𝓤 (𝓣.C #start-on) (S-start-on.Asked 𝓛 mem run) → Meets 𝓛 f'.signature (WpFn 𝓤 H 𝓣.C 𝓣.Λ code.function) (f'.spec 𝓛 mem run)
+  meets known-fit known-unfit known-start-on = walk_Meets 𝓛 f'.ended stayed
+      (Goes-slice 𝓛 5 0 tt (plain (λ _. u32)), (Goes-slice 𝓛 5 1 tt (plain (λ _. u32)), (Goes-slice 𝓛 5 2 tt (plain (λ _. R-Frame)), (Goes-none 𝓛 5 (λ _. u32) yes (λ κs x f. refl), (Goes-none_slice 𝓛 5 (3 ∷ []) tt (plain (λ _. u32)) yes, (Goes-slice 𝓛 5 4 tt (plain (λ _. u32)), tt))))))
+      (f'.clauses 𝓛 mem run) (WpFn 𝓤 H 𝓣.C 𝓣.Λ code.function) (WpFn-mono 𝓤 H 𝓛.laws 𝓣 code.function) (walks known-fit known-unfit known-start-on)
 
 pub start_spec : {M : Type 1} → stated.statement M
 unfolding code.routine tables_of
@@ -201,5 +186,4 @@ start_spec 𝓤 𝓛 𝓜 𝓡 =
     (meets 𝓛 𝓜.mem 𝓡.run (tables_of 𝓤 𝓛.H 𝓜 (tables 𝓤 𝓛.H 𝓜 𝓡 code.env))
     (cited 𝓤 𝓛.H (S-fit.Asked 𝓛 𝓜.mem 𝓡.run) 𝓜 𝓡 code.env #fit D-fit.routine code.calls-engine::entries::fit (T-fit.met 𝓤 𝓛 𝓜 𝓡))
     (cited 𝓤 𝓛.H (S-unfit.Asked 𝓛 𝓜.mem 𝓡.run) 𝓜 𝓡 code.env #unfit D-unfit.routine code.calls-engine::entries::unfit (T-unfit.met 𝓤 𝓛 𝓜 𝓡))
-    (cited 𝓤 𝓛.H (S-clear-all.Asked 𝓛 𝓜.mem 𝓡.run) 𝓜 𝓡 code.env #clear-all D-clear-all.routine code.calls-words::clear-all (T-clear-all.met 𝓤 𝓛 𝓜 𝓡))
     (cited 𝓤 𝓛.H (S-start-on.Asked 𝓛 𝓜.mem 𝓡.run) 𝓜 𝓡 code.env #start-on D-start-on.routine code.calls-engine::begin::start-on (T-start-on.met 𝓤 𝓛 𝓜 𝓡)))

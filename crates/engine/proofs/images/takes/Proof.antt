@@ -1,5 +1,5 @@
 -- What the image records is what its first block says.
-use Rattle.std.proofs.Common.{rules}
+use borrow.Author.Rules.{rules}
 use Rattle.engine.proofs.images.takes.Statement.{statement}
 use Rattle.engine.proofs.images.takes.Tie as tie
 

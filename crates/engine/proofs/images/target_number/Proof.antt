@@ -1,7 +1,8 @@
 -- The target is too short, or not.
-use Rattle.std.proofs.Common.{ap, ◌∙◌, rules}
+use mathlib.Core.Path.{◌∙◌, ap}
 use Rattle.soundness.specs.declared.Numbers.{Numbers}
 use Rattle.image.specs.Image.{image_bytes}
+use borrow.Author.Rules.{rules}
 use Rattle.engine.proofs.SaveLoad.{met_is, unmet_is}
 use Rattle.engine.proofs.images.target_number.Statement.{statement}
 use Rattle.engine.proofs.images.target_number.Tie as tie

@@ -1,5 +1,6 @@
 -- The work slice is too short, or not.
-use Rattle.std.proofs.Common.{refl, rules}
+use mathlib.Core.Path.{refl}
+use borrow.Author.Rules.{rules}
 use Rattle.engine.proofs.SaveLoad.{met_is, unmet_is}
 use Rattle.engine.proofs.images.work_number.Statement.{statement}
 use Rattle.engine.proofs.images.work_number.Tie as tie

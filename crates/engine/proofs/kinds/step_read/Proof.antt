@@ -1,12 +1,16 @@
 -- Written by tools/walk: `engine::kinds::step_read` meets its contract, by a walk of its MIR. Do not edit: the facts are in Proof/Facts.antt. Assumes nothing.
 mod Facts
-use Rattle.std.proofs.Common.{◌≡◌, ℕ, ◌+◌, ◌-◌, ◌*◌, ◌^◌, ◌<◌, ◌≤◌, Bool, true, false, not, T as Holds, eqb, ltb, leb, List, [], ◌∷◌, length, get_or, set, sym, refl, ap, ◌∙◌, subst, lit<, eqb→eq, ltb→lt, leb→le, nltb→le, length-set, w8, w16, w32, w64, MutBor}
-use lib.Dec.{nleb→lt}
+use mathlib.Core.Path.{◌≡◌, refl, sym, ◌∙◌, ap, subst}
+use Prim.Native.Nat.{ℕ, ◌+◌, ◌-◌, ◌*◌, ◌<◌, ◌≤◌, ◌^◌}
+use mathlib.Core.List.{List, [], ◌∷◌}
+use mathlib.Core.Bool.{Bool, true, false, not}
+use lib.Dec.{T as Holds, ltb, leb, eqb, ltb→lt, leb→le, nltb→le, nleb→lt, eqb→eq, lit<}
+use lib.ListN.{length, get_or, set, length-set}
 use lib.WfN.{lt-wf_rel}
 use mathlib.Core.WellFounded.{WellFounded}
 use seplogic.Ra.Ura.{Ura}
 use seplogic.Ra.TreeShare.{full_share}
-use mir.Syntax.{named, ty_int, ty_bool, ty_ptr, Ty, Body as Code, loop as loopᴹ}
+use mir.Syntax.{named, w8, w16, w32, w64, ty_int, ty_bool, ty_ptr, Ty, Body as Code, loop as loopᴹ}
 use mir.Val.{Val, vunit, vbool, vint, vptr}
 use base.Logic.{SProp, ent, via, fst∗, emp}
 use base.Fml.{Lft, GName, Share, ftrue, flft, fat, froom, fdies}
@@ -28,6 +32,7 @@ use denote.Memory.{cell_at}
 use denote.Index.{place as place', place_is, place_byte}
 use denote.Plain.{uint_copy, uint_Makes, uint_vals, uint_Tells, bool_Makes, bool_vals, bool_Tells, Nothing-Makes}
 use denote.Builtin.{u8, u16, u32, u64, usize, bool, unit}
+use denote.Ref.{MutBor}
 use denote.Slice.{slice_val, MutSlice, ShrSlice, Room, mut_slice_vals, mut_slice_Tells, shr_slice_Tells}
 use denote.Signature.{plain}
 use denote.Steps.{nothing, owned}
@@ -42,9 +47,8 @@ use borrow.Author.Rules.{scaled_Fits}
 use Rattle.frames.proofs.Lent.{at_list, Mine, Yours, ty_at, exit_unless, exit_if, leave_if, fork, skipped, regroup, matched, matched_last, const, is_true, is_false, not_not, differ, widen, less_fits, after, turn_of_lem, take_out, put_in, put_back, look_out, look_back, free_all}
 use Rattle.model.specs.declared.Step.TheVariants.{Read}
 use Rattle.semantics.specs.Core.{step_on}
-use Rattle.semantics.specs.Ranges.{Ready, Recalls}
-use Rattle.engine.specs.Promises.{core, LeavesVisited}
-use Rattle.soundness.specs.Layout.{two_words}
+use Rattle.semantics.specs.Ranges.{Ready}
+use Rattle.engine.specs.Promises.{core, LeavesOthers}
 use Rattle.engine.proofs.Called.acting as S-acting
 use Rattle.engine.proofs.refusals.acting.Symbol as D-acting
 use Rattle.engine.proofs.refusals.acting.Symbol.{name as #acting}
@@ -53,10 +57,6 @@ use Rattle.engine.proofs.Called.refused_by as S-refused-by
 use Rattle.engine.proofs.kinds.refused_by.Symbol as D-refused-by
 use Rattle.engine.proofs.kinds.refused_by.Symbol.{name as #refused-by}
 use Rattle.engine.proofs.kinds.refused_by.Met as T-refused-by
-use Rattle.engine.proofs.Called.visited as S-visited
-use Rattle.engine.proofs.kinds.visited.Symbol as D-visited
-use Rattle.engine.proofs.kinds.visited.Symbol.{name as #visited}
-use Rattle.engine.proofs.kinds.visited.Met as T-visited
 use Rattle.engine.proofs.Called.value_at as S-value-at
 use Rattle.engine.proofs.kinds.value_at.Symbol as D-value-at
 use Rattle.engine.proofs.kinds.value_at.Symbol.{name as #value-at}
@@ -72,15 +72,13 @@ use Rattle.semantics.specs.declared.Head.{Head}
 use Rattle.frames.specs.contracts.Frame as M-Frame
 use Rattle.frames.proofs.Frame.TheLaws as L-Frame
 use Rattle.frames.specs.declared.Frame.{Frame}
-use Rattle.engine.specs.contracts.Visited as M-Visited
-use Rattle.engine.proofs.Visited.TheLaws as L-Visited
-use Rattle.engine.specs.declared.Visited.{Visited}
-use Rattle.engine.specs.contracts.Acting as M-Acting
-use Rattle.engine.proofs.Acting.TheLaws as L-Acting
-use Rattle.engine.specs.declared.Acting.{Acting}
 use Rattle.engine.specs.contracts.Out as M-Out
 use Rattle.engine.proofs.Out.TheLaws as L-Out
 use Rattle.engine.specs.declared.Out.{Out}
+use Rattle.engine.specs.contracts.Acting as M-Acting
+use Rattle.engine.proofs.Acting.TheLaws as L-Acting
+use Rattle.engine.specs.declared.Acting.{Acting}
+use Rattle.soundness.specs.Layout.{two_words}
 
 abbrev R-Head : RattleType
 R-Head = M-Head.the_row
@@ -94,11 +92,11 @@ R-Frame = M-Frame.the_row
 abbrev val-Frame : Frame → Val
 val-Frame d = LL.val M-Frame.the_type L-Frame.the_laws d
 
-abbrev R-Visited : RattleType
-R-Visited = M-Visited.the_row
+abbrev R-Out : RattleType
+R-Out = M-Out.the_row
 
-abbrev val-Visited : Visited → Val
-val-Visited d = LL.val M-Visited.the_type L-Visited.the_laws d
+abbrev val-Out : Out → Val
+val-Out d = LL.val M-Out.the_type L-Out.the_laws d
 
 abbrev R-Acting : RattleType
 R-Acting = M-Acting.the_row
@@ -106,17 +104,11 @@ R-Acting = M-Acting.the_row
 abbrev val-Acting : Acting → Val
 val-Acting d = LL.val M-Acting.the_type L-Acting.the_laws d
 
-abbrev R-Out : RattleType
-R-Out = M-Out.the_row
-
-abbrev val-Out : Out → Val
-val-Out d = LL.val M-Out.the_type L-Out.the_laws d
-
 abbrev stayed : Stays (f'.ended).signature.params (f'.ended).kept
-stayed = (stay_none (λ _. R-Head) yes, (stay_slice (0 ∷ []) tt (plain (λ _. u32)), (stay_slice (1 ∷ []) tt (plain (λ _. R-Frame)), (stay_slice (2 ∷ []) tt (plain (λ _. u32)), (stay_slice (3 ∷ []) tt (plain (λ _. u32)), (stay_none (λ _. u32) yes, (stay_none (λ _. u32) yes, tt)))))))
+stayed = (stay_none (λ _. R-Head) yes, (stay_slice (0 ∷ []) tt (plain (λ _. u32)), (stay_slice (1 ∷ []) tt (plain (λ _. R-Frame)), (stay_slice (2 ∷ []) tt (plain (λ _. u32)), (stay_none (λ _. u32) yes, (stay_none (λ _. u32) yes, tt))))))
 
 module _ {M : Type 1} {𝓤 : Ura M} (𝓛 : Logic 𝓤) (mem : Memory → SProp 𝓤) (run : Routine → Fun 𝓤)
-    (κ-deques : Lft) (q-deques : Share) (b-deques o-deques : ℕ) (γ-deques : GName) (deques : List ℕ) (κ-frames : Lft) (q-frames : Share) (b-frames o-frames : ℕ) (γ-frames : GName) (frames : List Frame) (κ-pool : Lft) (q-pool : Share) (b-pool o-pool : ℕ) (γ-pool : GName) (pool : List ℕ) (κ-memory : Lft) (q-memory : Share) (b-memory o-memory : ℕ) (γ-memory : GName) (memory : List ℕ) (h : Head) (h-good : Is R-Head h (val-Head h ∷ [])) (w : ℕ) (w_Fits : w < 2 ^ 32) (x : ℕ) (x_Fits : x < 2 ^ 32) (room-deques : Room u32 (length deques)) (room-frames : Room R-Frame (length frames)) (room-pool : Room u32 (length pool)) (room-memory : Room u32 (length memory)) where
+    (κ-deques : Lft) (q-deques : Share) (b-deques o-deques : ℕ) (γ-deques : GName) (deques : List ℕ) (κ-frames : Lft) (q-frames : Share) (b-frames o-frames : ℕ) (γ-frames : GName) (frames : List Frame) (κ-pool : Lft) (q-pool : Share) (b-pool o-pool : ℕ) (γ-pool : GName) (pool : List ℕ) (h : Head) (h-good : Is R-Head h (val-Head h ∷ [])) (w : ℕ) (w_Fits : w < 2 ^ 32) (x : ℕ) (x_Fits : x < 2 ^ 32) (room-deques : Room u32 (length deques)) (room-frames : Room R-Frame (length frames)) (room-pool : Room u32 (length pool)) where
   open 𝓛 use {H}
 
   abbrev n-deques : ℕ
@@ -128,91 +120,82 @@ module _ {M : Type 1} {𝓤 : Ura M} (𝓛 : Logic 𝓤) (mem : Memory → SProp
   abbrev n-pool : ℕ
   n-pool = length pool
 
-  abbrev n-memory : ℕ
-  n-memory = length memory
+  abbrev args' : Head × (MutBor (List ℕ) × (MutBor (List Frame) × (MutBor (List ℕ) × (ℕ × (ℕ × Unit {0})))))
+  args' = (h, (at_list b-deques o-deques γ-deques deques, (at_list b-frames o-frames γ-frames frames, (at_list b-pool o-pool γ-pool pool, (w, (x, tt))))))
 
-  abbrev args' : Head × (MutBor (List ℕ) × (MutBor (List Frame) × (MutBor (List ℕ) × (MutBor (List ℕ) × (ℕ × (ℕ × Unit {0}))))))
-  args' = (h, (at_list b-deques o-deques γ-deques deques, (at_list b-frames o-frames γ-frames frames, (at_list b-pool o-pool γ-pool pool, (at_list b-memory o-memory γ-memory memory, (w, (x, tt)))))))
-
-  abbrev vals' : Vals f'.signature (κ-deques, (κ-frames, (κ-pool, (κ-memory, tt))))
-  vals' = (val-Head h ∷ [], (slice_val (b-deques, o-deques) (length deques) ∷ [], (slice_val (b-frames, o-frames) (length frames) ∷ [], (slice_val (b-pool, o-pool) (length pool) ∷ [], (slice_val (b-memory, o-memory) (length memory) ∷ [], (vint w32 w ∷ [], (vint w32 x ∷ [], tt)))))))
+  abbrev vals' : Vals f'.signature (κ-deques, (κ-frames, (κ-pool, tt)))
+  vals' = (val-Head h ∷ [], (slice_val (b-deques, o-deques) (length deques) ∷ [], (slice_val (b-frames, o-frames) (length frames) ∷ [], (slice_val (b-pool, o-pool) (length pool) ∷ [], (vint w32 w ∷ [], (vint w32 x ∷ [], tt))))))
 
   abbrev bound' : (walk_of 𝓛 f'.ended stayed (f'.clauses 𝓛 mem run)).Ghost
-  bound' = (((κ-deques, (κ-frames, (κ-pool, (κ-memory, tt)))), (q-deques, (q-frames, (q-pool, (q-memory, tt)))), tt, args', vals'), tt)
+  bound' = (((κ-deques, (κ-frames, (κ-pool, tt))), (q-deques, (q-frames, (q-pool, tt))), tt, args', vals'), tt)
 
   abbrev Post : Val → SProp 𝓤
   Post = (walk_of 𝓛 f'.ended stayed (f'.clauses 𝓛 mem run)).post bound'
 
-  exits' : (res' : Visited) (zs-deques : List ℕ) (zs-frames : List Frame) (zs-pool : List ℕ) (zs-memory : List ℕ) → Is R-Visited res' (val-Visited res' ∷ []) → LeavesVisited (step_on two_words) (Read w x) h res' deques frames pool memory zs-deques zs-frames zs-pool zs-memory → length zs-deques ≡ length deques → length zs-frames ≡ length frames → length zs-pool ≡ length pool → length zs-memory ≡ length memory → ent 𝓤 (⋆ 𝓛 (‵ (Mine u32 κ-deques q-deques γ-deques b-deques o-deques n-deques zs-deques) ∷ ‵ (Mine R-Frame κ-frames q-frames γ-frames b-frames o-frames n-frames zs-frames) ∷ ‵ (Mine u32 κ-pool q-pool γ-pool b-pool o-pool n-pool zs-pool) ∷ ‵ (Mine u32 κ-memory q-memory γ-memory b-memory o-memory n-memory zs-memory) ∷ [])) (Post (val-Visited res'))
-  exits' res' zs-deques zs-frames zs-pool zs-memory good' e' same-deques same-frames same-pool same_memory =
-      qed 𝓛 (‵ (Mine u32 κ-deques q-deques γ-deques b-deques o-deques n-deques zs-deques) ∷ ‵ (Mine R-Frame κ-frames q-frames γ-frames b-frames o-frames n-frames zs-frames) ∷ ‵ (Mine u32 κ-pool q-pool γ-pool b-pool o-pool n-pool zs-pool) ∷ ‵ (Mine u32 κ-memory q-memory γ-memory b-memory o-memory n-memory zs-memory) ∷ []) ∵
-      suffices ! _ (ends_at 𝓛 f'.ended stayed (f'.clauses 𝓛 mem run) bound' (val-Visited res') res' (tt, (zs-deques, (zs-frames, (zs-pool, (zs-memory, (tt, (tt, tt))))))) (tt, (same-deques, (same-frames, (same-pool, (same_memory, (tt, (tt, tt)))))))) $ says ! e' $
-      fsplit ! $ move ! (2 ∷ []) $ fsplit ! $ move ! (4 ∷ []) $ fsplit ! $ move ! (6 ∷ []) $ fsplit ! $ nothing ! $ move ! (8 ∷ 6 ∷ 4 ∷ 2 ∷ 0 ∷ []) $ group ! 5 $ frame ! $
-      nothing ! $ owned ! u32 (Is u32) (uint_Makes 𝓛 w32) x _ (refl, x_Fits) $ fjoin ! $ owned ! u32 (Is u32) (uint_Makes 𝓛 w32) w _ (refl, w_Fits) $ fjoin ! $ move ! (1 ∷ 0 ∷ []) $ fjoin ! $ move ! (1 ∷ 0 ∷ []) $ fjoin ! $ move ! (1 ∷ 0 ∷ []) $ fjoin ! $ move ! (1 ∷ 0 ∷ []) $ fjoin ! $ owned ! R-Head (Is R-Head) (LL.makes M-Head.the_type L-Head.the_plain 𝓛) h _ h-good $ fjoin ! $ frame ! $
-      owned ! R-Visited (Is R-Visited) (LL.makes M-Visited.the_type L-Visited.the_plain 𝓛) res' _ good' $ done !
+  exits' : (res' : Out) (zs-deques : List ℕ) (zs-frames : List Frame) (zs-pool : List ℕ) → Is R-Out res' (val-Out res' ∷ []) → LeavesOthers h res' deques frames pool zs-deques zs-frames zs-pool (λ c. step_on two_words c (Read w x)) → length zs-deques ≡ length deques → length zs-frames ≡ length frames → length zs-pool ≡ length pool → ent 𝓤 (⋆ 𝓛 (‵ (Mine u32 κ-deques q-deques γ-deques b-deques o-deques n-deques zs-deques) ∷ ‵ (Mine R-Frame κ-frames q-frames γ-frames b-frames o-frames n-frames zs-frames) ∷ ‵ (Mine u32 κ-pool q-pool γ-pool b-pool o-pool n-pool zs-pool) ∷ [])) (Post (val-Out res'))
+  exits' res' zs-deques zs-frames zs-pool good' e' same-deques same-frames same-pool =
+      qed 𝓛 (‵ (Mine u32 κ-deques q-deques γ-deques b-deques o-deques n-deques zs-deques) ∷ ‵ (Mine R-Frame κ-frames q-frames γ-frames b-frames o-frames n-frames zs-frames) ∷ ‵ (Mine u32 κ-pool q-pool γ-pool b-pool o-pool n-pool zs-pool) ∷ []) ∵
+      suffices ! _ (ends_at 𝓛 f'.ended stayed (f'.clauses 𝓛 mem run) bound' (val-Out res') res' (tt, (zs-deques, (zs-frames, (zs-pool, (tt, (tt, tt)))))) (tt, (same-deques, (same-frames, (same-pool, (tt, (tt, tt))))))) $ says ! e' $
+      fsplit ! $ move ! (2 ∷ []) $ fsplit ! $ move ! (4 ∷ []) $ fsplit ! $ nothing ! $ move ! (6 ∷ 4 ∷ 2 ∷ 0 ∷ []) $ group ! 4 $ frame ! $
+      nothing ! $ owned ! u32 (Is u32) (uint_Makes 𝓛 w32) x _ (refl, x_Fits) $ fjoin ! $ owned ! u32 (Is u32) (uint_Makes 𝓛 w32) w _ (refl, w_Fits) $ fjoin ! $ move ! (1 ∷ 0 ∷ []) $ fjoin ! $ move ! (1 ∷ 0 ∷ []) $ fjoin ! $ move ! (1 ∷ 0 ∷ []) $ fjoin ! $ owned ! R-Head (Is R-Head) (LL.makes M-Head.the_type L-Head.the_plain 𝓛) h _ h-good $ fjoin ! $ frame ! $
+      owned ! R-Out (Is R-Out) (LL.makes M-Out.the_type L-Out.the_plain 𝓛) res' _ good' $ done !
 
-  module _ (𝓣 : Tables 𝓤 H) (known-acting : Triple 𝓤 (𝓣.C #acting) (S-acting.Asked 𝓛 mem run)) (known-refused-by : Triple 𝓤 (𝓣.C #refused-by) (S-refused-by.Asked 𝓛 mem run)) (known-visited : Triple 𝓤 (𝓣.C #visited) (S-visited.Asked 𝓛 mem run)) (known-value-at : Triple 𝓤 (𝓣.C #value-at) (S-value-at.Asked 𝓛 mem run)) where
+  module _ (𝓣 : Tables 𝓤 H) (known-acting : Triple 𝓤 (𝓣.C #acting) (S-acting.Asked 𝓛 mem run)) (known-refused-by : Triple 𝓤 (𝓣.C #refused-by) (S-refused-by.Asked 𝓛 mem run)) (known-value-at : Triple 𝓤 (𝓣.C #value-at) (S-value-at.Asked 𝓛 mem run)) where
     abbrev fm : FmC 𝓤 H 𝓛.laws 𝓣.C
     fm = fm_of 𝓤 H 𝓛.laws 𝓣
 
-    walk : Ready (core h [] deques frames pool) × Recalls (core h [] deques frames pool) memory → ent 𝓤 (on_entry 𝓛 f'.signature (κ-deques, (κ-frames, (κ-pool, (κ-memory, tt)))) (q-deques, (q-frames, (q-pool, (q-memory, tt)))) args' vals') (WpFn 𝓤 H 𝓣.C 𝓣.Λ code.function (val-Head h ∷ slice_val (b-deques, o-deques) (length deques) ∷ slice_val (b-frames, o-frames) (length frames) ∷ slice_val (b-pool, o-pool) (length pool) ∷ slice_val (b-memory, o-memory) (length memory) ∷ vint w32 w ∷ vint w32 x ∷ []) Post)
+    walk : Ready (core h [] deques frames pool) → ent 𝓤 (on_entry 𝓛 f'.signature (κ-deques, (κ-frames, (κ-pool, tt))) (q-deques, (q-frames, (q-pool, tt))) args' vals') (WpFn 𝓤 H 𝓣.C 𝓣.Λ code.function (val-Head h ∷ slice_val (b-deques, o-deques) (length deques) ∷ slice_val (b-frames, o-frames) (length frames) ∷ slice_val (b-pool, o-pool) (length pool) ∷ vint w32 w ∷ vint w32 x ∷ []) Post)
     walk ok' =
-        qed 𝓛 ((‵ (flft κ-deques q-deques) ⊛ ‵ (flft κ-frames q-frames) ⊛ ‵ (flft κ-pool q-pool) ⊛ ‵ (flft κ-memory q-memory) ⊛ ‵ ftrue) ∷ ‵ (owns (R-Head ∷ MutSlice (named 0) κ-deques u32 ∷ MutSlice (named 1) κ-frames R-Frame ∷ MutSlice (named 2) κ-pool u32 ∷ MutSlice (named 3) κ-memory u32 ∷ u32 ∷ u32 ∷ []) args' vals') ∷ []) ∵ enter ! 𝓣.C 𝓣.Λ code.function (val-Head h ∷ slice_val (b-deques, o-deques) (length deques) ∷ slice_val (b-frames, o-frames) (length frames) ∷ slice_val (b-pool, o-pool) (length pool) ∷ slice_val (b-memory, o-memory) (length memory) ∷ vint w32 w ∷ vint w32 x ∷ []) _ $
-        alloc1 ! (λ l₀. alloc1 ! (λ l₁. alloc1 ! (λ l₂. alloc1 ! (λ l₃. alloc1 ! (λ l₄. alloc1 ! (λ l₅. alloc1 ! (λ l₆. alloc1 ! (λ l₇. alloc1 ! (λ l₈. alloc1 ! (λ l₉. alloc1 ! (λ l₁₀. alloc1 ! (λ l₁₁. alloc1 ! (λ l₁₂. alloc1 ! (λ l₁₃. alloc1 ! (λ l₁₄. alloc1 ! (λ l₁₅. alloc1 ! (λ l₁₆. alloc1 ! (λ l₁₇. alloc1 ! (λ l₁₈. alloc1 ! (λ l₁₉. alloc1 ! (λ l₂₀. alloc0 ! $ params1 ! $
-        pass1 ! (init ! 38 refl ((LL.lawful M-Head.the_type L-Head.the_laws 𝓛).typed h _ h-good).0) $ pass1 ! (init ! 36 refl (tt, (tt, (record { fits = room-deques.0 }, tt)))) $ pass1 ! (init ! 34 refl (tt, (tt, (record { fits = room-frames.0 }, tt)))) $ pass1 ! (init ! 32 refl (tt, (tt, (record { fits = room-pool.0 }, tt)))) $ pass1 ! (init ! 30 refl (tt, (tt, (record { fits = room-memory.0 }, tt)))) $ pass1 ! (init ! 28 refl (tt, record { fits = w_Fits })) $ pass1 ! (init ! 26 refl (tt, record { fits = x_Fits })) $ pass0 ! $
-        move ! (43 ∷ []) $ fsplit ! $ drop ! $ fsplit ! $ move ! (1 ∷ []) $ fsplit ! $ move ! (1 ∷ []) $ fsplit ! $ move ! (1 ∷ []) $ fsplit ! $ move ! (1 ∷ []) $ fsplit ! $ drop ! $ fsplit ! $ drop ! $ drop ! $ move ! (46 ∷ []) $ split ! $ move ! (1 ∷ []) $ split ! $ move ! (1 ∷ []) $ split ! $ move ! (1 ∷ []) $ split ! $ move ! (1 ∷ []) $ drop ! $ move ! (4 ∷ 0 ∷ []) $ fjoin ! $ move ! (4 ∷ 1 ∷ []) $ fjoin ! $ move ! (4 ∷ 2 ∷ []) $ fjoin ! $ move ! (4 ∷ 3 ∷ []) $ fjoin ! $
-        -- [deques; frames; pool; memory; the locals]
-        assigns ! (addr ! (from ! (fld ! refl (hop ! (look_in ! 40 (sub ! 0 refl (whole !))) (stop !))))) (from ! (stop !)) (init ! 26 refl (tt, tt)) $
-        assigns ! (agg ! (and_then ! (load ! (from ! (stop !)) (look ! 26 refl)) (and_then ! (load ! (from ! (fld ! refl (stop !))) (look_in ! 40 (sub ! 1 refl (whole !)))) (no_more !)))) (from ! (stop !)) (init ! 24 refl (tt, (tt, (record { fits = room-deques.0 }, tt)))) $
-        -- _8 = engine::refusals::acting(_1, _10, _6)
-        S-acting.step-s mem run ! fm known-acting b-deques o-deques n-deques deques h w h-good w_Fits (F.needs-1 h deques frames pool memory w x room-deques.0 room-frames.0 room-pool.0 room-memory.0 w_Fits x_Fits ok') (refl) room-deques
-        (λ ν-0 δ-0. and_then ! (load ! (from ! (stop !)) (look ! 43 refl)) (and_then ! (load ! (from ! (stop !)) (look ! 25 refl)) (and_then ! (load ! (from ! (stop !)) (look ! 33 refl)) (no_more !)))) (λ a a-good a-is.
-        land ! (from ! (stop !)) (init ! 28 refl ((LL.lawful M-Acting.the_type L-Acting.the_laws 𝓛).typed a _ a-good).0) $
-        assigns ! (of_opd ! (load ! (from ! (fld ! refl (stop !))) (look_in ! 28 (sub ! 0 refl (whole !))))) (from ! (stop !)) (init ! 22 refl (tt, tt)) $
-        leave_if ! (load ! (from ! (stop !)) (look ! 22 refl))
+        qed 𝓛 ((‵ (flft κ-deques q-deques) ⊛ ‵ (flft κ-frames q-frames) ⊛ ‵ (flft κ-pool q-pool) ⊛ ‵ ftrue) ∷ ‵ (owns (R-Head ∷ MutSlice (named 0) κ-deques u32 ∷ MutSlice (named 1) κ-frames R-Frame ∷ MutSlice (named 2) κ-pool u32 ∷ u32 ∷ u32 ∷ []) args' vals') ∷ []) ∵ enter ! 𝓣.C 𝓣.Λ code.function (val-Head h ∷ slice_val (b-deques, o-deques) (length deques) ∷ slice_val (b-frames, o-frames) (length frames) ∷ slice_val (b-pool, o-pool) (length pool) ∷ vint w32 w ∷ vint w32 x ∷ []) _ $
+        alloc1 ! (λ l₀. alloc1 ! (λ l₁. alloc1 ! (λ l₂. alloc1 ! (λ l₃. alloc1 ! (λ l₄. alloc1 ! (λ l₅. alloc1 ! (λ l₆. alloc1 ! (λ l₇. alloc1 ! (λ l₈. alloc1 ! (λ l₉. alloc1 ! (λ l₁₀. alloc1 ! (λ l₁₁. alloc1 ! (λ l₁₂. alloc1 ! (λ l₁₃. alloc1 ! (λ l₁₄. alloc1 ! (λ l₁₅. alloc1 ! (λ l₁₆. alloc0 ! $ params1 ! $
+        pass1 ! (init ! 30 refl ((LL.lawful M-Head.the_type L-Head.the_laws 𝓛).typed h _ h-good).0) $ pass1 ! (init ! 28 refl (tt, (tt, (record { fits = room-deques.0 }, tt)))) $ pass1 ! (init ! 26 refl (tt, (tt, (record { fits = room-frames.0 }, tt)))) $ pass1 ! (init ! 24 refl (tt, (tt, (record { fits = room-pool.0 }, tt)))) $ pass1 ! (init ! 22 refl (tt, record { fits = w_Fits })) $ pass1 ! (init ! 20 refl (tt, record { fits = x_Fits })) $ pass0 ! $
+        move ! (35 ∷ []) $ fsplit ! $ drop ! $ fsplit ! $ move ! (1 ∷ []) $ fsplit ! $ move ! (1 ∷ []) $ fsplit ! $ move ! (1 ∷ []) $ fsplit ! $ drop ! $ fsplit ! $ drop ! $ drop ! $ move ! (37 ∷ []) $ split ! $ move ! (1 ∷ []) $ split ! $ move ! (1 ∷ []) $ split ! $ move ! (1 ∷ []) $ drop ! $ move ! (3 ∷ 0 ∷ []) $ fjoin ! $ move ! (3 ∷ 1 ∷ []) $ fjoin ! $ move ! (3 ∷ 2 ∷ []) $ fjoin ! $
+        -- [deques; frames; pool; the locals]
+        assigns ! (addr ! (from ! (fld ! refl (hop ! (look_in ! 31 (sub ! 0 refl (whole !))) (stop !))))) (from ! (stop !)) (init ! 19 refl (tt, tt)) $
+        assigns ! (agg ! (and_then ! (load ! (from ! (stop !)) (look ! 19 refl)) (and_then ! (load ! (from ! (fld ! refl (stop !))) (look_in ! 31 (sub ! 1 refl (whole !)))) (no_more !)))) (from ! (stop !)) (init ! 17 refl (tt, (tt, (record { fits = room-deques.0 }, tt)))) $
+        -- _7 = engine::refusals::acting(_1, _9, _5)
+        S-acting.step-s mem run ! fm known-acting b-deques o-deques n-deques deques h w h-good w_Fits (F.needs-1 h deques frames pool w x room-deques.0 room-frames.0 room-pool.0 w_Fits x_Fits ok') (refl) room-deques
+        (λ ν-0 δ-0. and_then ! (load ! (from ! (stop !)) (look ! 34 refl)) (and_then ! (load ! (from ! (stop !)) (look ! 18 refl)) (and_then ! (load ! (from ! (stop !)) (look ! 26 refl)) (no_more !)))) (λ a a-good a-is.
+        land ! (from ! (stop !)) (init ! 21 refl ((LL.lawful M-Acting.the_type L-Acting.the_laws 𝓛).typed a _ a-good).0) $
+        assigns ! (of_opd ! (load ! (from ! (fld ! refl (stop !))) (look_in ! 21 (sub ! 0 refl (whole !))))) (from ! (stop !)) (init ! 15 refl (tt, tt)) $
+        leave_if ! (load ! (from ! (stop !)) (look ! 15 refl))
         (λ test-2.
-        -- _12 = engine::kinds::refused_by(_1, _8.1)
+        -- _0 = engine::kinds::refused_by(_1, _7.1)
         S-refused-by.step mem run ! fm known-refused-by h a.refusal h-good (LL.owed M-Acting.the_type L-Acting.the_laws a _ a-good).1.0.1
-        (and_then ! (load ! (from ! (stop !)) (look ! 43 refl)) (and_then ! (load ! (from ! (fld ! refl (stop !))) (look_in ! 29 (sub ! 1 refl (whole !)))) (no_more !))) (λ r-3 r-3-good r-3-is.
-        land ! (from ! (stop !)) (init ! 20 refl ((LL.lawful M-Out.the_type L-Out.the_laws 𝓛).typed r-3 _ r-3-good).0) $
-        -- _0 = engine::kinds::visited(_12, 0)
-        S-visited.step mem run ! fm known-visited r-3 0 r-3-good (lit< tt)
-        (and_then ! (load ! (from ! (stop !)) (look ! 21 refl)) (and_then ! (const ! _ tt) (no_more !))) (λ r-4 r-4-good r-4-is.
-        land ! (from ! (stop !)) (init ! 44 refl ((LL.lawful M-Visited.the_type L-Visited.the_laws 𝓛).typed r-4 _ r-4-good).0) $
-        returns_within ! Post refl (look ! 44 refl) $ forget ! 20 refl $ forget ! 22 refl $ forget ! 24 refl $ forget ! 26 refl $ forget ! 28 refl $ forget ! 30 refl $ forget ! 32 refl $ forget ! 34 refl $ forget ! 36 refl $ forget ! 38 refl $ forget ! 40 refl $ forget ! 42 refl $ forget ! 44 refl $
-        free_all ! 4 refl $
-        by ! (exits' r-4 deques frames pool memory r-4-good (F.out-5 h deques frames pool memory w x room-deques.0 room-frames.0 room-pool.0 room-memory.0 w_Fits x_Fits ok' a a-is (is_true a.refused test-2) r-3 r-3-is r-4 r-4-is) (refl) (refl) (refl) (refl)))))
+        (and_then ! (load ! (from ! (stop !)) (look ! 34 refl)) (and_then ! (load ! (from ! (fld ! refl (stop !))) (look_in ! 22 (sub ! 1 refl (whole !)))) (no_more !))) (λ r-3 r-3-good r-3-is.
+        land ! (from ! (stop !)) (init ! 35 refl ((LL.lawful M-Out.the_type L-Out.the_laws 𝓛).typed r-3 _ r-3-good).0) $
+        returns_within ! Post refl (look ! 35 refl) $ forget ! 15 refl $ forget ! 17 refl $ forget ! 19 refl $ forget ! 21 refl $ forget ! 23 refl $ forget ! 25 refl $ forget ! 27 refl $ forget ! 29 refl $ forget ! 31 refl $ forget ! 33 refl $ forget ! 35 refl $
+        free_all ! 3 refl $
+        by ! (exits' r-3 deques frames pool r-3-good (F.out-4 h deques frames pool w x room-deques.0 room-frames.0 room-pool.0 w_Fits x_Fits ok' a a-is (is_true a.refused test-2) r-3 r-3-is) (refl) (refl) (refl))))
         (λ test-2.
-        assigns ! (addr ! (from ! (fld ! refl (hop ! (look_in ! 40 (sub ! 0 refl (whole !))) (stop !))))) (from ! (stop !)) (init ! 18 refl (tt, tt)) $
-        assigns ! (agg ! (and_then ! (load ! (from ! (stop !)) (look ! 18 refl)) (and_then ! (load ! (from ! (fld ! refl (stop !))) (look_in ! 40 (sub ! 1 refl (whole !)))) (no_more !)))) (from ! (stop !)) (init ! 16 refl (tt, (tt, (record { fits = room-deques.0 }, tt)))) $
-        assigns ! (addr ! (from ! (fld ! refl (hop ! (look_in ! 38 (sub ! 0 refl (whole !))) (stop !))))) (from ! (stop !)) (init ! 14 refl (tt, tt)) $
-        assigns ! (agg ! (and_then ! (load ! (from ! (stop !)) (look ! 14 refl)) (and_then ! (load ! (from ! (fld ! refl (stop !))) (look_in ! 38 (sub ! 1 refl (whole !)))) (no_more !)))) (from ! (stop !)) (init ! 12 refl (tt, (tt, (record { fits = room-frames.0 }, tt)))) $
-        assigns ! (addr ! (from ! (fld ! refl (hop ! (look_in ! 36 (sub ! 0 refl (whole !))) (stop !))))) (from ! (stop !)) (init ! 10 refl (tt, tt)) $
-        assigns ! (agg ! (and_then ! (load ! (from ! (stop !)) (look ! 10 refl)) (and_then ! (load ! (from ! (fld ! refl (stop !))) (look_in ! 36 (sub ! 1 refl (whole !)))) (no_more !)))) (from ! (stop !)) (init ! 8 refl (tt, (tt, (record { fits = room-pool.0 }, tt)))) $
-        assigns ! (addr ! (from ! (fld ! refl (hop ! (look_in ! 34 (sub ! 0 refl (whole !))) (stop !))))) (from ! (stop !)) (init ! 6 refl (tt, tt)) $
-        assigns ! (agg ! (and_then ! (load ! (from ! (stop !)) (look ! 6 refl)) (and_then ! (load ! (from ! (fld ! refl (stop !))) (look_in ! 34 (sub ! 1 refl (whole !)))) (no_more !)))) (from ! (stop !)) (init ! 4 refl (tt, (tt, (record { fits = room-memory.0 }, tt)))) $
-        -- _0 = engine::kinds::value_at(_1, _14, _16, _18, _20, _6, _8.3, _8.2, _7)
-        S-value-at.step mem run ! fm known-value-at b-deques o-deques n-deques deques b-frames o-frames n-frames frames b-pool o-pool n-pool pool b-memory o-memory n-memory memory h w a.n a.p x h-good w_Fits (LL.owed M-Acting.the_type L-Acting.the_laws a _ a-good).1.1.1.0.1 (LL.owed M-Acting.the_type L-Acting.the_laws a _ a-good).1.1.0.1 x_Fits (F.needs-6 h deques frames pool memory w x room-deques.0 room-frames.0 room-pool.0 room-memory.0 w_Fits x_Fits ok' a a-is (is_false a.refused test-2)) (refl) room-deques (refl) room-frames (refl) room-pool (refl) room-memory
-        (λ ν-0 δ-0 ν-1 δ-1 ν-2 δ-2 ν-3 δ-3. and_then ! (load ! (from ! (stop !)) (look ! 43 refl)) (and_then ! (load ! (from ! (stop !)) (look ! 17 refl)) (and_then ! (load ! (from ! (stop !)) (look ! 13 refl)) (and_then ! (load ! (from ! (stop !)) (look ! 9 refl)) (and_then ! (load ! (from ! (stop !)) (look ! 5 refl)) (and_then ! (load ! (from ! (stop !)) (look ! 33 refl)) (and_then ! (load ! (from ! (fld ! refl (stop !))) (look_in ! 29 (sub ! 3 refl (whole !)))) (and_then ! (load ! (from ! (fld ! refl (stop !))) (look_in ! 29 (sub ! 2 refl (whole !)))) (and_then ! (load ! (from ! (stop !)) (look ! 31 refl)) (no_more !)))))))))) (λ r-6 deques-6 frames-6 pool-6 memory-6 r-6-good r-6-is same-deques-6 same-frames-6 same-pool-6 same-memory-6.
-        land ! (from ! (stop !)) (init ! 44 refl ((LL.lawful M-Visited.the_type L-Visited.the_laws 𝓛).typed r-6 _ r-6-good).0) $
-        returns_within ! Post refl (look ! 44 refl) $ forget ! 4 refl $ forget ! 6 refl $ forget ! 8 refl $ forget ! 10 refl $ forget ! 12 refl $ forget ! 14 refl $ forget ! 16 refl $ forget ! 18 refl $ forget ! 22 refl $ forget ! 24 refl $ forget ! 26 refl $ forget ! 28 refl $ forget ! 30 refl $ forget ! 32 refl $ forget ! 34 refl $ forget ! 36 refl $ forget ! 38 refl $ forget ! 40 refl $ forget ! 42 refl $ forget ! 44 refl $
-        free_all ! 4 refl $
-        by ! (exits' r-6 deques-6 frames-6 pool-6 memory-6 r-6-good (F.out-7 h deques frames pool memory w x room-deques.0 room-frames.0 room-pool.0 room-memory.0 w_Fits x_Fits ok' a a-is (is_false a.refused test-2) r-6 deques-6 frames-6 pool-6 memory-6 r-6-is same-deques-6 same-frames-6 same-pool-6 same-memory-6) (same-deques-6) (same-frames-6) (same-pool-6) (same-memory-6))))))))))))))))))))))))))
+        assigns ! (addr ! (from ! (fld ! refl (hop ! (look_in ! 31 (sub ! 0 refl (whole !))) (stop !))))) (from ! (stop !)) (init ! 13 refl (tt, tt)) $
+        assigns ! (agg ! (and_then ! (load ! (from ! (stop !)) (look ! 13 refl)) (and_then ! (load ! (from ! (fld ! refl (stop !))) (look_in ! 31 (sub ! 1 refl (whole !)))) (no_more !)))) (from ! (stop !)) (init ! 11 refl (tt, (tt, (record { fits = room-deques.0 }, tt)))) $
+        assigns ! (addr ! (from ! (fld ! refl (hop ! (look_in ! 29 (sub ! 0 refl (whole !))) (stop !))))) (from ! (stop !)) (init ! 9 refl (tt, tt)) $
+        assigns ! (agg ! (and_then ! (load ! (from ! (stop !)) (look ! 9 refl)) (and_then ! (load ! (from ! (fld ! refl (stop !))) (look_in ! 29 (sub ! 1 refl (whole !)))) (no_more !)))) (from ! (stop !)) (init ! 7 refl (tt, (tt, (record { fits = room-frames.0 }, tt)))) $
+        assigns ! (addr ! (from ! (fld ! refl (hop ! (look_in ! 27 (sub ! 0 refl (whole !))) (stop !))))) (from ! (stop !)) (init ! 5 refl (tt, tt)) $
+        assigns ! (agg ! (and_then ! (load ! (from ! (stop !)) (look ! 5 refl)) (and_then ! (load ! (from ! (fld ! refl (stop !))) (look_in ! 27 (sub ! 1 refl (whole !)))) (no_more !)))) (from ! (stop !)) (init ! 3 refl (tt, (tt, (record { fits = room-pool.0 }, tt)))) $
+        -- _0 = engine::kinds::value_at(_1, _12, _14, _16, _5, _7.3, _7.2, _6)
+        S-value-at.step mem run ! fm known-value-at b-deques o-deques n-deques deques b-frames o-frames n-frames frames b-pool o-pool n-pool pool h w a.n a.p x h-good w_Fits (LL.owed M-Acting.the_type L-Acting.the_laws a _ a-good).1.1.1.0.1 (LL.owed M-Acting.the_type L-Acting.the_laws a _ a-good).1.1.0.1 x_Fits (F.needs-5 h deques frames pool w x room-deques.0 room-frames.0 room-pool.0 w_Fits x_Fits ok' a a-is (is_false a.refused test-2)) (refl) room-deques (refl) room-frames (refl) room-pool
+        (λ ν-0 δ-0 ν-1 δ-1 ν-2 δ-2. and_then ! (load ! (from ! (stop !)) (look ! 34 refl)) (and_then ! (load ! (from ! (stop !)) (look ! 12 refl)) (and_then ! (load ! (from ! (stop !)) (look ! 8 refl)) (and_then ! (load ! (from ! (stop !)) (look ! 4 refl)) (and_then ! (load ! (from ! (stop !)) (look ! 26 refl)) (and_then ! (load ! (from ! (fld ! refl (stop !))) (look_in ! 22 (sub ! 3 refl (whole !)))) (and_then ! (load ! (from ! (fld ! refl (stop !))) (look_in ! 22 (sub ! 2 refl (whole !)))) (and_then ! (load ! (from ! (stop !)) (look ! 24 refl)) (no_more !))))))))) (λ r-5 deques-5 frames-5 pool-5 r-5-good r-5-is same-deques-5 same-frames-5 same-pool-5.
+        land ! (from ! (stop !)) (init ! 35 refl ((LL.lawful M-Out.the_type L-Out.the_laws 𝓛).typed r-5 _ r-5-good).0) $
+        returns_within ! Post refl (look ! 35 refl) $ forget ! 3 refl $ forget ! 5 refl $ forget ! 7 refl $ forget ! 9 refl $ forget ! 11 refl $ forget ! 13 refl $ forget ! 15 refl $ forget ! 17 refl $ forget ! 19 refl $ forget ! 21 refl $ forget ! 23 refl $ forget ! 25 refl $ forget ! 27 refl $ forget ! 29 refl $ forget ! 31 refl $ forget ! 33 refl $ forget ! 35 refl $
+        free_all ! 3 refl $
+        by ! (exits' r-5 deques-5 frames-5 pool-5 r-5-good (F.out-6 h deques frames pool w x room-deques.0 room-frames.0 room-pool.0 w_Fits x_Fits ok' a a-is (is_false a.refused test-2) r-5 deques-5 frames-5 pool-5 r-5-is same-deques-5 same-frames-5 same-pool-5) (same-deques-5) (same-frames-5) (same-pool-5))))))))))))))))))))))
 
 module _ {M : Type 1} {𝓤 : Ura M} (𝓛 : Logic 𝓤) (mem : Memory → SProp 𝓤) (run : Routine → Fun 𝓤) (𝓣 : Tables 𝓤 𝓛.H) where
   open 𝓛 use {H}
 
-  walks : Triple 𝓤 (𝓣.C #acting) (S-acting.Asked 𝓛 mem run) → Triple 𝓤 (𝓣.C #refused-by) (S-refused-by.Asked 𝓛 mem run) → Triple 𝓤 (𝓣.C #visited) (S-visited.Asked 𝓛 mem run) → Triple 𝓤 (𝓣.C #value-at) (S-value-at.Asked 𝓛 mem run) → Walks 𝓛 f'.ended stayed (WpFn 𝓤 H 𝓣.C 𝓣.Λ code.function) (f'.clauses 𝓛 mem run)
-  walks known-acting known-refused-by known-visited known-value-at = walked 𝓛 f'.ended stayed (f'.clauses 𝓛 mem run) (WpFn 𝓤 H 𝓣.C 𝓣.Λ code.function)
-      (λ κs. (LL.vals M-Head.the_type L-Head.the_laws, (mut_slice_vals, (mut_slice_vals, (mut_slice_vals, (mut_slice_vals, (uint_vals w32, (uint_vals w32, tt))))))))
-      (λ κs. (LL.tells M-Head.the_type L-Head.the_laws, (mut_slice_Tells (named 0) κs.0 u32, (mut_slice_Tells (named 1) κs.1.0 R-Frame, (mut_slice_Tells (named 2) κs.1.1.0 u32, (mut_slice_Tells (named 3) κs.1.1.1.0 u32, (uint_Tells w32, (uint_Tells w32, tt))))))))
-      (λ κs qs bounds a g are. needs 𝓤 (Ready (core a.0 [] a.1.0.now a.1.1.0.now a.1.1.1.0.now) × Recalls (core a.0 [] a.1.0.now a.1.1.0.now a.1.1.1.0.now) a.1.1.1.1.0.now) _
-      (walk 𝓛 mem run κs.0 qs.0 a.1.0.ref_ptr.0 a.1.0.ref_ptr.1 a.1.0.ghost_name a.1.0.now κs.1.0 qs.1.0 a.1.1.0.ref_ptr.0 a.1.1.0.ref_ptr.1 a.1.1.0.ghost_name a.1.1.0.now κs.1.1.0 qs.1.1.0 a.1.1.1.0.ref_ptr.0 a.1.1.1.0.ref_ptr.1 a.1.1.1.0.ghost_name a.1.1.1.0.now κs.1.1.1.0 qs.1.1.1.0 a.1.1.1.1.0.ref_ptr.0 a.1.1.1.1.0.ref_ptr.1 a.1.1.1.1.0.ghost_name a.1.1.1.1.0.now a.0 are.0 a.1.1.1.1.1.0 are.1.1.1.1.1.0.1 a.1.1.1.1.1.1.0 are.1.1.1.1.1.1.0.1 are.1.0.0.1 are.1.1.0.0.1 are.1.1.1.0.0.1 are.1.1.1.1.0.0.1 𝓣 known-acting known-refused-by known-visited known-value-at))
+  walks : Triple 𝓤 (𝓣.C #acting) (S-acting.Asked 𝓛 mem run) → Triple 𝓤 (𝓣.C #refused-by) (S-refused-by.Asked 𝓛 mem run) → Triple 𝓤 (𝓣.C #value-at) (S-value-at.Asked 𝓛 mem run) → Walks 𝓛 f'.ended stayed (WpFn 𝓤 H 𝓣.C 𝓣.Λ code.function) (f'.clauses 𝓛 mem run)
+  walks known-acting known-refused-by known-value-at = walked 𝓛 f'.ended stayed (f'.clauses 𝓛 mem run) (WpFn 𝓤 H 𝓣.C 𝓣.Λ code.function)
+      (λ κs. (LL.vals M-Head.the_type L-Head.the_laws, (mut_slice_vals, (mut_slice_vals, (mut_slice_vals, (uint_vals w32, (uint_vals w32, tt)))))))
+      (λ κs. (LL.tells M-Head.the_type L-Head.the_laws, (mut_slice_Tells (named 0) κs.0 u32, (mut_slice_Tells (named 1) κs.1.0 R-Frame, (mut_slice_Tells (named 2) κs.1.1.0 u32, (uint_Tells w32, (uint_Tells w32, tt)))))))
+      (λ κs qs bounds a g are. needs 𝓤 (Ready (core a.0 [] a.1.0.now a.1.1.0.now a.1.1.1.0.now)) _
+      (walk 𝓛 mem run κs.0 qs.0 a.1.0.ref_ptr.0 a.1.0.ref_ptr.1 a.1.0.ghost_name a.1.0.now κs.1.0 qs.1.0 a.1.1.0.ref_ptr.0 a.1.1.0.ref_ptr.1 a.1.1.0.ghost_name a.1.1.0.now κs.1.1.0 qs.1.1.0 a.1.1.1.0.ref_ptr.0 a.1.1.1.0.ref_ptr.1 a.1.1.1.0.ghost_name a.1.1.1.0.now a.0 are.0 a.1.1.1.1.0 are.1.1.1.1.0.1 a.1.1.1.1.1.0 are.1.1.1.1.1.0.1 are.1.0.0.1 are.1.1.0.0.1 are.1.1.1.0.0.1 𝓣 known-acting known-refused-by known-value-at))
 
-  meets : Triple 𝓤 (𝓣.C #acting) (S-acting.Asked 𝓛 mem run) → Triple 𝓤 (𝓣.C #refused-by) (S-refused-by.Asked 𝓛 mem run) → Triple 𝓤 (𝓣.C #visited) (S-visited.Asked 𝓛 mem run) → Triple 𝓤 (𝓣.C #value-at) (S-value-at.Asked 𝓛 mem run) → Meets 𝓛 f'.signature (WpFn 𝓤 H 𝓣.C 𝓣.Λ code.function) (f'.spec 𝓛 mem run)
-  meets known-acting known-refused-by known-visited known-value-at = walk_Meets 𝓛 f'.ended stayed
-      (Goes-none 𝓛 4 (λ _. R-Head) yes (λ κs x f. refl), (Goes-slice 𝓛 4 0 tt (plain (λ _. u32)), (Goes-slice 𝓛 4 1 tt (plain (λ _. R-Frame)), (Goes-slice 𝓛 4 2 tt (plain (λ _. u32)), (Goes-slice 𝓛 4 3 tt (plain (λ _. u32)), (Goes-none 𝓛 4 (λ _. u32) yes (λ κs x f. refl), (Goes-none 𝓛 4 (λ _. u32) yes (λ κs x f. refl), tt)))))))
-      (f'.clauses 𝓛 mem run) (WpFn 𝓤 H 𝓣.C 𝓣.Λ code.function) (WpFn-mono 𝓤 H 𝓛.laws 𝓣 code.function) (walks known-acting known-refused-by known-visited known-value-at)
+  meets : Triple 𝓤 (𝓣.C #acting) (S-acting.Asked 𝓛 mem run) → Triple 𝓤 (𝓣.C #refused-by) (S-refused-by.Asked 𝓛 mem run) → Triple 𝓤 (𝓣.C #value-at) (S-value-at.Asked 𝓛 mem run) → Meets 𝓛 f'.signature (WpFn 𝓤 H 𝓣.C 𝓣.Λ code.function) (f'.spec 𝓛 mem run)
+  meets known-acting known-refused-by known-value-at = walk_Meets 𝓛 f'.ended stayed
+      (Goes-none 𝓛 3 (λ _. R-Head) yes (λ κs x f. refl), (Goes-slice 𝓛 3 0 tt (plain (λ _. u32)), (Goes-slice 𝓛 3 1 tt (plain (λ _. R-Frame)), (Goes-slice 𝓛 3 2 tt (plain (λ _. u32)), (Goes-none 𝓛 3 (λ _. u32) yes (λ κs x f. refl), (Goes-none 𝓛 3 (λ _. u32) yes (λ κs x f. refl), tt))))))
+      (f'.clauses 𝓛 mem run) (WpFn 𝓤 H 𝓣.C 𝓣.Λ code.function) (WpFn-mono 𝓤 H 𝓛.laws 𝓣 code.function) (walks known-acting known-refused-by known-value-at)
 
 pub step-read-spec : {M : Type 1} → stated.statement M
 unfolding code.routine tables_of
@@ -222,5 +205,4 @@ step-read-spec 𝓤 𝓛 𝓜 𝓡 =
     (meets 𝓛 𝓜.mem 𝓡.run (tables_of 𝓤 𝓛.H 𝓜 (tables 𝓤 𝓛.H 𝓜 𝓡 code.env))
     (cited 𝓤 𝓛.H (S-acting.Asked 𝓛 𝓜.mem 𝓡.run) 𝓜 𝓡 code.env #acting D-acting.routine code.calls-engine::refusals::acting (T-acting.met 𝓤 𝓛 𝓜 𝓡))
     (cited 𝓤 𝓛.H (S-refused-by.Asked 𝓛 𝓜.mem 𝓡.run) 𝓜 𝓡 code.env #refused-by D-refused-by.routine code.calls-engine::kinds::refused_by_lem (T-refused-by.met 𝓤 𝓛 𝓜 𝓡))
-    (cited 𝓤 𝓛.H (S-visited.Asked 𝓛 𝓜.mem 𝓡.run) 𝓜 𝓡 code.env #visited D-visited.routine code.calls-engine::kinds::visited (T-visited.met 𝓤 𝓛 𝓜 𝓡))
     (cited 𝓤 𝓛.H (S-value-at.Asked 𝓛 𝓜.mem 𝓡.run) 𝓜 𝓡 code.env #value-at D-value-at.routine code.calls-engine::kinds::value-at (T-value-at.met 𝓤 𝓛 𝓜 𝓡)))

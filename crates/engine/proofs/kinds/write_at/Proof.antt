@@ -1,12 +1,16 @@
 -- Written by tools/walk: `engine::kinds::write_at` meets its contract, by a walk of its MIR. Do not edit: the facts are in Proof/Facts.antt. Assumes nothing.
 mod Facts
-use Rattle.std.proofs.Common.{◌≡◌, ℕ, ◌+◌, ◌-◌, ◌*◌, ◌^◌, ◌<◌, ◌≤◌, Bool, true, false, not, T as Holds, eqb, ltb, leb, List, [], ◌∷◌, length, get_or, set, sym, refl, ap, ◌∙◌, subst, lit<, eqb→eq, ltb→lt, leb→le, nltb→le, length-set, w8, w16, w32, w64, MutBor}
-use lib.Dec.{nleb→lt}
+use mathlib.Core.Path.{◌≡◌, refl, sym, ◌∙◌, ap, subst}
+use Prim.Native.Nat.{ℕ, ◌+◌, ◌-◌, ◌*◌, ◌<◌, ◌≤◌, ◌^◌}
+use mathlib.Core.List.{List, [], ◌∷◌}
+use mathlib.Core.Bool.{Bool, true, false, not}
+use lib.Dec.{T as Holds, ltb, leb, eqb, ltb→lt, leb→le, nltb→le, nleb→lt, eqb→eq, lit<}
+use lib.ListN.{length, get_or, set, length-set}
 use lib.WfN.{lt-wf_rel}
 use mathlib.Core.WellFounded.{WellFounded}
 use seplogic.Ra.Ura.{Ura}
 use seplogic.Ra.TreeShare.{full_share}
-use mir.Syntax.{named, ty_int, ty_bool, ty_ptr, Ty, Body as Code, loop as loopᴹ}
+use mir.Syntax.{named, w8, w16, w32, w64, ty_int, ty_bool, ty_ptr, Ty, Body as Code, loop as loopᴹ}
 use mir.Val.{Val, vunit, vbool, vint, vptr}
 use base.Logic.{SProp, ent, via, fst∗, emp}
 use base.Fml.{Lft, GName, Share, ftrue, flft, fat, froom, fdies}
@@ -28,6 +32,7 @@ use denote.Memory.{cell_at}
 use denote.Index.{place as place', place_is, place_byte}
 use denote.Plain.{uint_copy, uint_Makes, uint_vals, uint_Tells, bool_Makes, bool_vals, bool_Tells, Nothing-Makes}
 use denote.Builtin.{u8, u16, u32, u64, usize, bool, unit}
+use denote.Ref.{MutBor}
 use denote.Slice.{slice_val, MutSlice, ShrSlice, Room, mut_slice_vals, mut_slice_Tells, shr_slice_Tells}
 use denote.Signature.{plain}
 use denote.Steps.{nothing, owned}
@@ -41,16 +46,12 @@ use denote.Triple.Walked.{says, needs, Stays, stay_slice, stay_none, stay_none_s
 use borrow.Author.Rules.{scaled_Fits}
 use Rattle.frames.proofs.Lent.{at_list, Mine, Yours, ty_at, exit_unless, exit_if, leave_if, fork, skipped, regroup, matched, matched_last, const, is_true, is_false, not_not, differ, widen, less_fits, after, turn_of_lem, take_out, put_in, put_back, look_out, look_back, free_all}
 use Rattle.model.specs.declared.Step.TheVariants.{Write}
-use Rattle.semantics.specs.Ranges.{Ready, Recalls}
-use Rattle.engine.specs.Promises.{core, kind_on, ActsAt, LeavesVisited}
+use Rattle.semantics.specs.Ranges.{Ready}
+use Rattle.engine.specs.Promises.{core, LeavesOthers, kind_on, ActsAt}
 use Rattle.engine.proofs.Called.no_splitter as S-no-splitter
 use Rattle.engine.proofs.kinds.no_splitter.Symbol as D-no-splitter
 use Rattle.engine.proofs.kinds.no_splitter.Symbol.{name as #no-splitter}
 use Rattle.engine.proofs.kinds.no_splitter.Met as T-no-splitter
-use Rattle.engine.proofs.Called.visited as S-visited
-use Rattle.engine.proofs.kinds.visited.Symbol as D-visited
-use Rattle.engine.proofs.kinds.visited.Symbol.{name as #visited}
-use Rattle.engine.proofs.kinds.visited.Met as T-visited
 use Rattle.engine.proofs.Called.frame_at as S-frame-at
 use Rattle.frames.proofs.frame_at.Symbol as D-frame-at
 use Rattle.frames.proofs.frame_at.Symbol.{name as #frame-at}
@@ -59,22 +60,34 @@ use Rattle.engine.proofs.Called.first_shared as S-first-shared
 use Rattle.packed.proofs.first_shared.Symbol as D-first-shared
 use Rattle.packed.proofs.first_shared.Symbol.{name as #first-shared}
 use Rattle.packed.proofs.first_shared.Met as T-first-shared
-use Rattle.engine.proofs.Called.write_new as S-write-new
-use Rattle.engine.proofs.kinds.write_new.Symbol as D-write-new
-use Rattle.engine.proofs.kinds.write_new.Symbol.{name as #write-new}
-use Rattle.engine.proofs.kinds.write_new.Met as T-write-new
 use Rattle.engine.proofs.Called.set_value as S-set-value
 use Rattle.packed.proofs.set_value.Symbol as D-set-value
 use Rattle.packed.proofs.set_value.Symbol.{name as #set-value}
 use Rattle.packed.proofs.set_value.Met as T-set-value
-use Rattle.engine.proofs.Called.remember as S-remember
-use Rattle.memory.proofs.remember.Symbol as D-remember
-use Rattle.memory.proofs.remember.Symbol.{name as #remember}
-use Rattle.memory.proofs.remember.Met as T-remember
 use Rattle.engine.proofs.Called.unchanged as S-unchanged
 use Rattle.engine.proofs.kinds.unchanged.Symbol as D-unchanged
 use Rattle.engine.proofs.kinds.unchanged.Symbol.{name as #unchanged}
 use Rattle.engine.proofs.kinds.unchanged.Met as T-unchanged
+use Rattle.engine.proofs.Called.pool_full as S-pool-full
+use Rattle.engine.proofs.kinds.pool_full.Symbol as D-pool-full
+use Rattle.engine.proofs.kinds.pool_full.Symbol.{name as #pool-full}
+use Rattle.engine.proofs.kinds.pool_full.Met as T-pool-full
+use Rattle.engine.proofs.Called.write_shared as S-write-shared
+use Rattle.packed.proofs.write_shared.Symbol as D-write-shared
+use Rattle.packed.proofs.write_shared.Symbol.{name as #write-shared}
+use Rattle.packed.proofs.write_shared.Met as T-write-shared
+use Rattle.engine.proofs.Called.with_root as S-with-root
+use Rattle.frames.proofs.with_root.Symbol as D-with-root
+use Rattle.frames.proofs.with_root.Symbol.{name as #with-root}
+use Rattle.frames.proofs.with_root.Met as T-with-root
+use Rattle.engine.proofs.Called.put_frame as S-put-frame
+use Rattle.frames.proofs.put_frame.Symbol as D-put-frame
+use Rattle.frames.proofs.put_frame.Symbol.{name as #put-frame}
+use Rattle.frames.proofs.put_frame.Met as T-put-frame
+use Rattle.engine.proofs.Called.written as S-written
+use Rattle.engine.proofs.kinds.written.Symbol as D-written
+use Rattle.engine.proofs.kinds.written.Symbol.{name as #written}
+use Rattle.engine.proofs.kinds.written.Met as T-written
 use Rattle.engine.specs.contracts.kinds.write_at.Key.{name as #own}
 use Rattle.engine.specs.contracts.kinds.write_at as f'
 use Rattle.engine.proofs.kinds.write_at.Statement as stated
@@ -86,21 +99,21 @@ use Rattle.semantics.specs.declared.Head.{Head}
 use Rattle.frames.specs.contracts.Frame as M-Frame
 use Rattle.frames.proofs.Frame.TheLaws as L-Frame
 use Rattle.frames.specs.declared.Frame.{Frame}
-use Rattle.engine.specs.contracts.Visited as M-Visited
-use Rattle.engine.proofs.Visited.TheLaws as L-Visited
-use Rattle.engine.specs.declared.Visited.{Visited}
-use Rattle.soundness.specs.contracts.Numbers as M-Numbers
-use Rattle.soundness.proofs.Numbers.TheLaws as L-Numbers
-use Rattle.soundness.specs.declared.Numbers.{Numbers}
 use Rattle.engine.specs.contracts.Out as M-Out
 use Rattle.engine.proofs.Out.TheLaws as L-Out
 use Rattle.engine.specs.declared.Out.{Out}
+use Rattle.soundness.specs.contracts.Numbers as M-Numbers
+use Rattle.soundness.proofs.Numbers.TheLaws as L-Numbers
+use Rattle.soundness.specs.declared.Numbers.{Numbers}
 use Rattle.reducers.specs.contracts.View as M-View
 use Rattle.reducers.proofs.View.TheLaws as L-View
 use Rattle.reducers.specs.declared.View.{View}
 use Rattle.packed.specs.contracts.tree.FirstShared as M-FirstShared
 use Rattle.packed.proofs.tree.FirstShared.TheLaws as L-FirstShared
 use Rattle.packed.specs.declared.tree.FirstShared.{FirstShared}
+use Rattle.packed.specs.contracts.tree.Written as M-Written
+use Rattle.packed.proofs.tree.Written.TheLaws as L-Written
+use Rattle.packed.specs.declared.tree.Written.{Written}
 
 abbrev R-Head : RattleType
 R-Head = M-Head.the_row
@@ -114,23 +127,17 @@ R-Frame = M-Frame.the_row
 abbrev val-Frame : Frame → Val
 val-Frame d = LL.val M-Frame.the_type L-Frame.the_laws d
 
-abbrev R-Visited : RattleType
-R-Visited = M-Visited.the_row
+abbrev R-Out : RattleType
+R-Out = M-Out.the_row
 
-abbrev val-Visited : Visited → Val
-val-Visited d = LL.val M-Visited.the_type L-Visited.the_laws d
+abbrev val-Out : Out → Val
+val-Out d = LL.val M-Out.the_type L-Out.the_laws d
 
 abbrev R-Numbers : RattleType
 R-Numbers = M-Numbers.the_row
 
 abbrev val-Numbers : Numbers → Val
 val-Numbers d = LL.val M-Numbers.the_type L-Numbers.the_laws d
-
-abbrev R-Out : RattleType
-R-Out = M-Out.the_row
-
-abbrev val-Out : Out → Val
-val-Out d = LL.val M-Out.the_type L-Out.the_laws d
 
 abbrev R-View : RattleType
 R-View = M-View.the_row
@@ -144,11 +151,17 @@ R-FirstShared = M-FirstShared.the_row
 abbrev val-FirstShared : FirstShared → Val
 val-FirstShared d = LL.val M-FirstShared.the_type L-FirstShared.the_laws d
 
+abbrev R-Written : RattleType
+R-Written = M-Written.the_row
+
+abbrev val-Written : Written → Val
+val-Written d = LL.val M-Written.the_type L-Written.the_laws d
+
 abbrev stayed : Stays (f'.ended).signature.params (f'.ended).kept
-stayed = (stay_none (λ _. R-Head) yes, (stay_slice (0 ∷ []) tt (plain (λ _. u32)), (stay_slice (1 ∷ []) tt (plain (λ _. R-Frame)), (stay_slice (2 ∷ []) tt (plain (λ _. u32)), (stay_slice (3 ∷ []) tt (plain (λ _. u32)), (stay_none (λ _. u32) yes, (stay_none (λ _. u32) yes, (stay_none (λ _. u32) yes, (stay_none (λ _. u32) yes, (stay_none (λ _. u32) yes, tt))))))))))
+stayed = (stay_none (λ _. R-Head) yes, (stay_slice (0 ∷ []) tt (plain (λ _. u32)), (stay_slice (1 ∷ []) tt (plain (λ _. R-Frame)), (stay_slice (2 ∷ []) tt (plain (λ _. u32)), (stay_none (λ _. u32) yes, (stay_none (λ _. u32) yes, (stay_none (λ _. u32) yes, (stay_none (λ _. u32) yes, (stay_none (λ _. u32) yes, tt)))))))))
 
 module _ {M : Type 1} {𝓤 : Ura M} (𝓛 : Logic 𝓤) (mem : Memory → SProp 𝓤) (run : Routine → Fun 𝓤)
-    (κ-deques : Lft) (q-deques : Share) (b-deques o-deques : ℕ) (γ-deques : GName) (deques : List ℕ) (κ-frames : Lft) (q-frames : Share) (b-frames o-frames : ℕ) (γ-frames : GName) (frames : List Frame) (κ-pool : Lft) (q-pool : Share) (b-pool o-pool : ℕ) (γ-pool : GName) (pool : List ℕ) (κ-memory : Lft) (q-memory : Share) (b-memory o-memory : ℕ) (γ-memory : GName) (memory : List ℕ) (h : Head) (h-good : Is R-Head h (val-Head h ∷ [])) (w : ℕ) (w_Fits : w < 2 ^ 32) (n : ℕ) (n-fits : n < 2 ^ 32) (p : ℕ) (p-fits : p < 2 ^ 32) (x : ℕ) (x_Fits : x < 2 ^ 32) (v : ℕ) (v-fits : v < 2 ^ 32) (room-deques : Room u32 (length deques)) (room-frames : Room R-Frame (length frames)) (room-pool : Room u32 (length pool)) (room-memory : Room u32 (length memory)) where
+    (κ-deques : Lft) (q-deques : Share) (b-deques o-deques : ℕ) (γ-deques : GName) (deques : List ℕ) (κ-frames : Lft) (q-frames : Share) (b-frames o-frames : ℕ) (γ-frames : GName) (frames : List Frame) (κ-pool : Lft) (q-pool : Share) (b-pool o-pool : ℕ) (γ-pool : GName) (pool : List ℕ) (h : Head) (h-good : Is R-Head h (val-Head h ∷ [])) (w : ℕ) (w_Fits : w < 2 ^ 32) (n : ℕ) (n-fits : n < 2 ^ 32) (p : ℕ) (p-fits : p < 2 ^ 32) (x : ℕ) (x_Fits : x < 2 ^ 32) (v : ℕ) (v-fits : v < 2 ^ 32) (room-deques : Room u32 (length deques)) (room-frames : Room R-Frame (length frames)) (room-pool : Room u32 (length pool)) where
   open 𝓛 use {H}
 
   abbrev n-deques : ℕ
@@ -160,130 +173,139 @@ module _ {M : Type 1} {𝓤 : Ura M} (𝓛 : Logic 𝓤) (mem : Memory → SProp
   abbrev n-pool : ℕ
   n-pool = length pool
 
-  abbrev n-memory : ℕ
-  n-memory = length memory
+  abbrev args' : Head × (MutBor (List ℕ) × (MutBor (List Frame) × (MutBor (List ℕ) × (ℕ × (ℕ × (ℕ × (ℕ × (ℕ × Unit {0}))))))))
+  args' = (h, (at_list b-deques o-deques γ-deques deques, (at_list b-frames o-frames γ-frames frames, (at_list b-pool o-pool γ-pool pool, (w, (n, (p, (x, (v, tt)))))))))
 
-  abbrev args' : Head × (MutBor (List ℕ) × (MutBor (List Frame) × (MutBor (List ℕ) × (MutBor (List ℕ) × (ℕ × (ℕ × (ℕ × (ℕ × (ℕ × Unit {0})))))))))
-  args' = (h, (at_list b-deques o-deques γ-deques deques, (at_list b-frames o-frames γ-frames frames, (at_list b-pool o-pool γ-pool pool, (at_list b-memory o-memory γ-memory memory, (w, (n, (p, (x, (v, tt))))))))))
-
-  abbrev vals' : Vals f'.signature (κ-deques, (κ-frames, (κ-pool, (κ-memory, tt))))
-  vals' = (val-Head h ∷ [], (slice_val (b-deques, o-deques) (length deques) ∷ [], (slice_val (b-frames, o-frames) (length frames) ∷ [], (slice_val (b-pool, o-pool) (length pool) ∷ [], (slice_val (b-memory, o-memory) (length memory) ∷ [], (vint w32 w ∷ [], (vint w32 n ∷ [], (vint w32 p ∷ [], (vint w32 x ∷ [], (vint w32 v ∷ [], tt))))))))))
+  abbrev vals' : Vals f'.signature (κ-deques, (κ-frames, (κ-pool, tt)))
+  vals' = (val-Head h ∷ [], (slice_val (b-deques, o-deques) (length deques) ∷ [], (slice_val (b-frames, o-frames) (length frames) ∷ [], (slice_val (b-pool, o-pool) (length pool) ∷ [], (vint w32 w ∷ [], (vint w32 n ∷ [], (vint w32 p ∷ [], (vint w32 x ∷ [], (vint w32 v ∷ [], tt)))))))))
 
   abbrev bound' : (walk_of 𝓛 f'.ended stayed (f'.clauses 𝓛 mem run)).Ghost
-  bound' = (((κ-deques, (κ-frames, (κ-pool, (κ-memory, tt)))), (q-deques, (q-frames, (q-pool, (q-memory, tt)))), tt, args', vals'), tt)
+  bound' = (((κ-deques, (κ-frames, (κ-pool, tt))), (q-deques, (q-frames, (q-pool, tt))), tt, args', vals'), tt)
 
   abbrev Post : Val → SProp 𝓤
   Post = (walk_of 𝓛 f'.ended stayed (f'.clauses 𝓛 mem run)).post bound'
 
-  exits' : (res' : Visited) (zs-deques : List ℕ) (zs-frames : List Frame) (zs-pool : List ℕ) (zs-memory : List ℕ) → Is R-Visited res' (val-Visited res' ∷ []) → LeavesVisited kind_on (Write w x v) h res' deques frames pool memory zs-deques zs-frames zs-pool zs-memory → length zs-deques ≡ length deques → length zs-frames ≡ length frames → length zs-pool ≡ length pool → length zs-memory ≡ length memory → ent 𝓤 (⋆ 𝓛 (‵ (Mine u32 κ-deques q-deques γ-deques b-deques o-deques n-deques zs-deques) ∷ ‵ (Mine R-Frame κ-frames q-frames γ-frames b-frames o-frames n-frames zs-frames) ∷ ‵ (Mine u32 κ-pool q-pool γ-pool b-pool o-pool n-pool zs-pool) ∷ ‵ (Mine u32 κ-memory q-memory γ-memory b-memory o-memory n-memory zs-memory) ∷ [])) (Post (val-Visited res'))
-  exits' res' zs-deques zs-frames zs-pool zs-memory good' e' same-deques same-frames same-pool same_memory =
-      qed 𝓛 (‵ (Mine u32 κ-deques q-deques γ-deques b-deques o-deques n-deques zs-deques) ∷ ‵ (Mine R-Frame κ-frames q-frames γ-frames b-frames o-frames n-frames zs-frames) ∷ ‵ (Mine u32 κ-pool q-pool γ-pool b-pool o-pool n-pool zs-pool) ∷ ‵ (Mine u32 κ-memory q-memory γ-memory b-memory o-memory n-memory zs-memory) ∷ []) ∵
-      suffices ! _ (ends_at 𝓛 f'.ended stayed (f'.clauses 𝓛 mem run) bound' (val-Visited res') res' (tt, (zs-deques, (zs-frames, (zs-pool, (zs-memory, (tt, (tt, (tt, (tt, (tt, tt)))))))))) (tt, (same-deques, (same-frames, (same-pool, (same_memory, (tt, (tt, (tt, (tt, (tt, tt))))))))))) $ says ! e' $
-      fsplit ! $ move ! (2 ∷ []) $ fsplit ! $ move ! (4 ∷ []) $ fsplit ! $ move ! (6 ∷ []) $ fsplit ! $ nothing ! $ move ! (8 ∷ 6 ∷ 4 ∷ 2 ∷ 0 ∷ []) $ group ! 5 $ frame ! $
-      nothing ! $ owned ! u32 (Is u32) (uint_Makes 𝓛 w32) v _ (refl, v-fits) $ fjoin ! $ owned ! u32 (Is u32) (uint_Makes 𝓛 w32) x _ (refl, x_Fits) $ fjoin ! $ owned ! u32 (Is u32) (uint_Makes 𝓛 w32) p _ (refl, p-fits) $ fjoin ! $ owned ! u32 (Is u32) (uint_Makes 𝓛 w32) n _ (refl, n-fits) $ fjoin ! $ owned ! u32 (Is u32) (uint_Makes 𝓛 w32) w _ (refl, w_Fits) $ fjoin ! $ move ! (1 ∷ 0 ∷ []) $ fjoin ! $ move ! (1 ∷ 0 ∷ []) $ fjoin ! $ move ! (1 ∷ 0 ∷ []) $ fjoin ! $ move ! (1 ∷ 0 ∷ []) $ fjoin ! $ owned ! R-Head (Is R-Head) (LL.makes M-Head.the_type L-Head.the_plain 𝓛) h _ h-good $ fjoin ! $ frame ! $
-      owned ! R-Visited (Is R-Visited) (LL.makes M-Visited.the_type L-Visited.the_plain 𝓛) res' _ good' $ done !
+  exits' : (res' : Out) (zs-deques : List ℕ) (zs-frames : List Frame) (zs-pool : List ℕ) → Is R-Out res' (val-Out res' ∷ []) → LeavesOthers h res' deques frames pool zs-deques zs-frames zs-pool (λ c. kind_on c (Write w x v)) → length zs-deques ≡ length deques → length zs-frames ≡ length frames → length zs-pool ≡ length pool → ent 𝓤 (⋆ 𝓛 (‵ (Mine u32 κ-deques q-deques γ-deques b-deques o-deques n-deques zs-deques) ∷ ‵ (Mine R-Frame κ-frames q-frames γ-frames b-frames o-frames n-frames zs-frames) ∷ ‵ (Mine u32 κ-pool q-pool γ-pool b-pool o-pool n-pool zs-pool) ∷ [])) (Post (val-Out res'))
+  exits' res' zs-deques zs-frames zs-pool good' e' same-deques same-frames same-pool =
+      qed 𝓛 (‵ (Mine u32 κ-deques q-deques γ-deques b-deques o-deques n-deques zs-deques) ∷ ‵ (Mine R-Frame κ-frames q-frames γ-frames b-frames o-frames n-frames zs-frames) ∷ ‵ (Mine u32 κ-pool q-pool γ-pool b-pool o-pool n-pool zs-pool) ∷ []) ∵
+      suffices ! _ (ends_at 𝓛 f'.ended stayed (f'.clauses 𝓛 mem run) bound' (val-Out res') res' (tt, (zs-deques, (zs-frames, (zs-pool, (tt, (tt, (tt, (tt, (tt, tt))))))))) (tt, (same-deques, (same-frames, (same-pool, (tt, (tt, (tt, (tt, (tt, tt)))))))))) $ says ! e' $
+      fsplit ! $ move ! (2 ∷ []) $ fsplit ! $ move ! (4 ∷ []) $ fsplit ! $ nothing ! $ move ! (6 ∷ 4 ∷ 2 ∷ 0 ∷ []) $ group ! 4 $ frame ! $
+      nothing ! $ owned ! u32 (Is u32) (uint_Makes 𝓛 w32) v _ (refl, v-fits) $ fjoin ! $ owned ! u32 (Is u32) (uint_Makes 𝓛 w32) x _ (refl, x_Fits) $ fjoin ! $ owned ! u32 (Is u32) (uint_Makes 𝓛 w32) p _ (refl, p-fits) $ fjoin ! $ owned ! u32 (Is u32) (uint_Makes 𝓛 w32) n _ (refl, n-fits) $ fjoin ! $ owned ! u32 (Is u32) (uint_Makes 𝓛 w32) w _ (refl, w_Fits) $ fjoin ! $ move ! (1 ∷ 0 ∷ []) $ fjoin ! $ move ! (1 ∷ 0 ∷ []) $ fjoin ! $ move ! (1 ∷ 0 ∷ []) $ fjoin ! $ owned ! R-Head (Is R-Head) (LL.makes M-Head.the_type L-Head.the_plain 𝓛) h _ h-good $ fjoin ! $ frame ! $
+      owned ! R-Out (Is R-Out) (LL.makes M-Out.the_type L-Out.the_plain 𝓛) res' _ good' $ done !
 
-  module _ (𝓣 : Tables 𝓤 H) (known-no-splitter : Triple 𝓤 (𝓣.C #no-splitter) (S-no-splitter.Asked 𝓛 mem run)) (known-visited : Triple 𝓤 (𝓣.C #visited) (S-visited.Asked 𝓛 mem run)) (known-frame-at : Triple 𝓤 (𝓣.C #frame-at) (S-frame-at.Asked 𝓛 mem run)) (known-first-shared : Triple 𝓤 (𝓣.C #first-shared) (S-first-shared.Asked 𝓛 mem run)) (known-write-new : Triple 𝓤 (𝓣.C #write-new) (S-write-new.Asked 𝓛 mem run)) (known-set-value : Triple 𝓤 (𝓣.C #set-value) (S-set-value.Asked 𝓛 mem run)) (known-remember : Triple 𝓤 (𝓣.C #remember) (S-remember.Asked 𝓛 mem run)) (known-unchanged : Triple 𝓤 (𝓣.C #unchanged) (S-unchanged.Asked 𝓛 mem run)) where
+  module _ (𝓣 : Tables 𝓤 H) (known-no-splitter : Triple 𝓤 (𝓣.C #no-splitter) (S-no-splitter.Asked 𝓛 mem run)) (known-frame-at : Triple 𝓤 (𝓣.C #frame-at) (S-frame-at.Asked 𝓛 mem run)) (known-first-shared : Triple 𝓤 (𝓣.C #first-shared) (S-first-shared.Asked 𝓛 mem run)) (known-set-value : Triple 𝓤 (𝓣.C #set-value) (S-set-value.Asked 𝓛 mem run)) (known-unchanged : Triple 𝓤 (𝓣.C #unchanged) (S-unchanged.Asked 𝓛 mem run)) (known-pool-full : Triple 𝓤 (𝓣.C #pool-full) (S-pool-full.Asked 𝓛 mem run)) (known-write-shared : Triple 𝓤 (𝓣.C #write-shared) (S-write-shared.Asked 𝓛 mem run)) (known-with-root : Triple 𝓤 (𝓣.C #with-root) (S-with-root.Asked 𝓛 mem run)) (known-put-frame : Triple 𝓤 (𝓣.C #put-frame) (S-put-frame.Asked 𝓛 mem run)) (known_written : Triple 𝓤 (𝓣.C #written) (S-written.Asked 𝓛 mem run)) where
     abbrev fm : FmC 𝓤 H 𝓛.laws 𝓣.C
     fm = fm_of 𝓤 H 𝓛.laws 𝓣
 
-    walk : Ready (core h [] deques frames pool) × Recalls (core h [] deques frames pool) memory × ActsAt (core h [] deques frames pool) w n p → ent 𝓤 (on_entry 𝓛 f'.signature (κ-deques, (κ-frames, (κ-pool, (κ-memory, tt)))) (q-deques, (q-frames, (q-pool, (q-memory, tt)))) args' vals') (WpFn 𝓤 H 𝓣.C 𝓣.Λ code.function (val-Head h ∷ slice_val (b-deques, o-deques) (length deques) ∷ slice_val (b-frames, o-frames) (length frames) ∷ slice_val (b-pool, o-pool) (length pool) ∷ slice_val (b-memory, o-memory) (length memory) ∷ vint w32 w ∷ vint w32 n ∷ vint w32 p ∷ vint w32 x ∷ vint w32 v ∷ []) Post)
+    walk : Ready (core h [] deques frames pool) × ActsAt (core h [] deques frames pool) w n p → ent 𝓤 (on_entry 𝓛 f'.signature (κ-deques, (κ-frames, (κ-pool, tt))) (q-deques, (q-frames, (q-pool, tt))) args' vals') (WpFn 𝓤 H 𝓣.C 𝓣.Λ code.function (val-Head h ∷ slice_val (b-deques, o-deques) (length deques) ∷ slice_val (b-frames, o-frames) (length frames) ∷ slice_val (b-pool, o-pool) (length pool) ∷ vint w32 w ∷ vint w32 n ∷ vint w32 p ∷ vint w32 x ∷ vint w32 v ∷ []) Post)
     walk ok' =
-        qed 𝓛 ((‵ (flft κ-deques q-deques) ⊛ ‵ (flft κ-frames q-frames) ⊛ ‵ (flft κ-pool q-pool) ⊛ ‵ (flft κ-memory q-memory) ⊛ ‵ ftrue) ∷ ‵ (owns (R-Head ∷ MutSlice (named 0) κ-deques u32 ∷ MutSlice (named 1) κ-frames R-Frame ∷ MutSlice (named 2) κ-pool u32 ∷ MutSlice (named 3) κ-memory u32 ∷ u32 ∷ u32 ∷ u32 ∷ u32 ∷ u32 ∷ []) args' vals') ∷ []) ∵ enter ! 𝓣.C 𝓣.Λ code.function (val-Head h ∷ slice_val (b-deques, o-deques) (length deques) ∷ slice_val (b-frames, o-frames) (length frames) ∷ slice_val (b-pool, o-pool) (length pool) ∷ slice_val (b-memory, o-memory) (length memory) ∷ vint w32 w ∷ vint w32 n ∷ vint w32 p ∷ vint w32 x ∷ vint w32 v ∷ []) _ $
-        alloc1 ! (λ l₀. alloc1 ! (λ l₁. alloc1 ! (λ l₂. alloc1 ! (λ l₃. alloc1 ! (λ l₄. alloc1 ! (λ l₅. alloc1 ! (λ l₆. alloc1 ! (λ l₇. alloc1 ! (λ l₈. alloc1 ! (λ l₉. alloc1 ! (λ l₁₀. alloc1 ! (λ l₁₁. alloc1 ! (λ l₁₂. alloc1 ! (λ l₁₃. alloc1 ! (λ l₁₄. alloc1 ! (λ l₁₅. alloc1 ! (λ l₁₆. alloc1 ! (λ l₁₇. alloc1 ! (λ l₁₈. alloc1 ! (λ l₁₉. alloc1 ! (λ l₂₀. alloc1 ! (λ l₂₁. alloc1 ! (λ l₂₂. alloc1 ! (λ l₂₃. alloc1 ! (λ l₂₄. alloc1 ! (λ l₂₅. alloc1 ! (λ l₂₆. alloc1 ! (λ l₂₇. alloc1 ! (λ l₂₈. alloc1 ! (λ l₂₉. alloc1 ! (λ l₃₀. alloc1 ! (λ l₃₁. alloc1 ! (λ l₃₂. alloc1 ! (λ l₃₃. alloc0 ! $ params1 ! $
-        pass1 ! (init ! 64 refl ((LL.lawful M-Head.the_type L-Head.the_laws 𝓛).typed h _ h-good).0) $ pass1 ! (init ! 62 refl (tt, (tt, (record { fits = room-deques.0 }, tt)))) $ pass1 ! (init ! 60 refl (tt, (tt, (record { fits = room-frames.0 }, tt)))) $ pass1 ! (init ! 58 refl (tt, (tt, (record { fits = room-pool.0 }, tt)))) $ pass1 ! (init ! 56 refl (tt, (tt, (record { fits = room-memory.0 }, tt)))) $ pass1 ! (init ! 54 refl (tt, record { fits = w_Fits })) $ pass1 ! (init ! 52 refl (tt, record { fits = n-fits })) $ pass1 ! (init ! 50 refl (tt, record { fits = p-fits })) $ pass1 ! (init ! 48 refl (tt, record { fits = x_Fits })) $ pass1 ! (init ! 46 refl (tt, record { fits = v-fits })) $ pass0 ! $
-        move ! (69 ∷ []) $ fsplit ! $ drop ! $ fsplit ! $ move ! (1 ∷ []) $ fsplit ! $ move ! (1 ∷ []) $ fsplit ! $ move ! (1 ∷ []) $ fsplit ! $ move ! (1 ∷ []) $ fsplit ! $ drop ! $ fsplit ! $ drop ! $ fsplit ! $ drop ! $ fsplit ! $ drop ! $ fsplit ! $ drop ! $ drop ! $ move ! (72 ∷ []) $ split ! $ move ! (1 ∷ []) $ split ! $ move ! (1 ∷ []) $ split ! $ move ! (1 ∷ []) $ split ! $ move ! (1 ∷ []) $ drop ! $ move ! (4 ∷ 0 ∷ []) $ fjoin ! $ move ! (4 ∷ 1 ∷ []) $ fjoin ! $ move ! (4 ∷ 2 ∷ []) $ fjoin ! $ move ! (4 ∷ 3 ∷ []) $ fjoin ! $
-        -- [deques; frames; pool; memory; the locals]
-        assigns ! (bin ! (load ! (from ! (fld ! refl (fld ! refl (stop !)))) (look_in ! 68 (sub ! 1 refl (sub ! 0 refl (whole !))))) (load ! (from ! (stop !)) (look ! 52 refl)) tt) (from ! (stop !)) (init ! 44 refl (tt, tt)) $
-        leave_if ! (load ! (from ! (stop !)) (look ! 44 refl))
+        qed 𝓛 ((‵ (flft κ-deques q-deques) ⊛ ‵ (flft κ-frames q-frames) ⊛ ‵ (flft κ-pool q-pool) ⊛ ‵ ftrue) ∷ ‵ (owns (R-Head ∷ MutSlice (named 0) κ-deques u32 ∷ MutSlice (named 1) κ-frames R-Frame ∷ MutSlice (named 2) κ-pool u32 ∷ u32 ∷ u32 ∷ u32 ∷ u32 ∷ u32 ∷ []) args' vals') ∷ []) ∵ enter ! 𝓣.C 𝓣.Λ code.function (val-Head h ∷ slice_val (b-deques, o-deques) (length deques) ∷ slice_val (b-frames, o-frames) (length frames) ∷ slice_val (b-pool, o-pool) (length pool) ∷ vint w32 w ∷ vint w32 n ∷ vint w32 p ∷ vint w32 x ∷ vint w32 v ∷ []) _ $
+        alloc1 ! (λ l₀. alloc1 ! (λ l₁. alloc1 ! (λ l₂. alloc1 ! (λ l₃. alloc1 ! (λ l₄. alloc1 ! (λ l₅. alloc1 ! (λ l₆. alloc1 ! (λ l₇. alloc1 ! (λ l₈. alloc1 ! (λ l₉. alloc1 ! (λ l₁₀. alloc1 ! (λ l₁₁. alloc1 ! (λ l₁₂. alloc1 ! (λ l₁₃. alloc1 ! (λ l₁₄. alloc1 ! (λ l₁₅. alloc1 ! (λ l₁₆. alloc1 ! (λ l₁₇. alloc1 ! (λ l₁₈. alloc1 ! (λ l₁₉. alloc1 ! (λ l₂₀. alloc1 ! (λ l₂₁. alloc1 ! (λ l₂₂. alloc1 ! (λ l₂₃. alloc1 ! (λ l₂₄. alloc1 ! (λ l₂₅. alloc1 ! (λ l₂₆. alloc1 ! (λ l₂₇. alloc1 ! (λ l₂₈. alloc1 ! (λ l₂₉. alloc0 ! $ params1 ! $
+        pass1 ! (init ! 56 refl ((LL.lawful M-Head.the_type L-Head.the_laws 𝓛).typed h _ h-good).0) $ pass1 ! (init ! 54 refl (tt, (tt, (record { fits = room-deques.0 }, tt)))) $ pass1 ! (init ! 52 refl (tt, (tt, (record { fits = room-frames.0 }, tt)))) $ pass1 ! (init ! 50 refl (tt, (tt, (record { fits = room-pool.0 }, tt)))) $ pass1 ! (init ! 48 refl (tt, record { fits = w_Fits })) $ pass1 ! (init ! 46 refl (tt, record { fits = n-fits })) $ pass1 ! (init ! 44 refl (tt, record { fits = p-fits })) $ pass1 ! (init ! 42 refl (tt, record { fits = x_Fits })) $ pass1 ! (init ! 40 refl (tt, record { fits = v-fits })) $ pass0 ! $
+        move ! (61 ∷ []) $ fsplit ! $ drop ! $ fsplit ! $ move ! (1 ∷ []) $ fsplit ! $ move ! (1 ∷ []) $ fsplit ! $ move ! (1 ∷ []) $ fsplit ! $ drop ! $ fsplit ! $ drop ! $ fsplit ! $ drop ! $ fsplit ! $ drop ! $ fsplit ! $ drop ! $ drop ! $ move ! (63 ∷ []) $ split ! $ move ! (1 ∷ []) $ split ! $ move ! (1 ∷ []) $ split ! $ move ! (1 ∷ []) $ drop ! $ move ! (3 ∷ 0 ∷ []) $ fjoin ! $ move ! (3 ∷ 1 ∷ []) $ fjoin ! $ move ! (3 ∷ 2 ∷ []) $ fjoin ! $
+        -- [deques; frames; pool; the locals]
+        assigns ! (bin ! (load ! (from ! (fld ! refl (fld ! refl (stop !)))) (look_in ! 59 (sub ! 1 refl (sub ! 0 refl (whole !))))) (load ! (from ! (stop !)) (look ! 45 refl)) tt) (from ! (stop !)) (init ! 33 refl (tt, tt)) $
+        leave_if ! (load ! (from ! (stop !)) (look ! 33 refl))
         (λ test-1.
-        -- _14 = engine::kinds::no_splitter(_1)
+        -- _0 = engine::kinds::no_splitter(_1)
         S-no-splitter.step mem run ! fm known-no-splitter h h-good
-        (and_then ! (load ! (from ! (stop !)) (look ! 69 refl)) (no_more !)) (λ r-2 r-2-good r-2-is.
-        land ! (from ! (stop !)) (init ! 42 refl ((LL.lawful M-Out.the_type L-Out.the_laws 𝓛).typed r-2 _ r-2-good).0) $
-        -- _0 = engine::kinds::visited(_14, 0)
-        S-visited.step mem run ! fm known-visited r-2 0 r-2-good (lit< tt)
-        (and_then ! (load ! (from ! (stop !)) (look ! 43 refl)) (and_then ! (const ! _ tt) (no_more !))) (λ r-3 r-3-good r-3-is.
-        land ! (from ! (stop !)) (init ! 70 refl ((LL.lawful M-Visited.the_type L-Visited.the_laws 𝓛).typed r-3 _ r-3-good).0) $
-        returns_within ! Post refl (look ! 70 refl) $ forget ! 42 refl $ forget ! 44 refl $ forget ! 50 refl $ forget ! 52 refl $ forget ! 54 refl $ forget ! 56 refl $ forget ! 58 refl $ forget ! 60 refl $ forget ! 62 refl $ forget ! 64 refl $ forget ! 66 refl $ forget ! 68 refl $ forget ! 70 refl $
-        free_all ! 4 refl $
-        by ! (exits' r-3 deques frames pool memory r-3-good (F.out-4 h deques frames pool memory w n p x v room-deques.0 room-frames.0 room-pool.0 room-memory.0 w_Fits n-fits p-fits x_Fits v-fits ok' (leb→le h.numbers.splitters x test-1) r-2 r-2-is r-3 r-3-is) (refl) (refl) (refl) (refl)))))
+        (and_then ! (load ! (from ! (stop !)) (look ! 60 refl)) (no_more !)) (λ r-2 r-2-good r-2-is.
+        land ! (from ! (stop !)) (init ! 61 refl ((LL.lawful M-Out.the_type L-Out.the_laws 𝓛).typed r-2 _ r-2-good).0) $
+        returns_within ! Post refl (look ! 61 refl) $ forget ! 33 refl $ forget ! 43 refl $ forget ! 45 refl $ forget ! 47 refl $ forget ! 49 refl $ forget ! 51 refl $ forget ! 53 refl $ forget ! 55 refl $ forget ! 57 refl $ forget ! 59 refl $ forget ! 61 refl $
+        free_all ! 3 refl $
+        by ! (exits' r-2 deques frames pool r-2-good (F.out-3 h deques frames pool w n p x v room-deques.0 room-frames.0 room-pool.0 w_Fits n-fits p-fits x_Fits v-fits ok' (leb→le h.numbers.splitters x test-1) r-2 r-2-is) (refl) (refl) (refl))))
         (λ test-1.
-        assigns ! (addr ! (from ! (fld ! refl (hop ! (look_in ! 64 (sub ! 0 refl (whole !))) (stop !))))) (from ! (stop !)) (init ! 38 refl (tt, tt)) $
-        assigns ! (agg ! (and_then ! (load ! (from ! (stop !)) (look ! 38 refl)) (and_then ! (load ! (from ! (fld ! refl (stop !))) (look_in ! 64 (sub ! 1 refl (whole !)))) (no_more !)))) (from ! (stop !)) (init ! 36 refl (tt, (tt, (record { fits = room-frames.0 }, tt)))) $
-        -- _15 = frames::table::frame_at(_17, _8)
+        assigns ! (addr ! (from ! (fld ! refl (hop ! (look_in ! 55 (sub ! 0 refl (whole !))) (stop !))))) (from ! (stop !)) (init ! 29 refl (tt, tt)) $
+        assigns ! (agg ! (and_then ! (load ! (from ! (stop !)) (look ! 29 refl)) (and_then ! (load ! (from ! (fld ! refl (stop !))) (look_in ! 55 (sub ! 1 refl (whole !)))) (no_more !)))) (from ! (stop !)) (init ! 27 refl (tt, (tt, (record { fits = room-frames.0 }, tt)))) $
+        -- _15 = frames::table::frame_at(_17, _7)
         move ! (1 ∷ []) $
-        S-frame-at.step-s mem run ! fm known-frame-at b-frames o-frames n-frames frames p p-fits (F.needs-5 h deques frames pool memory w n p x v room-deques.0 room-frames.0 room-pool.0 room-memory.0 w_Fits n-fits p-fits x_Fits v-fits ok' (nleb→lt h.numbers.splitters x test-1)) (refl) room-frames
-        (λ ν-0 δ-0. and_then ! (load ! (from ! (stop !)) (look ! 37 refl)) (and_then ! (load ! (from ! (stop !)) (look ! 55 refl)) (no_more !))) (λ r-5 r-5-good r-5-is.
-        land ! (from ! (stop !)) (init ! 40 refl ((LL.lawful M-Frame.the_type L-Frame.the_laws 𝓛).typed r-5 _ r-5-good).0) $
-        assigns ! (of_opd ! (load ! (from ! (fld ! refl (stop !))) (look_in ! 40 (sub ! 5 refl (whole !))))) (from ! (stop !)) (init ! 48 refl (tt, record { fits = (LL.owed M-Frame.the_type L-Frame.the_laws r-5 _ r-5-good).1.1.1.1.1.0.1 })) $
-        assigns ! (addr ! (from ! (fld ! refl (hop ! (look_in ! 62 (sub ! 0 refl (whole !))) (stop !))))) (from ! (stop !)) (init ! 34 refl (tt, tt)) $
-        assigns ! (agg ! (and_then ! (load ! (from ! (stop !)) (look ! 34 refl)) (and_then ! (load ! (from ! (fld ! refl (stop !))) (look_in ! 62 (sub ! 1 refl (whole !)))) (no_more !)))) (from ! (stop !)) (init ! 32 refl (tt, (tt, (record { fits = room-pool.0 }, tt)))) $
-        -- _12 = packed::tree::first_shared(_19, _1.0.2, _1.1, _11, _9)
+        S-frame-at.step-s mem run ! fm known-frame-at b-frames o-frames n-frames frames p p-fits (F.needs-4 h deques frames pool w n p x v room-deques.0 room-frames.0 room-pool.0 w_Fits n-fits p-fits x_Fits v-fits ok' (nleb→lt h.numbers.splitters x test-1)) (refl) room-frames
+        (λ ν-0 δ-0. and_then ! (load ! (from ! (stop !)) (look ! 28 refl)) (and_then ! (load ! (from ! (stop !)) (look ! 48 refl)) (no_more !))) (λ r-4 r-4-good r-4-is.
+        land ! (from ! (stop !)) (init ! 31 refl ((LL.lawful M-Frame.the_type L-Frame.the_laws 𝓛).typed r-4 _ r-4-good).0) $
+        assigns ! (of_opd ! (load ! (from ! (fld ! refl (stop !))) (look_in ! 31 (sub ! 5 refl (whole !))))) (from ! (stop !)) (init ! 41 refl (tt, record { fits = (LL.owed M-Frame.the_type L-Frame.the_laws r-4 _ r-4-good).1.1.1.1.1.0.1 })) $
+        assigns ! (addr ! (from ! (fld ! refl (hop ! (look_in ! 53 (sub ! 0 refl (whole !))) (stop !))))) (from ! (stop !)) (init ! 25 refl (tt, tt)) $
+        assigns ! (agg ! (and_then ! (load ! (from ! (stop !)) (look ! 25 refl)) (and_then ! (load ! (from ! (fld ! refl (stop !))) (look_in ! 53 (sub ! 1 refl (whole !)))) (no_more !)))) (from ! (stop !)) (init ! 23 refl (tt, (tt, (record { fits = room-pool.0 }, tt)))) $
+        -- _11 = packed::tree::first_shared(_19, _1.0.2, _1.1, _10, _8)
         move ! (2 ∷ []) $
-        S-first-shared.step-s mem run ! fm known-first-shared b-pool o-pool n-pool pool h.numbers.nodes h.height r-5.root x (LL.owed M-Numbers.the_type L-Numbers.the_laws h.numbers _ (LL.owed M-Head.the_type L-Head.the_laws h _ h-good).0).1.1.0.1 (LL.owed M-Head.the_type L-Head.the_laws h _ h-good).1.0.1 (LL.owed M-Frame.the_type L-Frame.the_laws r-5 _ r-5-good).1.1.1.1.1.0.1 x_Fits (F.needs-6 h deques frames pool memory w n p x v room-deques.0 room-frames.0 room-pool.0 room-memory.0 w_Fits n-fits p-fits x_Fits v-fits ok' (nleb→lt h.numbers.splitters x test-1) r-5 r-5-is) (refl) room-pool
-        (λ ν-0 δ-0. and_then ! (load ! (from ! (stop !)) (look ! 33 refl)) (and_then ! (load ! (from ! (fld ! refl (fld ! refl (stop !)))) (look_in ! 69 (sub ! 2 refl (sub ! 0 refl (whole !))))) (and_then ! (load ! (from ! (fld ! refl (stop !))) (look_in ! 69 (sub ! 1 refl (whole !)))) (and_then ! (load ! (from ! (stop !)) (look ! 49 refl)) (and_then ! (load ! (from ! (stop !)) (look ! 53 refl)) (no_more !)))))) (λ found found-good found-is.
-        land ! (from ! (stop !)) (init ! 46 refl ((LL.lawful M-FirstShared.the_type L-FirstShared.the_laws 𝓛).typed found _ found-good).0) $
-        assigns ! (of_opd ! (load ! (from ! (fld ! refl (stop !))) (look_in ! 46 (sub ! 0 refl (whole !))))) (from ! (stop !)) (store ! 44 refl (tt, tt)) $
-        leave_if ! (load ! (from ! (stop !)) (look ! 44 refl))
-        (λ test-7.
-        assigns ! (addr ! (from ! (fld ! refl (hop ! (look_in ! 66 (sub ! 0 refl (whole !))) (stop !))))) (from ! (stop !)) (init ! 30 refl (tt, tt)) $
-        assigns ! (agg ! (and_then ! (load ! (from ! (stop !)) (look ! 30 refl)) (and_then ! (load ! (from ! (fld ! refl (stop !))) (look_in ! 66 (sub ! 1 refl (whole !)))) (no_more !)))) (from ! (stop !)) (init ! 28 refl (tt, (tt, (record { fits = room-deques.0 }, tt)))) $
-        assigns ! (addr ! (from ! (fld ! refl (hop ! (look_in ! 64 (sub ! 0 refl (whole !))) (stop !))))) (from ! (stop !)) (init ! 26 refl (tt, tt)) $
-        assigns ! (agg ! (and_then ! (load ! (from ! (stop !)) (look ! 26 refl)) (and_then ! (load ! (from ! (fld ! refl (stop !))) (look_in ! 64 (sub ! 1 refl (whole !)))) (no_more !)))) (from ! (stop !)) (init ! 24 refl (tt, (tt, (record { fits = room-frames.0 }, tt)))) $
-        assigns ! (addr ! (from ! (fld ! refl (hop ! (look_in ! 62 (sub ! 0 refl (whole !))) (stop !))))) (from ! (stop !)) (init ! 22 refl (tt, tt)) $
-        assigns ! (agg ! (and_then ! (load ! (from ! (stop !)) (look ! 22 refl)) (and_then ! (load ! (from ! (fld ! refl (stop !))) (look_in ! 62 (sub ! 1 refl (whole !)))) (no_more !)))) (from ! (stop !)) (init ! 20 refl (tt, (tt, (record { fits = room-pool.0 }, tt)))) $
-        assigns ! (addr ! (from ! (fld ! refl (hop ! (look_in ! 60 (sub ! 0 refl (whole !))) (stop !))))) (from ! (stop !)) (init ! 18 refl (tt, tt)) $
-        assigns ! (agg ! (and_then ! (load ! (from ! (stop !)) (look ! 18 refl)) (and_then ! (load ! (from ! (fld ! refl (stop !))) (look_in ! 60 (sub ! 1 refl (whole !)))) (no_more !)))) (from ! (stop !)) (init ! 16 refl (tt, (tt, (record { fits = room-memory.0 }, tt)))) $
-        -- _0 = engine::kinds::write_new(_1, _21, _23, _25, _27, _6, _7, _8, _9, _10, _11, _12)
-        move ! (2 ∷ 1 ∷ 0 ∷ 3 ∷ []) $
-        S-write-new.step mem run ! fm known-write-new b-deques o-deques n-deques deques b-frames o-frames n-frames frames b-pool o-pool n-pool pool b-memory o-memory n-memory memory h w n p x v r-5.root found h-good w_Fits n-fits p-fits x_Fits v-fits (LL.owed M-Frame.the_type L-Frame.the_laws r-5 _ r-5-good).1.1.1.1.1.0.1 found-good (F.needs-8 h deques frames pool memory w n p x v room-deques.0 room-frames.0 room-pool.0 room-memory.0 w_Fits n-fits p-fits x_Fits v-fits ok' (nleb→lt h.numbers.splitters x test-1) r-5 r-5-is found found-is (is_true found.shared test-7)) (refl) room-deques (refl) room-frames (refl) room-pool (refl) room-memory
-        (λ ν-0 δ-0 ν-1 δ-1 ν-2 δ-2 ν-3 δ-3. and_then ! (load ! (from ! (stop !)) (look ! 69 refl)) (and_then ! (load ! (from ! (stop !)) (look ! 29 refl)) (and_then ! (load ! (from ! (stop !)) (look ! 25 refl)) (and_then ! (load ! (from ! (stop !)) (look ! 21 refl)) (and_then ! (load ! (from ! (stop !)) (look ! 17 refl)) (and_then ! (load ! (from ! (stop !)) (look ! 59 refl)) (and_then ! (load ! (from ! (stop !)) (look ! 57 refl)) (and_then ! (load ! (from ! (stop !)) (look ! 55 refl)) (and_then ! (load ! (from ! (stop !)) (look ! 53 refl)) (and_then ! (load ! (from ! (stop !)) (look ! 51 refl)) (and_then ! (load ! (from ! (stop !)) (look ! 49 refl)) (and_then ! (load ! (from ! (stop !)) (look ! 47 refl)) (no_more !))))))))))))) (λ r-8 deques-8 frames-8 pool-8 memory-8 r-8-good r-8-is same-deques-8 same-frames-8 same-pool-8 same-memory-8.
-        land ! (from ! (stop !)) (init ! 70 refl ((LL.lawful M-Visited.the_type L-Visited.the_laws 𝓛).typed r-8 _ r-8-good).0) $
-        returns_within ! Post refl (look ! 70 refl) $ forget ! 16 refl $ forget ! 18 refl $ forget ! 20 refl $ forget ! 22 refl $ forget ! 24 refl $ forget ! 26 refl $ forget ! 28 refl $ forget ! 30 refl $ forget ! 32 refl $ forget ! 34 refl $ forget ! 36 refl $ forget ! 38 refl $ forget ! 40 refl $ forget ! 44 refl $ forget ! 46 refl $ forget ! 48 refl $ forget ! 50 refl $ forget ! 52 refl $ forget ! 54 refl $ forget ! 56 refl $ forget ! 58 refl $ forget ! 60 refl $ forget ! 62 refl $ forget ! 64 refl $ forget ! 66 refl $ forget ! 68 refl $ forget ! 70 refl $
-        free_all ! 4 refl $
-        by ! (exits' r-8 deques-8 frames-8 pool-8 memory-8 r-8-good (F.out-9 h deques frames pool memory w n p x v room-deques.0 room-frames.0 room-pool.0 room-memory.0 w_Fits n-fits p-fits x_Fits v-fits ok' (nleb→lt h.numbers.splitters x test-1) r-5 r-5-is found found-is (is_true found.shared test-7) r-8 deques-8 frames-8 pool-8 memory-8 r-8-is same-deques-8 same-frames-8 same-pool-8 same-memory-8) (same-deques-8) (same-frames-8) (same-pool-8) (same-memory-8))))
-        (λ test-7.
-        assigns ! (addr ! (from ! (fld ! refl (hop ! (look_in ! 62 (sub ! 0 refl (whole !))) (stop !))))) (from ! (stop !)) (init ! 12 refl (tt, tt)) $
-        assigns ! (agg ! (and_then ! (load ! (from ! (stop !)) (look ! 12 refl)) (and_then ! (load ! (from ! (fld ! refl (stop !))) (look_in ! 62 (sub ! 1 refl (whole !)))) (no_more !)))) (from ! (stop !)) (init ! 10 refl (tt, (tt, (record { fits = room-pool.0 }, tt)))) $
-        -- _28 = packed::tree::set_value(_30, _1.0.2, _12.2, _10)
-        S-set-value.step mem run ! fm known-set-value b-pool o-pool n-pool pool h.numbers.nodes found.node v (LL.owed M-Numbers.the_type L-Numbers.the_laws h.numbers _ (LL.owed M-Head.the_type L-Head.the_laws h _ h-good).0).1.1.0.1 (LL.owed M-FirstShared.the_type L-FirstShared.the_laws found _ found-good).1.1.0.1 v-fits (F.needs-10 h deques frames pool memory w n p x v room-deques.0 room-frames.0 room-pool.0 room-memory.0 w_Fits n-fits p-fits x_Fits v-fits ok' (nleb→lt h.numbers.splitters x test-1) r-5 r-5-is found found-is (is_false found.shared test-7)) (refl) room-pool
-        (λ ν-0 δ-0. and_then ! (load ! (from ! (stop !)) (look ! 11 refl)) (and_then ! (load ! (from ! (fld ! refl (fld ! refl (stop !)))) (look_in ! 69 (sub ! 2 refl (sub ! 0 refl (whole !))))) (and_then ! (load ! (from ! (fld ! refl (stop !))) (look_in ! 47 (sub ! 2 refl (whole !)))) (and_then ! (load ! (from ! (stop !)) (look ! 51 refl)) (no_more !))))) (λ pool-10 done-10 same-pool-10.
-        land ! (from ! (stop !)) (init ! 14 refl (tt, tt)) $
-        assigns ! (addr ! (from ! (fld ! refl (hop ! (look_in ! 60 (sub ! 0 refl (whole !))) (stop !))))) (from ! (stop !)) (init ! 8 refl (tt, tt)) $
-        assigns ! (agg ! (and_then ! (load ! (from ! (stop !)) (look ! 8 refl)) (and_then ! (load ! (from ! (fld ! refl (stop !))) (look_in ! 60 (sub ! 1 refl (whole !)))) (no_more !)))) (from ! (stop !)) (init ! 6 refl (tt, (tt, (record { fits = room-memory.0 }, tt)))) $
-        -- _28 = memory::remember(_32, _6, _9, _12.2)
-        move ! (3 ∷ []) $
-        S-remember.step mem run ! fm known-remember b-memory o-memory n-memory memory w x found.node w_Fits x_Fits (LL.owed M-FirstShared.the_type L-FirstShared.the_laws found _ found-good).1.1.0.1 (F.needs-11 h deques frames pool memory w n p x v room-deques.0 room-frames.0 room-pool.0 room-memory.0 w_Fits n-fits p-fits x_Fits v-fits ok' (nleb→lt h.numbers.splitters x test-1) r-5 r-5-is found found-is (is_false found.shared test-7) pool-10 done-10 same-pool-10) (refl) room-memory
-        (λ ν-0 δ-0. and_then ! (load ! (from ! (stop !)) (look ! 7 refl)) (and_then ! (load ! (from ! (stop !)) (look ! 59 refl)) (and_then ! (load ! (from ! (stop !)) (look ! 53 refl)) (and_then ! (load ! (from ! (fld ! refl (stop !))) (look_in ! 47 (sub ! 2 refl (whole !)))) (no_more !))))) (λ memory-11 done-11 same-memory-11.
-        land ! (from ! (stop !)) (store ! 14 refl (tt, tt)) $
-        -- _33 = engine::kinds::unchanged(_1, 106, _1.2)
+        S-first-shared.step-s mem run ! fm known-first-shared b-pool o-pool n-pool pool h.numbers.nodes h.height r-4.root x (LL.owed M-Numbers.the_type L-Numbers.the_laws h.numbers _ (LL.owed M-Head.the_type L-Head.the_laws h _ h-good).0).1.1.0.1 (LL.owed M-Head.the_type L-Head.the_laws h _ h-good).1.0.1 (LL.owed M-Frame.the_type L-Frame.the_laws r-4 _ r-4-good).1.1.1.1.1.0.1 x_Fits (F.needs-5 h deques frames pool w n p x v room-deques.0 room-frames.0 room-pool.0 w_Fits n-fits p-fits x_Fits v-fits ok' (nleb→lt h.numbers.splitters x test-1) r-4 r-4-is) (refl) room-pool
+        (λ ν-0 δ-0. and_then ! (load ! (from ! (stop !)) (look ! 24 refl)) (and_then ! (load ! (from ! (fld ! refl (fld ! refl (stop !)))) (look_in ! 60 (sub ! 2 refl (sub ! 0 refl (whole !))))) (and_then ! (load ! (from ! (fld ! refl (stop !))) (look_in ! 60 (sub ! 1 refl (whole !)))) (and_then ! (load ! (from ! (stop !)) (look ! 42 refl)) (and_then ! (load ! (from ! (stop !)) (look ! 46 refl)) (no_more !)))))) (λ found found-good found-is.
+        land ! (from ! (stop !)) (init ! 39 refl ((LL.lawful M-FirstShared.the_type L-FirstShared.the_laws 𝓛).typed found _ found-good).0) $
+        assigns ! (un ! (load ! (from ! (fld ! refl (stop !))) (look_in ! 39 (sub ! 0 refl (whole !)))) tt) (from ! (stop !)) (store ! 33 refl (tt, tt)) $
+        leave_if ! (load ! (from ! (stop !)) (look ! 33 refl))
+        (λ test-6.
+        assigns ! (addr ! (from ! (fld ! refl (hop ! (look_in ! 53 (sub ! 0 refl (whole !))) (stop !))))) (from ! (stop !)) (init ! 19 refl (tt, tt)) $
+        assigns ! (agg ! (and_then ! (load ! (from ! (stop !)) (look ! 19 refl)) (and_then ! (load ! (from ! (fld ! refl (stop !))) (look_in ! 53 (sub ! 1 refl (whole !)))) (no_more !)))) (from ! (stop !)) (init ! 17 refl (tt, (tt, (record { fits = room-pool.0 }, tt)))) $
+        -- _20 = packed::tree::set_value(_22, _1.0.2, _11.2, _9)
+        S-set-value.step mem run ! fm known-set-value b-pool o-pool n-pool pool h.numbers.nodes found.node v (LL.owed M-Numbers.the_type L-Numbers.the_laws h.numbers _ (LL.owed M-Head.the_type L-Head.the_laws h _ h-good).0).1.1.0.1 (LL.owed M-FirstShared.the_type L-FirstShared.the_laws found _ found-good).1.1.0.1 v-fits (F.needs-7 h deques frames pool w n p x v room-deques.0 room-frames.0 room-pool.0 w_Fits n-fits p-fits x_Fits v-fits ok' (nleb→lt h.numbers.splitters x test-1) r-4 r-4-is found found-is (is_false found.shared test-6)) (refl) room-pool
+        (λ ν-0 δ-0. and_then ! (load ! (from ! (stop !)) (look ! 18 refl)) (and_then ! (load ! (from ! (fld ! refl (fld ! refl (stop !)))) (look_in ! 60 (sub ! 2 refl (sub ! 0 refl (whole !))))) (and_then ! (load ! (from ! (fld ! refl (stop !))) (look_in ! 40 (sub ! 2 refl (whole !)))) (and_then ! (load ! (from ! (stop !)) (look ! 44 refl)) (no_more !))))) (λ pool-7 done-7 same-pool-7.
+        land ! (from ! (stop !)) (init ! 21 refl (tt, tt)) $
+        -- _0 = engine::kinds::unchanged(_1, 106, _1.2)
         S-unchanged.step mem run ! fm known-unchanged h 106 h.free_count h-good (lit< tt) (LL.owed M-Head.the_type L-Head.the_laws h _ h-good).1.1.0.1
-        (and_then ! (load ! (from ! (stop !)) (look ! 69 refl)) (and_then ! (const ! _ tt) (and_then ! (load ! (from ! (fld ! refl (stop !))) (look_in ! 69 (sub ! 2 refl (whole !)))) (no_more !)))) (λ r-12 r-12-good r-12-is.
-        land ! (from ! (stop !)) (init ! 4 refl ((LL.lawful M-Out.the_type L-Out.the_laws 𝓛).typed r-12 _ r-12-good).0) $
-        -- _0 = engine::kinds::visited(_33, _12.4)
-        S-visited.step mem run ! fm known-visited r-12 found.visits r-12-good (LL.owed M-FirstShared.the_type L-FirstShared.the_laws found _ found-good).1.1.1.1.0.1
-        (and_then ! (load ! (from ! (stop !)) (look ! 5 refl)) (and_then ! (load ! (from ! (fld ! refl (stop !))) (look_in ! 47 (sub ! 4 refl (whole !)))) (no_more !))) (λ r-13 r-13-good r-13-is.
-        land ! (from ! (stop !)) (init ! 70 refl ((LL.lawful M-Visited.the_type L-Visited.the_laws 𝓛).typed r-13 _ r-13-good).0) $
-        returns_within ! Post refl (look ! 70 refl) $ forget ! 4 refl $ forget ! 6 refl $ forget ! 8 refl $ forget ! 10 refl $ forget ! 12 refl $ forget ! 14 refl $ forget ! 32 refl $ forget ! 34 refl $ forget ! 36 refl $ forget ! 38 refl $ forget ! 40 refl $ forget ! 44 refl $ forget ! 46 refl $ forget ! 48 refl $ forget ! 50 refl $ forget ! 52 refl $ forget ! 54 refl $ forget ! 56 refl $ forget ! 58 refl $ forget ! 60 refl $ forget ! 62 refl $ forget ! 64 refl $ forget ! 66 refl $ forget ! 68 refl $ forget ! 70 refl $
-        free_all ! 4 refl $
-        move ! (3 ∷ 2 ∷ 1 ∷ 0 ∷ []) $
-        by ! (exits' r-13 deques frames pool-10 memory-11 r-13-good (F.out-14 h deques frames pool memory w n p x v room-deques.0 room-frames.0 room-pool.0 room-memory.0 w_Fits n-fits p-fits x_Fits v-fits ok' (nleb→lt h.numbers.splitters x test-1) r-5 r-5-is found found-is (is_false found.shared test-7) pool-10 done-10 same-pool-10 memory-11 done-11 same-memory-11 r-12 r-12-is r-13 r-13-is) (refl) (refl) (same-pool-10) (same-memory-11))))))))))))))))))))))))))))))))))))))))))))
+        (and_then ! (load ! (from ! (stop !)) (look ! 60 refl)) (and_then ! (const ! _ tt) (and_then ! (load ! (from ! (fld ! refl (stop !))) (look_in ! 60 (sub ! 2 refl (whole !)))) (no_more !)))) (λ r-8 r-8-good r-8-is.
+        land ! (from ! (stop !)) (init ! 61 refl ((LL.lawful M-Out.the_type L-Out.the_laws 𝓛).typed r-8 _ r-8-good).0) $
+        returns_within ! Post refl (look ! 61 refl) $ forget ! 17 refl $ forget ! 19 refl $ forget ! 21 refl $ forget ! 23 refl $ forget ! 25 refl $ forget ! 27 refl $ forget ! 29 refl $ forget ! 31 refl $ forget ! 33 refl $ forget ! 39 refl $ forget ! 41 refl $ forget ! 43 refl $ forget ! 45 refl $ forget ! 47 refl $ forget ! 49 refl $ forget ! 51 refl $ forget ! 53 refl $ forget ! 55 refl $ forget ! 57 refl $ forget ! 59 refl $ forget ! 61 refl $
+        free_all ! 3 refl $
+        move ! (2 ∷ 1 ∷ 0 ∷ []) $
+        by ! (exits' r-8 deques frames pool-7 r-8-good (F.out-9 h deques frames pool w n p x v room-deques.0 room-frames.0 room-pool.0 w_Fits n-fits p-fits x_Fits v-fits ok' (nleb→lt h.numbers.splitters x test-1) r-4 r-4-is found found-is (is_false found.shared test-6) pool-7 done-7 same-pool-7 r-8 r-8-is) (refl) (refl) (same-pool-7)))))
+        (λ test-6.
+        assigns ! (bin ! (load ! (from ! (fld ! refl (stop !))) (look_in ! 59 (sub ! 2 refl (whole !)))) (load ! (from ! (fld ! refl (stop !))) (look_in ! 39 (sub ! 1 refl (whole !)))) tt) (from ! (stop !)) (store ! 33 refl (tt, tt)) $
+        leave_if ! (load ! (from ! (stop !)) (look ! 33 refl))
+        (λ test-10.
+        -- _0 = engine::kinds::pool_full(_1)
+        S-pool-full.step mem run ! fm known-pool-full h h-good
+        (and_then ! (load ! (from ! (stop !)) (look ! 60 refl)) (no_more !)) (λ r-11 r-11-good r-11-is.
+        land ! (from ! (stop !)) (init ! 61 refl ((LL.lawful M-Out.the_type L-Out.the_laws 𝓛).typed r-11 _ r-11-good).0) $
+        returns_within ! Post refl (look ! 61 refl) $ forget ! 23 refl $ forget ! 25 refl $ forget ! 27 refl $ forget ! 29 refl $ forget ! 31 refl $ forget ! 33 refl $ forget ! 39 refl $ forget ! 41 refl $ forget ! 43 refl $ forget ! 45 refl $ forget ! 47 refl $ forget ! 49 refl $ forget ! 51 refl $ forget ! 53 refl $ forget ! 55 refl $ forget ! 57 refl $ forget ! 59 refl $ forget ! 61 refl $
+        free_all ! 3 refl $
+        move ! (2 ∷ 1 ∷ 0 ∷ []) $
+        by ! (exits' r-11 deques frames pool r-11-good (F.out-12 h deques frames pool w n p x v room-deques.0 room-frames.0 room-pool.0 w_Fits n-fits p-fits x_Fits v-fits ok' (nleb→lt h.numbers.splitters x test-1) r-4 r-4-is found found-is (is_true found.shared (not_not found.shared test-6)) (leb→le h.free_count found.level test-10) r-11 r-11-is) (refl) (refl) (refl))))
+        (λ test-10.
+        assigns ! (addr ! (from ! (fld ! refl (hop ! (look_in ! 53 (sub ! 0 refl (whole !))) (stop !))))) (from ! (stop !)) (init ! 15 refl (tt, tt)) $
+        assigns ! (agg ! (and_then ! (load ! (from ! (stop !)) (look ! 15 refl)) (and_then ! (load ! (from ! (fld ! refl (stop !))) (look_in ! 53 (sub ! 1 refl (whole !)))) (no_more !)))) (from ! (stop !)) (init ! 13 refl (tt, (tt, (record { fits = room-pool.0 }, tt)))) $
+        -- _12 = packed::tree::write_shared(_24, _1.0.2, _1.1, _1.0.3, _1.2, _10, _8, _9, _11)
+        S-write-shared.step mem run ! fm known-write-shared b-pool o-pool n-pool pool h.numbers.nodes h.height h.numbers.free_node h.free_count r-4.root x v found (LL.owed M-Numbers.the_type L-Numbers.the_laws h.numbers _ (LL.owed M-Head.the_type L-Head.the_laws h _ h-good).0).1.1.0.1 (LL.owed M-Head.the_type L-Head.the_laws h _ h-good).1.0.1 (LL.owed M-Numbers.the_type L-Numbers.the_laws h.numbers _ (LL.owed M-Head.the_type L-Head.the_laws h _ h-good).0).1.1.1.0.1 (LL.owed M-Head.the_type L-Head.the_laws h _ h-good).1.1.0.1 (LL.owed M-Frame.the_type L-Frame.the_laws r-4 _ r-4-good).1.1.1.1.1.0.1 x_Fits v-fits found-good (F.needs-13 h deques frames pool w n p x v room-deques.0 room-frames.0 room-pool.0 w_Fits n-fits p-fits x_Fits v-fits ok' (nleb→lt h.numbers.splitters x test-1) r-4 r-4-is found found-is (is_true found.shared (not_not found.shared test-6)) (nleb→lt h.free_count found.level test-10)) (refl) room-pool
+        (λ ν-0 δ-0. and_then ! (load ! (from ! (stop !)) (look ! 14 refl)) (and_then ! (load ! (from ! (fld ! refl (fld ! refl (stop !)))) (look_in ! 60 (sub ! 2 refl (sub ! 0 refl (whole !))))) (and_then ! (load ! (from ! (fld ! refl (stop !))) (look_in ! 60 (sub ! 1 refl (whole !)))) (and_then ! (load ! (from ! (fld ! refl (fld ! refl (stop !)))) (look_in ! 60 (sub ! 3 refl (sub ! 0 refl (whole !))))) (and_then ! (load ! (from ! (fld ! refl (stop !))) (look_in ! 60 (sub ! 2 refl (whole !)))) (and_then ! (load ! (from ! (stop !)) (look ! 42 refl)) (and_then ! (load ! (from ! (stop !)) (look ! 46 refl)) (and_then ! (load ! (from ! (stop !)) (look ! 44 refl)) (and_then ! (load ! (from ! (stop !)) (look ! 40 refl)) (no_more !)))))))))) (λ new pool-13 new-good New-is same-pool-13.
+        land ! (from ! (stop !)) (init ! 37 refl ((LL.lawful M-Written.the_type L-Written.the_laws 𝓛).typed new _ new-good).0) $
+        assigns ! (addr ! (from ! (fld ! refl (hop ! (look_in ! 55 (sub ! 0 refl (whole !))) (stop !))))) (from ! (stop !)) (init ! 11 refl (tt, tt)) $
+        assigns ! (agg ! (and_then ! (load ! (from ! (stop !)) (look ! 11 refl)) (and_then ! (load ! (from ! (fld ! refl (stop !))) (look_in ! 55 (sub ! 1 refl (whole !)))) (no_more !)))) (from ! (stop !)) (init ! 9 refl (tt, (tt, (record { fits = room-frames.0 }, tt)))) $
+        -- _13 = frames::table::frame_at(_26, _7)
+        move ! (1 ∷ []) $
+        S-frame-at.step-s mem run ! fm known-frame-at b-frames o-frames n-frames frames p p-fits (F.needs-14 h deques frames pool w n p x v room-deques.0 room-frames.0 room-pool.0 w_Fits n-fits p-fits x_Fits v-fits ok' (nleb→lt h.numbers.splitters x test-1) r-4 r-4-is found found-is (is_true found.shared (not_not found.shared test-6)) (nleb→lt h.free_count found.level test-10) new pool-13 New-is same-pool-13) (refl) room-frames
+        (λ ν-0 δ-0. and_then ! (load ! (from ! (stop !)) (look ! 10 refl)) (and_then ! (load ! (from ! (stop !)) (look ! 48 refl)) (no_more !))) (λ f f-good f-is.
+        land ! (from ! (stop !)) (init ! 35 refl ((LL.lawful M-Frame.the_type L-Frame.the_laws 𝓛).typed f _ f-good).0) $
+        assigns ! (addr ! (from ! (fld ! refl (hop ! (look_in ! 55 (sub ! 0 refl (whole !))) (stop !))))) (from ! (stop !)) (init ! 5 refl (tt, tt)) $
+        assigns ! (agg ! (and_then ! (load ! (from ! (stop !)) (look ! 5 refl)) (and_then ! (load ! (from ! (fld ! refl (stop !))) (look_in ! 55 (sub ! 1 refl (whole !)))) (no_more !)))) (from ! (stop !)) (init ! 3 refl (tt, (tt, (record { fits = room-frames.0 }, tt)))) $
+        -- _15 = frames::records::with_root(_13, _12.2)
+        S-with-root.step mem run ! fm known-with-root f new.root f-good (LL.owed M-Written.the_type L-Written.the_laws new _ new-good).1.1.0.1
+        (and_then ! (load ! (from ! (stop !)) (look ! 36 refl)) (and_then ! (load ! (from ! (fld ! refl (stop !))) (look_in ! 38 (sub ! 2 refl (whole !)))) (no_more !))) (λ r-15 r-15-good r-15-is.
+        land ! (from ! (stop !)) (store ! 31 refl ((LL.lawful M-Frame.the_type L-Frame.the_laws 𝓛).typed r-15 _ r-15-good).0) $
+        -- _27 = frames::table::put_frame(_29, _7, _15)
+        S-put-frame.step mem run ! fm known-put-frame b-frames o-frames n-frames frames p r-15 p-fits r-15-good (F.needs-16 h deques frames pool w n p x v room-deques.0 room-frames.0 room-pool.0 w_Fits n-fits p-fits x_Fits v-fits ok' (nleb→lt h.numbers.splitters x test-1) r-4 r-4-is found found-is (is_true found.shared (not_not found.shared test-6)) (nleb→lt h.free_count found.level test-10) new pool-13 New-is same-pool-13 f f-is r-15 r-15-is) (refl) room-frames
+        (λ ν-0 δ-0. and_then ! (load ! (from ! (stop !)) (look ! 4 refl)) (and_then ! (load ! (from ! (stop !)) (look ! 48 refl)) (and_then ! (load ! (from ! (stop !)) (look ! 32 refl)) (no_more !)))) (λ frames-16 done-16 same-frames-16.
+        land ! (from ! (stop !)) (init ! 7 refl (tt, tt)) $
+        -- _0 = engine::kinds::written(_1, _12.0, _12.1)
+        S-written.step mem run ! fm known_written h new.first new.count h-good (LL.owed M-Written.the_type L-Written.the_laws new _ new-good).0.1 (LL.owed M-Written.the_type L-Written.the_laws new _ new-good).1.0.1
+        (and_then ! (load ! (from ! (stop !)) (look ! 60 refl)) (and_then ! (load ! (from ! (fld ! refl (stop !))) (look_in ! 38 (sub ! 0 refl (whole !)))) (and_then ! (load ! (from ! (fld ! refl (stop !))) (look_in ! 38 (sub ! 1 refl (whole !)))) (no_more !)))) (λ r-17 r-17-good r-17-is.
+        land ! (from ! (stop !)) (init ! 61 refl ((LL.lawful M-Out.the_type L-Out.the_laws 𝓛).typed r-17 _ r-17-good).0) $
+        returns_within ! Post refl (look ! 61 refl) $ forget ! 3 refl $ forget ! 5 refl $ forget ! 7 refl $ forget ! 9 refl $ forget ! 11 refl $ forget ! 13 refl $ forget ! 15 refl $ forget ! 23 refl $ forget ! 25 refl $ forget ! 27 refl $ forget ! 29 refl $ forget ! 31 refl $ forget ! 33 refl $ forget ! 35 refl $ forget ! 37 refl $ forget ! 39 refl $ forget ! 41 refl $ forget ! 43 refl $ forget ! 45 refl $ forget ! 47 refl $ forget ! 49 refl $ forget ! 51 refl $ forget ! 53 refl $ forget ! 55 refl $ forget ! 57 refl $ forget ! 59 refl $ forget ! 61 refl $
+        free_all ! 3 refl $
+        move ! (2 ∷ 0 ∷ 1 ∷ []) $
+        by ! (exits' r-17 deques frames-16 pool-13 r-17-good (F.out-18 h deques frames pool w n p x v room-deques.0 room-frames.0 room-pool.0 w_Fits n-fits p-fits x_Fits v-fits ok' (nleb→lt h.numbers.splitters x test-1) r-4 r-4-is found found-is (is_true found.shared (not_not found.shared test-6)) (nleb→lt h.free_count found.level test-10) new pool-13 New-is same-pool-13 f f-is r-15 r-15-is frames-16 done-16 same-frames-16 r-17 r-17-is) (refl) (same-frames-16) (same-pool-13))))))))))))))))))))))))))))))))))))))))))
 
 module _ {M : Type 1} {𝓤 : Ura M} (𝓛 : Logic 𝓤) (mem : Memory → SProp 𝓤) (run : Routine → Fun 𝓤) (𝓣 : Tables 𝓤 𝓛.H) where
   open 𝓛 use {H}
 
-  walks : Triple 𝓤 (𝓣.C #no-splitter) (S-no-splitter.Asked 𝓛 mem run) → Triple 𝓤 (𝓣.C #visited) (S-visited.Asked 𝓛 mem run) → Triple 𝓤 (𝓣.C #frame-at) (S-frame-at.Asked 𝓛 mem run) → Triple 𝓤 (𝓣.C #first-shared) (S-first-shared.Asked 𝓛 mem run) → Triple 𝓤 (𝓣.C #write-new) (S-write-new.Asked 𝓛 mem run) → Triple 𝓤 (𝓣.C #set-value) (S-set-value.Asked 𝓛 mem run) → Triple 𝓤 (𝓣.C #remember) (S-remember.Asked 𝓛 mem run) → Triple 𝓤 (𝓣.C #unchanged) (S-unchanged.Asked 𝓛 mem run) → Walks 𝓛 f'.ended stayed (WpFn 𝓤 H 𝓣.C 𝓣.Λ code.function) (f'.clauses 𝓛 mem run)
-  walks known-no-splitter known-visited known-frame-at known-first-shared known-write-new known-set-value known-remember known-unchanged = walked 𝓛 f'.ended stayed (f'.clauses 𝓛 mem run) (WpFn 𝓤 H 𝓣.C 𝓣.Λ code.function)
-      (λ κs. (LL.vals M-Head.the_type L-Head.the_laws, (mut_slice_vals, (mut_slice_vals, (mut_slice_vals, (mut_slice_vals, (uint_vals w32, (uint_vals w32, (uint_vals w32, (uint_vals w32, (uint_vals w32, tt)))))))))))
-      (λ κs. (LL.tells M-Head.the_type L-Head.the_laws, (mut_slice_Tells (named 0) κs.0 u32, (mut_slice_Tells (named 1) κs.1.0 R-Frame, (mut_slice_Tells (named 2) κs.1.1.0 u32, (mut_slice_Tells (named 3) κs.1.1.1.0 u32, (uint_Tells w32, (uint_Tells w32, (uint_Tells w32, (uint_Tells w32, (uint_Tells w32, tt)))))))))))
-      (λ κs qs bounds a g are. needs 𝓤 (Ready (core a.0 [] a.1.0.now a.1.1.0.now a.1.1.1.0.now) × Recalls (core a.0 [] a.1.0.now a.1.1.0.now a.1.1.1.0.now) a.1.1.1.1.0.now × ActsAt (core a.0 [] a.1.0.now a.1.1.0.now a.1.1.1.0.now) a.1.1.1.1.1.0 a.1.1.1.1.1.1.0 a.1.1.1.1.1.1.1.0) _
-      (walk 𝓛 mem run κs.0 qs.0 a.1.0.ref_ptr.0 a.1.0.ref_ptr.1 a.1.0.ghost_name a.1.0.now κs.1.0 qs.1.0 a.1.1.0.ref_ptr.0 a.1.1.0.ref_ptr.1 a.1.1.0.ghost_name a.1.1.0.now κs.1.1.0 qs.1.1.0 a.1.1.1.0.ref_ptr.0 a.1.1.1.0.ref_ptr.1 a.1.1.1.0.ghost_name a.1.1.1.0.now κs.1.1.1.0 qs.1.1.1.0 a.1.1.1.1.0.ref_ptr.0 a.1.1.1.1.0.ref_ptr.1 a.1.1.1.1.0.ghost_name a.1.1.1.1.0.now a.0 are.0 a.1.1.1.1.1.0 are.1.1.1.1.1.0.1 a.1.1.1.1.1.1.0 are.1.1.1.1.1.1.0.1 a.1.1.1.1.1.1.1.0 are.1.1.1.1.1.1.1.0.1 a.1.1.1.1.1.1.1.1.0 are.1.1.1.1.1.1.1.1.0.1 a.1.1.1.1.1.1.1.1.1.0 are.1.1.1.1.1.1.1.1.1.0.1 are.1.0.0.1 are.1.1.0.0.1 are.1.1.1.0.0.1 are.1.1.1.1.0.0.1 𝓣 known-no-splitter known-visited known-frame-at known-first-shared known-write-new known-set-value known-remember known-unchanged))
+  walks : Triple 𝓤 (𝓣.C #no-splitter) (S-no-splitter.Asked 𝓛 mem run) → Triple 𝓤 (𝓣.C #frame-at) (S-frame-at.Asked 𝓛 mem run) → Triple 𝓤 (𝓣.C #first-shared) (S-first-shared.Asked 𝓛 mem run) → Triple 𝓤 (𝓣.C #set-value) (S-set-value.Asked 𝓛 mem run) → Triple 𝓤 (𝓣.C #unchanged) (S-unchanged.Asked 𝓛 mem run) → Triple 𝓤 (𝓣.C #pool-full) (S-pool-full.Asked 𝓛 mem run) → Triple 𝓤 (𝓣.C #write-shared) (S-write-shared.Asked 𝓛 mem run) → Triple 𝓤 (𝓣.C #with-root) (S-with-root.Asked 𝓛 mem run) → Triple 𝓤 (𝓣.C #put-frame) (S-put-frame.Asked 𝓛 mem run) → Triple 𝓤 (𝓣.C #written) (S-written.Asked 𝓛 mem run) → Walks 𝓛 f'.ended stayed (WpFn 𝓤 H 𝓣.C 𝓣.Λ code.function) (f'.clauses 𝓛 mem run)
+  walks known-no-splitter known-frame-at known-first-shared known-set-value known-unchanged known-pool-full known-write-shared known-with-root known-put-frame known_written = walked 𝓛 f'.ended stayed (f'.clauses 𝓛 mem run) (WpFn 𝓤 H 𝓣.C 𝓣.Λ code.function)
+      (λ κs. (LL.vals M-Head.the_type L-Head.the_laws, (mut_slice_vals, (mut_slice_vals, (mut_slice_vals, (uint_vals w32, (uint_vals w32, (uint_vals w32, (uint_vals w32, (uint_vals w32, tt))))))))))
+      (λ κs. (LL.tells M-Head.the_type L-Head.the_laws, (mut_slice_Tells (named 0) κs.0 u32, (mut_slice_Tells (named 1) κs.1.0 R-Frame, (mut_slice_Tells (named 2) κs.1.1.0 u32, (uint_Tells w32, (uint_Tells w32, (uint_Tells w32, (uint_Tells w32, (uint_Tells w32, tt))))))))))
+      (λ κs qs bounds a g are. needs 𝓤 (Ready (core a.0 [] a.1.0.now a.1.1.0.now a.1.1.1.0.now) × ActsAt (core a.0 [] a.1.0.now a.1.1.0.now a.1.1.1.0.now) a.1.1.1.1.0 a.1.1.1.1.1.0 a.1.1.1.1.1.1.0) _
+      (walk 𝓛 mem run κs.0 qs.0 a.1.0.ref_ptr.0 a.1.0.ref_ptr.1 a.1.0.ghost_name a.1.0.now κs.1.0 qs.1.0 a.1.1.0.ref_ptr.0 a.1.1.0.ref_ptr.1 a.1.1.0.ghost_name a.1.1.0.now κs.1.1.0 qs.1.1.0 a.1.1.1.0.ref_ptr.0 a.1.1.1.0.ref_ptr.1 a.1.1.1.0.ghost_name a.1.1.1.0.now a.0 are.0 a.1.1.1.1.0 are.1.1.1.1.0.1 a.1.1.1.1.1.0 are.1.1.1.1.1.0.1 a.1.1.1.1.1.1.0 are.1.1.1.1.1.1.0.1 a.1.1.1.1.1.1.1.0 are.1.1.1.1.1.1.1.0.1 a.1.1.1.1.1.1.1.1.0 are.1.1.1.1.1.1.1.1.0.1 are.1.0.0.1 are.1.1.0.0.1 are.1.1.1.0.0.1 𝓣 known-no-splitter known-frame-at known-first-shared known-set-value known-unchanged known-pool-full known-write-shared known-with-root known-put-frame known_written))
 
-  meets : Triple 𝓤 (𝓣.C #no-splitter) (S-no-splitter.Asked 𝓛 mem run) → Triple 𝓤 (𝓣.C #visited) (S-visited.Asked 𝓛 mem run) → Triple 𝓤 (𝓣.C #frame-at) (S-frame-at.Asked 𝓛 mem run) → Triple 𝓤 (𝓣.C #first-shared) (S-first-shared.Asked 𝓛 mem run) → Triple 𝓤 (𝓣.C #write-new) (S-write-new.Asked 𝓛 mem run) → Triple 𝓤 (𝓣.C #set-value) (S-set-value.Asked 𝓛 mem run) → Triple 𝓤 (𝓣.C #remember) (S-remember.Asked 𝓛 mem run) → Triple 𝓤 (𝓣.C #unchanged) (S-unchanged.Asked 𝓛 mem run) → Meets 𝓛 f'.signature (WpFn 𝓤 H 𝓣.C 𝓣.Λ code.function) (f'.spec 𝓛 mem run)
-  meets known-no-splitter known-visited known-frame-at known-first-shared known-write-new known-set-value known-remember known-unchanged = walk_Meets 𝓛 f'.ended stayed
-      (Goes-none 𝓛 4 (λ _. R-Head) yes (λ κs x f. refl), (Goes-slice 𝓛 4 0 tt (plain (λ _. u32)), (Goes-slice 𝓛 4 1 tt (plain (λ _. R-Frame)), (Goes-slice 𝓛 4 2 tt (plain (λ _. u32)), (Goes-slice 𝓛 4 3 tt (plain (λ _. u32)), (Goes-none 𝓛 4 (λ _. u32) yes (λ κs x f. refl), (Goes-none 𝓛 4 (λ _. u32) yes (λ κs x f. refl), (Goes-none 𝓛 4 (λ _. u32) yes (λ κs x f. refl), (Goes-none 𝓛 4 (λ _. u32) yes (λ κs x f. refl), (Goes-none 𝓛 4 (λ _. u32) yes (λ κs x f. refl), tt))))))))))
-      (f'.clauses 𝓛 mem run) (WpFn 𝓤 H 𝓣.C 𝓣.Λ code.function) (WpFn-mono 𝓤 H 𝓛.laws 𝓣 code.function) (walks known-no-splitter known-visited known-frame-at known-first-shared known-write-new known-set-value known-remember known-unchanged)
+  meets : Triple 𝓤 (𝓣.C #no-splitter) (S-no-splitter.Asked 𝓛 mem run) → Triple 𝓤 (𝓣.C #frame-at) (S-frame-at.Asked 𝓛 mem run) → Triple 𝓤 (𝓣.C #first-shared) (S-first-shared.Asked 𝓛 mem run) → Triple 𝓤 (𝓣.C #set-value) (S-set-value.Asked 𝓛 mem run) → Triple 𝓤 (𝓣.C #unchanged) (S-unchanged.Asked 𝓛 mem run) → Triple 𝓤 (𝓣.C #pool-full) (S-pool-full.Asked 𝓛 mem run) → Triple 𝓤 (𝓣.C #write-shared) (S-write-shared.Asked 𝓛 mem run) → Triple 𝓤 (𝓣.C #with-root) (S-with-root.Asked 𝓛 mem run) → Triple 𝓤 (𝓣.C #put-frame) (S-put-frame.Asked 𝓛 mem run) → Triple 𝓤 (𝓣.C #written) (S-written.Asked 𝓛 mem run) → Meets 𝓛 f'.signature (WpFn 𝓤 H 𝓣.C 𝓣.Λ code.function) (f'.spec 𝓛 mem run)
+  meets known-no-splitter known-frame-at known-first-shared known-set-value known-unchanged known-pool-full known-write-shared known-with-root known-put-frame known_written = walk_Meets 𝓛 f'.ended stayed
+      (Goes-none 𝓛 3 (λ _. R-Head) yes (λ κs x f. refl), (Goes-slice 𝓛 3 0 tt (plain (λ _. u32)), (Goes-slice 𝓛 3 1 tt (plain (λ _. R-Frame)), (Goes-slice 𝓛 3 2 tt (plain (λ _. u32)), (Goes-none 𝓛 3 (λ _. u32) yes (λ κs x f. refl), (Goes-none 𝓛 3 (λ _. u32) yes (λ κs x f. refl), (Goes-none 𝓛 3 (λ _. u32) yes (λ κs x f. refl), (Goes-none 𝓛 3 (λ _. u32) yes (λ κs x f. refl), (Goes-none 𝓛 3 (λ _. u32) yes (λ κs x f. refl), tt)))))))))
+      (f'.clauses 𝓛 mem run) (WpFn 𝓤 H 𝓣.C 𝓣.Λ code.function) (WpFn-mono 𝓤 H 𝓛.laws 𝓣 code.function) (walks known-no-splitter known-frame-at known-first-shared known-set-value known-unchanged known-pool-full known-write-shared known-with-root known-put-frame known_written)
 
 pub write-at-spec : {M : Type 1} → stated.statement M
 unfolding code.routine tables_of
@@ -292,10 +314,12 @@ write-at-spec 𝓤 𝓛 𝓜 𝓡 =
     (tables 𝓤 𝓛.H 𝓜 𝓡 code.env).C (tables 𝓤 𝓛.H 𝓜 𝓡 code.env).Λ #own code.function (code.unfolded 𝓤 𝓛.H 𝓜 𝓡)
     (meets 𝓛 𝓜.mem 𝓡.run (tables_of 𝓤 𝓛.H 𝓜 (tables 𝓤 𝓛.H 𝓜 𝓡 code.env))
     (cited 𝓤 𝓛.H (S-no-splitter.Asked 𝓛 𝓜.mem 𝓡.run) 𝓜 𝓡 code.env #no-splitter D-no-splitter.routine code.calls-engine::kinds::no-splitter (T-no-splitter.met 𝓤 𝓛 𝓜 𝓡))
-    (cited 𝓤 𝓛.H (S-visited.Asked 𝓛 𝓜.mem 𝓡.run) 𝓜 𝓡 code.env #visited D-visited.routine code.calls-engine::kinds::visited (T-visited.met 𝓤 𝓛 𝓜 𝓡))
     (cited 𝓤 𝓛.H (S-frame-at.Asked 𝓛 𝓜.mem 𝓡.run) 𝓜 𝓡 code.env #frame-at D-frame-at.routine code.calls-frames::frame-at (T-frame-at.met 𝓤 𝓛 𝓜 𝓡))
     (cited 𝓤 𝓛.H (S-first-shared.Asked 𝓛 𝓜.mem 𝓡.run) 𝓜 𝓡 code.env #first-shared D-first-shared.routine code.calls-packed::first-shared (T-first-shared.met 𝓤 𝓛 𝓜 𝓡))
-    (cited 𝓤 𝓛.H (S-write-new.Asked 𝓛 𝓜.mem 𝓡.run) 𝓜 𝓡 code.env #write-new D-write-new.routine code.calls-engine::kinds::write-new (T-write-new.met 𝓤 𝓛 𝓜 𝓡))
     (cited 𝓤 𝓛.H (S-set-value.Asked 𝓛 𝓜.mem 𝓡.run) 𝓜 𝓡 code.env #set-value D-set-value.routine code.calls-packed::set-value (T-set-value.met 𝓤 𝓛 𝓜 𝓡))
-    (cited 𝓤 𝓛.H (S-remember.Asked 𝓛 𝓜.mem 𝓡.run) 𝓜 𝓡 code.env #remember D-remember.routine code.calls-memory::remember (T-remember.met 𝓤 𝓛 𝓜 𝓡))
-    (cited 𝓤 𝓛.H (S-unchanged.Asked 𝓛 𝓜.mem 𝓡.run) 𝓜 𝓡 code.env #unchanged D-unchanged.routine code.calls-engine::kinds::unchanged (T-unchanged.met 𝓤 𝓛 𝓜 𝓡)))
+    (cited 𝓤 𝓛.H (S-unchanged.Asked 𝓛 𝓜.mem 𝓡.run) 𝓜 𝓡 code.env #unchanged D-unchanged.routine code.calls-engine::kinds::unchanged (T-unchanged.met 𝓤 𝓛 𝓜 𝓡))
+    (cited 𝓤 𝓛.H (S-pool-full.Asked 𝓛 𝓜.mem 𝓡.run) 𝓜 𝓡 code.env #pool-full D-pool-full.routine code.calls-engine::kinds::pool-full (T-pool-full.met 𝓤 𝓛 𝓜 𝓡))
+    (cited 𝓤 𝓛.H (S-write-shared.Asked 𝓛 𝓜.mem 𝓡.run) 𝓜 𝓡 code.env #write-shared D-write-shared.routine code.calls-packed::write-shared (T-write-shared.met 𝓤 𝓛 𝓜 𝓡))
+    (cited 𝓤 𝓛.H (S-with-root.Asked 𝓛 𝓜.mem 𝓡.run) 𝓜 𝓡 code.env #with-root D-with-root.routine code.calls-frames::with-root (T-with-root.met 𝓤 𝓛 𝓜 𝓡))
+    (cited 𝓤 𝓛.H (S-put-frame.Asked 𝓛 𝓜.mem 𝓡.run) 𝓜 𝓡 code.env #put-frame D-put-frame.routine code.calls-frames::put-frame (T-put-frame.met 𝓤 𝓛 𝓜 𝓡))
+    (cited 𝓤 𝓛.H (S-written.Asked 𝓛 𝓜.mem 𝓡.run) 𝓜 𝓡 code.env #written D-written.routine code.calls-engine::kinds::written (T-written.met 𝓤 𝓛 𝓜 𝓡)))

@@ -1,5 +1,7 @@
 -- Main, or another frame.
-use Rattle.std.proofs.Common.{refl, rules, eq-eqb, ne_eqb}
+use mathlib.Core.Path.{refl}
+use borrow.Author.Rules.{rules}
+use borrow.Author.Tests.{eq-eqb, ne_eqb}
 use Rattle.words.specs.Basics.{none}
 use Rattle.engine.proofs.numbers.end_totals.Statement.{statement}
 use Rattle.engine.proofs.numbers.end_totals.Tie as tie

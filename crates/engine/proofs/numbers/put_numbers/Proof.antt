@@ -1,6 +1,8 @@
 -- Ten stores into ten words.
-use Rattle.std.proofs.Common.{arith, length-set, rules}
+use lib.ListN.{length-set}
+use native.Mathlib.Omega.{arith}
 use Rattle.engine.proofs.NumberWords.{ten_words}
+use borrow.Author.Rules.{rules}
 use Rattle.engine.proofs.numbers.put_numbers.Statement.{statement}
 use Rattle.engine.proofs.numbers.put_numbers.Tie as tie
 

@@ -1,6 +1,8 @@
 -- Four stores into ten words.
-use Rattle.std.proofs.Common.{arith, length-set, rules}
+use lib.ListN.{length-set}
+use native.Mathlib.Omega.{arith}
 use Rattle.engine.proofs.NumberWords.{totals_stored}
+use borrow.Author.Rules.{rules}
 use Rattle.engine.proofs.numbers.put_totals.Statement.{statement}
 use Rattle.engine.proofs.numbers.put_totals.Tie as tie
 

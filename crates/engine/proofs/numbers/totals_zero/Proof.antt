@@ -1,6 +1,6 @@
 -- Word by word.
 use Rattle.engine.proofs.NumberWords.{zero_totals_lem}
-use Rattle.std.proofs.Common.{rules}
+use borrow.Author.Rules.{rules}
 use Rattle.engine.proofs.numbers.totals_zero.Statement.{statement}
 use Rattle.engine.proofs.numbers.totals_zero.Tie as tie
 

@@ -1,5 +1,6 @@
 -- Each kind's fields give the step back.
-use Rattle.std.proofs.Common.{sym, rules}
+use mathlib.Core.Path.{sym}
+use borrow.Author.Rules.{rules}
 use Rattle.engine.proofs.records.fields_of.Statement.{statement}
 use Rattle.engine.proofs.records.fields_of.Tie as tie
 

@@ -1,12 +1,16 @@
 -- Written by tools/walk: `engine::records::take_step` meets its contract, by a walk of its MIR. Do not edit: the facts are in Proof/Facts.antt. Assumes nothing.
 mod Facts
-use Rattle.std.proofs.Common.{◌≡◌, ℕ, ◌+◌, ◌-◌, ◌*◌, ◌^◌, ◌<◌, ◌≤◌, Bool, true, false, not, T as Holds, eqb, ltb, leb, List, [], ◌∷◌, length, get_or, set, sym, refl, ap, ◌∙◌, subst, lit<, eqb→eq, ltb→lt, leb→le, nltb→le, length-set, w8, w16, w32, w64, MutBor}
-use lib.Dec.{nleb→lt}
+use mathlib.Core.Path.{◌≡◌, refl, sym, ◌∙◌, ap, subst}
+use Prim.Native.Nat.{ℕ, ◌+◌, ◌-◌, ◌*◌, ◌<◌, ◌≤◌, ◌^◌}
+use mathlib.Core.List.{List, [], ◌∷◌}
+use mathlib.Core.Bool.{Bool, true, false, not}
+use lib.Dec.{T as Holds, ltb, leb, eqb, ltb→lt, leb→le, nltb→le, nleb→lt, eqb→eq, lit<}
+use lib.ListN.{length, get_or, set, length-set}
 use lib.WfN.{lt-wf_rel}
 use mathlib.Core.WellFounded.{WellFounded}
 use seplogic.Ra.Ura.{Ura}
 use seplogic.Ra.TreeShare.{full_share}
-use mir.Syntax.{named, ty_int, ty_bool, ty_ptr, Ty, Body as Code, loop as loopᴹ}
+use mir.Syntax.{named, w8, w16, w32, w64, ty_int, ty_bool, ty_ptr, Ty, Body as Code, loop as loopᴹ}
 use mir.Val.{Val, vunit, vbool, vint, vptr}
 use base.Logic.{SProp, ent, via, fst∗, emp}
 use base.Fml.{Lft, GName, Share, ftrue, flft, fat, froom, fdies}
@@ -28,6 +32,7 @@ use denote.Memory.{cell_at}
 use denote.Index.{place as place', place_is, place_byte}
 use denote.Plain.{uint_copy, uint_Makes, uint_vals, uint_Tells, bool_Makes, bool_vals, bool_Tells, Nothing-Makes}
 use denote.Builtin.{u8, u16, u32, u64, usize, bool, unit}
+use denote.Ref.{MutBor}
 use denote.Slice.{slice_val, MutSlice, ShrSlice, Room, mut_slice_vals, mut_slice_Tells, shr_slice_Tells}
 use denote.Signature.{plain}
 use denote.Steps.{nothing, owned}
@@ -41,11 +46,9 @@ use denote.Triple.Walked.{says, needs, Stays, stay_slice, stay_none, stay_none_s
 use borrow.Author.Rules.{scaled_Fits}
 use Rattle.frames.proofs.Lent.{at_list, Mine, Yours, ty_at, exit_unless, exit_if, leave_if, fork, skipped, regroup, matched, matched_last, const, is_true, is_false, not_not, differ, widen, less_fits, after, turn_of_lem, take_out, put_in, put_back, look_out, look_back, free_all}
 use Rattle.soundness.specs.Numbers.{numbers_in, totals_in, number_count}
-use Rattle.model.specs.declared.Decoded.TheVariants.{Valid}
 use Rattle.semantics.specs.Core.{step_on}
-use Rattle.semantics.specs.Ranges.{Ready, Recalls}
-use Rattle.engine.specs.Promises.{core, Leaves, step_by, RemembersRecord}
-use Rattle.soundness.specs.Layout.{two_words}
+use Rattle.semantics.specs.Ranges.{Ready}
+use Rattle.engine.specs.Promises.{core, Leaves, step_by}
 use Rattle.engine.proofs.Called.step_read as S-step-read
 use Rattle.engine.proofs.kinds.step_read.Symbol as D-step-read
 use Rattle.engine.proofs.kinds.step_read.Symbol.{name as #step-read}
@@ -58,18 +61,6 @@ use Rattle.engine.proofs.Called.control_step as S-control-step
 use Rattle.engine.proofs.records.control_step.Symbol as D-control-step
 use Rattle.engine.proofs.records.control_step.Symbol.{name as #control-step}
 use Rattle.engine.proofs.records.control_step.Met as T-control-step
-use Rattle.engine.proofs.Called.empties as S-empties
-use Rattle.engine.proofs.records.empties.Symbol as D-empties
-use Rattle.engine.proofs.records.empties.Symbol.{name as #empties}
-use Rattle.engine.proofs.records.empties.Met as T-empties
-use Rattle.engine.proofs.Called.empty as S-empty
-use Rattle.memory.proofs.empty.Symbol as D-empty
-use Rattle.memory.proofs.empty.Symbol.{name as #empty}
-use Rattle.memory.proofs.empty.Met as T-empty
-use Rattle.engine.proofs.Called.visited as S-visited
-use Rattle.engine.proofs.kinds.visited.Symbol as D-visited
-use Rattle.engine.proofs.kinds.visited.Symbol.{name as #visited}
-use Rattle.engine.proofs.kinds.visited.Met as T-visited
 use Rattle.engine.specs.contracts.records.take_step.Key.{name as #own}
 use Rattle.engine.specs.contracts.records.take_step as f'
 use Rattle.engine.proofs.records.take_step.Statement as stated
@@ -84,12 +75,10 @@ use Rattle.frames.specs.declared.Frame.{Frame}
 use Rattle.engine.specs.contracts.Fields as M-Fields
 use Rattle.engine.proofs.Fields.TheLaws as L-Fields
 use Rattle.engine.specs.declared.Fields.{Fields}
-use Rattle.engine.specs.contracts.Visited as M-Visited
-use Rattle.engine.proofs.Visited.TheLaws as L-Visited
-use Rattle.engine.specs.declared.Visited.{Visited}
 use Rattle.engine.specs.contracts.Out as M-Out
 use Rattle.engine.proofs.Out.TheLaws as L-Out
 use Rattle.engine.specs.declared.Out.{Out}
+use Rattle.soundness.specs.Layout.{two_words}
 
 abbrev R-Head : RattleType
 R-Head = M-Head.the_row
@@ -109,12 +98,6 @@ R-Fields = M-Fields.the_row
 abbrev val-Fields : Fields → Val
 val-Fields d = LL.val M-Fields.the_type L-Fields.the_laws d
 
-abbrev R-Visited : RattleType
-R-Visited = M-Visited.the_row
-
-abbrev val-Visited : Visited → Val
-val-Visited d = LL.val M-Visited.the_type L-Visited.the_laws d
-
 abbrev R-Out : RattleType
 R-Out = M-Out.the_row
 
@@ -122,10 +105,10 @@ abbrev val-Out : Out → Val
 val-Out d = LL.val M-Out.the_type L-Out.the_laws d
 
 abbrev stayed : Stays (f'.ended).signature.params (f'.ended).kept
-stayed = (stay_none (λ _. R-Head) yes, (stay_slice (0 ∷ []) tt (plain (λ _. u32)), (stay_slice (1 ∷ []) tt (plain (λ _. u32)), (stay_slice (2 ∷ []) tt (plain (λ _. R-Frame)), (stay_slice (3 ∷ []) tt (plain (λ _. u32)), (stay_slice (4 ∷ []) tt (plain (λ _. u32)), (stay_none (λ _. R-Fields) yes, tt)))))))
+stayed = (stay_none (λ _. R-Head) yes, (stay_slice (0 ∷ []) tt (plain (λ _. u32)), (stay_slice (1 ∷ []) tt (plain (λ _. u32)), (stay_slice (2 ∷ []) tt (plain (λ _. R-Frame)), (stay_slice (3 ∷ []) tt (plain (λ _. u32)), (stay_none (λ _. R-Fields) yes, tt))))))
 
 module _ {M : Type 1} {𝓤 : Ura M} (𝓛 : Logic 𝓤) (mem : Memory → SProp 𝓤) (run : Routine → Fun 𝓤)
-    (κ-numbers : Lft) (q-numbers : Share) (b-numbers o-numbers : ℕ) (γ-numbers : GName) (numbers : List ℕ) (κ-deques : Lft) (q-deques : Share) (b-deques o-deques : ℕ) (γ-deques : GName) (deques : List ℕ) (κ-frames : Lft) (q-frames : Share) (b-frames o-frames : ℕ) (γ-frames : GName) (frames : List Frame) (κ-pool : Lft) (q-pool : Share) (b-pool o-pool : ℕ) (γ-pool : GName) (pool : List ℕ) (κ-memory : Lft) (q-memory : Share) (b-memory o-memory : ℕ) (γ-memory : GName) (memory : List ℕ) (h : Head) (h-good : Is R-Head h (val-Head h ∷ [])) (r : Fields) (r-good : Is R-Fields r (val-Fields r ∷ [])) (room-numbers : Room u32 (length numbers)) (room-deques : Room u32 (length deques)) (room-frames : Room R-Frame (length frames)) (room-pool : Room u32 (length pool)) (room-memory : Room u32 (length memory)) where
+    (κ-numbers : Lft) (q-numbers : Share) (b-numbers o-numbers : ℕ) (γ-numbers : GName) (numbers : List ℕ) (κ-deques : Lft) (q-deques : Share) (b-deques o-deques : ℕ) (γ-deques : GName) (deques : List ℕ) (κ-frames : Lft) (q-frames : Share) (b-frames o-frames : ℕ) (γ-frames : GName) (frames : List Frame) (κ-pool : Lft) (q-pool : Share) (b-pool o-pool : ℕ) (γ-pool : GName) (pool : List ℕ) (h : Head) (h-good : Is R-Head h (val-Head h ∷ [])) (r : Fields) (r-good : Is R-Fields r (val-Fields r ∷ [])) (room-numbers : Room u32 (length numbers)) (room-deques : Room u32 (length deques)) (room-frames : Room R-Frame (length frames)) (room-pool : Room u32 (length pool)) where
   open 𝓛 use {H}
 
   abbrev n-numbers : ℕ
@@ -140,141 +123,105 @@ module _ {M : Type 1} {𝓤 : Ura M} (𝓛 : Logic 𝓤) (mem : Memory → SProp
   abbrev n-pool : ℕ
   n-pool = length pool
 
-  abbrev n-memory : ℕ
-  n-memory = length memory
+  abbrev args' : Head × (MutBor (List ℕ) × (MutBor (List ℕ) × (MutBor (List Frame) × (MutBor (List ℕ) × (Fields × Unit {0})))))
+  args' = (h, (at_list b-numbers o-numbers γ-numbers numbers, (at_list b-deques o-deques γ-deques deques, (at_list b-frames o-frames γ-frames frames, (at_list b-pool o-pool γ-pool pool, (r, tt))))))
 
-  abbrev args' : Head × (MutBor (List ℕ) × (MutBor (List ℕ) × (MutBor (List Frame) × (MutBor (List ℕ) × (MutBor (List ℕ) × (Fields × Unit {0}))))))
-  args' = (h, (at_list b-numbers o-numbers γ-numbers numbers, (at_list b-deques o-deques γ-deques deques, (at_list b-frames o-frames γ-frames frames, (at_list b-pool o-pool γ-pool pool, (at_list b-memory o-memory γ-memory memory, (r, tt)))))))
-
-  abbrev vals' : Vals f'.signature (κ-numbers, (κ-deques, (κ-frames, (κ-pool, (κ-memory, tt)))))
-  vals' = (val-Head h ∷ [], (slice_val (b-numbers, o-numbers) (length numbers) ∷ [], (slice_val (b-deques, o-deques) (length deques) ∷ [], (slice_val (b-frames, o-frames) (length frames) ∷ [], (slice_val (b-pool, o-pool) (length pool) ∷ [], (slice_val (b-memory, o-memory) (length memory) ∷ [], (val-Fields r ∷ [], tt)))))))
+  abbrev vals' : Vals f'.signature (κ-numbers, (κ-deques, (κ-frames, (κ-pool, tt))))
+  vals' = (val-Head h ∷ [], (slice_val (b-numbers, o-numbers) (length numbers) ∷ [], (slice_val (b-deques, o-deques) (length deques) ∷ [], (slice_val (b-frames, o-frames) (length frames) ∷ [], (slice_val (b-pool, o-pool) (length pool) ∷ [], (val-Fields r ∷ [], tt))))))
 
   abbrev bound' : (walk_of 𝓛 f'.ended stayed (f'.clauses 𝓛 mem run)).Ghost
-  bound' = (((κ-numbers, (κ-deques, (κ-frames, (κ-pool, (κ-memory, tt))))), (q-numbers, (q-deques, (q-frames, (q-pool, (q-memory, tt))))), tt, args', vals'), tt)
+  bound' = (((κ-numbers, (κ-deques, (κ-frames, (κ-pool, tt)))), (q-numbers, (q-deques, (q-frames, (q-pool, tt)))), tt, args', vals'), tt)
 
   abbrev Post : Val → SProp 𝓤
   Post = (walk_of 𝓛 f'.ended stayed (f'.clauses 𝓛 mem run)).post bound'
 
-  exits' : (res' : Visited) (zs-numbers : List ℕ) (zs-deques : List ℕ) (zs-frames : List Frame) (zs-pool : List ℕ) (zs-memory : List ℕ) → Is R-Visited res' (val-Visited res' ∷ []) → (numbers_in zs-numbers ≡ numbers_in numbers) × Leaves h res'.out (totals_in zs-numbers) zs-deques zs-frames zs-pool (step_on two_words (core h (totals_in numbers) deques frames pool) (step_by r)) × RemembersRecord (core h (totals_in numbers) deques frames pool) memory (Valid (step_by r)) zs-memory res'.visits → length zs-numbers ≡ length numbers → length zs-deques ≡ length deques → length zs-frames ≡ length frames → length zs-pool ≡ length pool → length zs-memory ≡ length memory → ent 𝓤 (⋆ 𝓛 (‵ (Mine u32 κ-numbers q-numbers γ-numbers b-numbers o-numbers n-numbers zs-numbers) ∷ ‵ (Mine u32 κ-deques q-deques γ-deques b-deques o-deques n-deques zs-deques) ∷ ‵ (Mine R-Frame κ-frames q-frames γ-frames b-frames o-frames n-frames zs-frames) ∷ ‵ (Mine u32 κ-pool q-pool γ-pool b-pool o-pool n-pool zs-pool) ∷ ‵ (Mine u32 κ-memory q-memory γ-memory b-memory o-memory n-memory zs-memory) ∷ [])) (Post (val-Visited res'))
-  exits' res' zs-numbers zs-deques zs-frames zs-pool zs-memory good' e' same_numbers same-deques same-frames same-pool same_memory =
-      qed 𝓛 (‵ (Mine u32 κ-numbers q-numbers γ-numbers b-numbers o-numbers n-numbers zs-numbers) ∷ ‵ (Mine u32 κ-deques q-deques γ-deques b-deques o-deques n-deques zs-deques) ∷ ‵ (Mine R-Frame κ-frames q-frames γ-frames b-frames o-frames n-frames zs-frames) ∷ ‵ (Mine u32 κ-pool q-pool γ-pool b-pool o-pool n-pool zs-pool) ∷ ‵ (Mine u32 κ-memory q-memory γ-memory b-memory o-memory n-memory zs-memory) ∷ []) ∵
-      suffices ! _ (ends_at 𝓛 f'.ended stayed (f'.clauses 𝓛 mem run) bound' (val-Visited res') res' (tt, (zs-numbers, (zs-deques, (zs-frames, (zs-pool, (zs-memory, (tt, tt))))))) (tt, (same_numbers, (same-deques, (same-frames, (same-pool, (same_memory, (tt, tt)))))))) $ says ! e' $
-      fsplit ! $ move ! (2 ∷ []) $ fsplit ! $ move ! (4 ∷ []) $ fsplit ! $ move ! (6 ∷ []) $ fsplit ! $ move ! (8 ∷ []) $ fsplit ! $ nothing ! $ move ! (10 ∷ 8 ∷ 6 ∷ 4 ∷ 2 ∷ 0 ∷ []) $ group ! 6 $ frame ! $
-      nothing ! $ owned ! R-Fields (Is R-Fields) (LL.makes M-Fields.the_type L-Fields.the_plain 𝓛) r _ r-good $ fjoin ! $ move ! (1 ∷ 0 ∷ []) $ fjoin ! $ move ! (1 ∷ 0 ∷ []) $ fjoin ! $ move ! (1 ∷ 0 ∷ []) $ fjoin ! $ move ! (1 ∷ 0 ∷ []) $ fjoin ! $ move ! (1 ∷ 0 ∷ []) $ fjoin ! $ owned ! R-Head (Is R-Head) (LL.makes M-Head.the_type L-Head.the_plain 𝓛) h _ h-good $ fjoin ! $ frame ! $
-      owned ! R-Visited (Is R-Visited) (LL.makes M-Visited.the_type L-Visited.the_plain 𝓛) res' _ good' $ done !
+  exits' : (res' : Out) (zs-numbers : List ℕ) (zs-deques : List ℕ) (zs-frames : List Frame) (zs-pool : List ℕ) → Is R-Out res' (val-Out res' ∷ []) → (numbers_in zs-numbers ≡ numbers_in numbers) × Leaves h res' (totals_in zs-numbers) zs-deques zs-frames zs-pool (step_on two_words (core h (totals_in numbers) deques frames pool) (step_by r)) → length zs-numbers ≡ length numbers → length zs-deques ≡ length deques → length zs-frames ≡ length frames → length zs-pool ≡ length pool → ent 𝓤 (⋆ 𝓛 (‵ (Mine u32 κ-numbers q-numbers γ-numbers b-numbers o-numbers n-numbers zs-numbers) ∷ ‵ (Mine u32 κ-deques q-deques γ-deques b-deques o-deques n-deques zs-deques) ∷ ‵ (Mine R-Frame κ-frames q-frames γ-frames b-frames o-frames n-frames zs-frames) ∷ ‵ (Mine u32 κ-pool q-pool γ-pool b-pool o-pool n-pool zs-pool) ∷ [])) (Post (val-Out res'))
+  exits' res' zs-numbers zs-deques zs-frames zs-pool good' e' same_numbers same-deques same-frames same-pool =
+      qed 𝓛 (‵ (Mine u32 κ-numbers q-numbers γ-numbers b-numbers o-numbers n-numbers zs-numbers) ∷ ‵ (Mine u32 κ-deques q-deques γ-deques b-deques o-deques n-deques zs-deques) ∷ ‵ (Mine R-Frame κ-frames q-frames γ-frames b-frames o-frames n-frames zs-frames) ∷ ‵ (Mine u32 κ-pool q-pool γ-pool b-pool o-pool n-pool zs-pool) ∷ []) ∵
+      suffices ! _ (ends_at 𝓛 f'.ended stayed (f'.clauses 𝓛 mem run) bound' (val-Out res') res' (tt, (zs-numbers, (zs-deques, (zs-frames, (zs-pool, (tt, tt)))))) (tt, (same_numbers, (same-deques, (same-frames, (same-pool, (tt, tt))))))) $ says ! e' $
+      fsplit ! $ move ! (2 ∷ []) $ fsplit ! $ move ! (4 ∷ []) $ fsplit ! $ move ! (6 ∷ []) $ fsplit ! $ nothing ! $ move ! (8 ∷ 6 ∷ 4 ∷ 2 ∷ 0 ∷ []) $ group ! 5 $ frame ! $
+      nothing ! $ owned ! R-Fields (Is R-Fields) (LL.makes M-Fields.the_type L-Fields.the_plain 𝓛) r _ r-good $ fjoin ! $ move ! (1 ∷ 0 ∷ []) $ fjoin ! $ move ! (1 ∷ 0 ∷ []) $ fjoin ! $ move ! (1 ∷ 0 ∷ []) $ fjoin ! $ move ! (1 ∷ 0 ∷ []) $ fjoin ! $ owned ! R-Head (Is R-Head) (LL.makes M-Head.the_type L-Head.the_plain 𝓛) h _ h-good $ fjoin ! $ frame ! $
+      owned ! R-Out (Is R-Out) (LL.makes M-Out.the_type L-Out.the_plain 𝓛) res' _ good' $ done !
 
-  module _ (𝓣 : Tables 𝓤 H) (known-step-read : Triple 𝓤 (𝓣.C #step-read) (S-step-read.Asked 𝓛 mem run)) (known-step-write : Triple 𝓤 (𝓣.C #step-write) (S-step-write.Asked 𝓛 mem run)) (known-control-step : Triple 𝓤 (𝓣.C #control-step) (S-control-step.Asked 𝓛 mem run)) (known-empties : Triple 𝓤 (𝓣.C #empties) (S-empties.Asked 𝓛 mem run)) (known-empty : Triple 𝓤 (𝓣.C #empty) (S-empty.Asked 𝓛 mem run)) (known-visited : Triple 𝓤 (𝓣.C #visited) (S-visited.Asked 𝓛 mem run)) where
+  module _ (𝓣 : Tables 𝓤 H) (known-step-read : Triple 𝓤 (𝓣.C #step-read) (S-step-read.Asked 𝓛 mem run)) (known-step-write : Triple 𝓤 (𝓣.C #step-write) (S-step-write.Asked 𝓛 mem run)) (known-control-step : Triple 𝓤 (𝓣.C #control-step) (S-control-step.Asked 𝓛 mem run)) where
     abbrev fm : FmC 𝓤 H 𝓛.laws 𝓣.C
     fm = fm_of 𝓤 H 𝓛.laws 𝓣
 
-    walk : (length numbers ≡ number_count) × Ready (core h (totals_in numbers) deques frames pool) × Recalls (core h (totals_in numbers) deques frames pool) memory → ent 𝓤 (on_entry 𝓛 f'.signature (κ-numbers, (κ-deques, (κ-frames, (κ-pool, (κ-memory, tt))))) (q-numbers, (q-deques, (q-frames, (q-pool, (q-memory, tt))))) args' vals') (WpFn 𝓤 H 𝓣.C 𝓣.Λ code.function (val-Head h ∷ slice_val (b-numbers, o-numbers) (length numbers) ∷ slice_val (b-deques, o-deques) (length deques) ∷ slice_val (b-frames, o-frames) (length frames) ∷ slice_val (b-pool, o-pool) (length pool) ∷ slice_val (b-memory, o-memory) (length memory) ∷ val-Fields r ∷ []) Post)
+    walk : (length numbers ≡ number_count) × Ready (core h (totals_in numbers) deques frames pool) → ent 𝓤 (on_entry 𝓛 f'.signature (κ-numbers, (κ-deques, (κ-frames, (κ-pool, tt)))) (q-numbers, (q-deques, (q-frames, (q-pool, tt)))) args' vals') (WpFn 𝓤 H 𝓣.C 𝓣.Λ code.function (val-Head h ∷ slice_val (b-numbers, o-numbers) (length numbers) ∷ slice_val (b-deques, o-deques) (length deques) ∷ slice_val (b-frames, o-frames) (length frames) ∷ slice_val (b-pool, o-pool) (length pool) ∷ val-Fields r ∷ []) Post)
     walk ok' =
-        qed 𝓛 ((‵ (flft κ-numbers q-numbers) ⊛ ‵ (flft κ-deques q-deques) ⊛ ‵ (flft κ-frames q-frames) ⊛ ‵ (flft κ-pool q-pool) ⊛ ‵ (flft κ-memory q-memory) ⊛ ‵ ftrue) ∷ ‵ (owns (R-Head ∷ MutSlice (named 0) κ-numbers u32 ∷ MutSlice (named 1) κ-deques u32 ∷ MutSlice (named 2) κ-frames R-Frame ∷ MutSlice (named 3) κ-pool u32 ∷ MutSlice (named 4) κ-memory u32 ∷ R-Fields ∷ []) args' vals') ∷ []) ∵ enter ! 𝓣.C 𝓣.Λ code.function (val-Head h ∷ slice_val (b-numbers, o-numbers) (length numbers) ∷ slice_val (b-deques, o-deques) (length deques) ∷ slice_val (b-frames, o-frames) (length frames) ∷ slice_val (b-pool, o-pool) (length pool) ∷ slice_val (b-memory, o-memory) (length memory) ∷ val-Fields r ∷ []) _ $
-        alloc1 ! (λ l₀. alloc1 ! (λ l₁. alloc1 ! (λ l₂. alloc1 ! (λ l₃. alloc1 ! (λ l₄. alloc1 ! (λ l₅. alloc1 ! (λ l₆. alloc1 ! (λ l₇. alloc1 ! (λ l₈. alloc1 ! (λ l₉. alloc1 ! (λ l₁₀. alloc1 ! (λ l₁₁. alloc1 ! (λ l₁₂. alloc1 ! (λ l₁₃. alloc1 ! (λ l₁₄. alloc1 ! (λ l₁₅. alloc1 ! (λ l₁₆. alloc1 ! (λ l₁₇. alloc1 ! (λ l₁₈. alloc1 ! (λ l₁₉. alloc1 ! (λ l₂₀. alloc1 ! (λ l₂₁. alloc1 ! (λ l₂₂. alloc1 ! (λ l₂₃. alloc1 ! (λ l₂₄. alloc1 ! (λ l₂₅. alloc1 ! (λ l₂₆. alloc1 ! (λ l₂₇. alloc1 ! (λ l₂₈. alloc1 ! (λ l₂₉. alloc1 ! (λ l₃₀. alloc1 ! (λ l₃₁. alloc1 ! (λ l₃₂. alloc1 ! (λ l₃₃. alloc1 ! (λ l₃₄. alloc1 ! (λ l₃₅. alloc1 ! (λ l₃₆. alloc1 ! (λ l₃₇. alloc0 ! $ params1 ! $
-        pass1 ! (init ! 72 refl ((LL.lawful M-Head.the_type L-Head.the_laws 𝓛).typed h _ h-good).0) $ pass1 ! (init ! 70 refl (tt, (tt, (record { fits = room-numbers.0 }, tt)))) $ pass1 ! (init ! 68 refl (tt, (tt, (record { fits = room-deques.0 }, tt)))) $ pass1 ! (init ! 66 refl (tt, (tt, (record { fits = room-frames.0 }, tt)))) $ pass1 ! (init ! 64 refl (tt, (tt, (record { fits = room-pool.0 }, tt)))) $ pass1 ! (init ! 62 refl (tt, (tt, (record { fits = room-memory.0 }, tt)))) $ pass1 ! (init ! 60 refl ((LL.lawful M-Fields.the_type L-Fields.the_laws 𝓛).typed r _ r-good).0) $ pass0 ! $
-        move ! (77 ∷ []) $ fsplit ! $ drop ! $ fsplit ! $ move ! (1 ∷ []) $ fsplit ! $ move ! (1 ∷ []) $ fsplit ! $ move ! (1 ∷ []) $ fsplit ! $ move ! (1 ∷ []) $ fsplit ! $ move ! (1 ∷ []) $ fsplit ! $ drop ! $ drop ! $ move ! (81 ∷ []) $ split ! $ move ! (1 ∷ []) $ split ! $ move ! (1 ∷ []) $ split ! $ move ! (1 ∷ []) $ split ! $ move ! (1 ∷ []) $ split ! $ move ! (1 ∷ []) $ drop ! $ move ! (5 ∷ 0 ∷ []) $ fjoin ! $ move ! (5 ∷ 1 ∷ []) $ fjoin ! $ move ! (5 ∷ 2 ∷ []) $ fjoin ! $ move ! (5 ∷ 3 ∷ []) $ fjoin ! $ move ! (5 ∷ 4 ∷ []) $ fjoin ! $
-        -- [numbers; deques; frames; pool; memory; the locals]
-        assigns ! (bin ! (load ! (from ! (fld ! refl (stop !))) (look_in ! 65 (sub ! 0 refl (whole !)))) (const ! _ tt) tt) (from ! (stop !)) (init ! 61 refl (tt, tt)) $
-        leave_if ! (load ! (from ! (stop !)) (look ! 61 refl))
+        qed 𝓛 ((‵ (flft κ-numbers q-numbers) ⊛ ‵ (flft κ-deques q-deques) ⊛ ‵ (flft κ-frames q-frames) ⊛ ‵ (flft κ-pool q-pool) ⊛ ‵ ftrue) ∷ ‵ (owns (R-Head ∷ MutSlice (named 0) κ-numbers u32 ∷ MutSlice (named 1) κ-deques u32 ∷ MutSlice (named 2) κ-frames R-Frame ∷ MutSlice (named 3) κ-pool u32 ∷ R-Fields ∷ []) args' vals') ∷ []) ∵ enter ! 𝓣.C 𝓣.Λ code.function (val-Head h ∷ slice_val (b-numbers, o-numbers) (length numbers) ∷ slice_val (b-deques, o-deques) (length deques) ∷ slice_val (b-frames, o-frames) (length frames) ∷ slice_val (b-pool, o-pool) (length pool) ∷ val-Fields r ∷ []) _ $
+        alloc1 ! (λ l₀. alloc1 ! (λ l₁. alloc1 ! (λ l₂. alloc1 ! (λ l₃. alloc1 ! (λ l₄. alloc1 ! (λ l₅. alloc1 ! (λ l₆. alloc1 ! (λ l₇. alloc1 ! (λ l₈. alloc1 ! (λ l₉. alloc1 ! (λ l₁₀. alloc1 ! (λ l₁₁. alloc1 ! (λ l₁₂. alloc1 ! (λ l₁₃. alloc1 ! (λ l₁₄. alloc1 ! (λ l₁₅. alloc1 ! (λ l₁₆. alloc1 ! (λ l₁₇. alloc1 ! (λ l₁₈. alloc1 ! (λ l₁₉. alloc1 ! (λ l₂₀. alloc1 ! (λ l₂₁. alloc1 ! (λ l₂₂. alloc1 ! (λ l₂₃. alloc1 ! (λ l₂₄. alloc1 ! (λ l₂₅. alloc1 ! (λ l₂₆. alloc1 ! (λ l₂₇. alloc0 ! $ params1 ! $
+        pass1 ! (init ! 52 refl ((LL.lawful M-Head.the_type L-Head.the_laws 𝓛).typed h _ h-good).0) $ pass1 ! (init ! 50 refl (tt, (tt, (record { fits = room-numbers.0 }, tt)))) $ pass1 ! (init ! 48 refl (tt, (tt, (record { fits = room-deques.0 }, tt)))) $ pass1 ! (init ! 46 refl (tt, (tt, (record { fits = room-frames.0 }, tt)))) $ pass1 ! (init ! 44 refl (tt, (tt, (record { fits = room-pool.0 }, tt)))) $ pass1 ! (init ! 42 refl ((LL.lawful M-Fields.the_type L-Fields.the_laws 𝓛).typed r _ r-good).0) $ pass0 ! $
+        move ! (57 ∷ []) $ fsplit ! $ drop ! $ fsplit ! $ move ! (1 ∷ []) $ fsplit ! $ move ! (1 ∷ []) $ fsplit ! $ move ! (1 ∷ []) $ fsplit ! $ move ! (1 ∷ []) $ fsplit ! $ drop ! $ drop ! $ move ! (60 ∷ []) $ split ! $ move ! (1 ∷ []) $ split ! $ move ! (1 ∷ []) $ split ! $ move ! (1 ∷ []) $ split ! $ move ! (1 ∷ []) $ drop ! $ move ! (4 ∷ 0 ∷ []) $ fjoin ! $ move ! (4 ∷ 1 ∷ []) $ fjoin ! $ move ! (4 ∷ 2 ∷ []) $ fjoin ! $ move ! (4 ∷ 3 ∷ []) $ fjoin ! $
+        -- [numbers; deques; frames; pool; the locals]
+        assigns ! (bin ! (load ! (from ! (fld ! refl (stop !))) (look_in ! 46 (sub ! 0 refl (whole !)))) (const ! _ tt) tt) (from ! (stop !)) (init ! 44 refl (tt, tt)) $
+        leave_if ! (load ! (from ! (stop !)) (look ! 44 refl))
         (λ test-1.
-        assigns ! (addr ! (from ! (fld ! refl (hop ! (look_in ! 73 (sub ! 0 refl (whole !))) (stop !))))) (from ! (stop !)) (init ! 59 refl (tt, tt)) $
-        assigns ! (agg ! (and_then ! (load ! (from ! (stop !)) (look ! 59 refl)) (and_then ! (load ! (from ! (fld ! refl (stop !))) (look_in ! 73 (sub ! 1 refl (whole !)))) (no_more !)))) (from ! (stop !)) (init ! 57 refl (tt, (tt, (record { fits = room-deques.0 }, tt)))) $
-        assigns ! (addr ! (from ! (fld ! refl (hop ! (look_in ! 71 (sub ! 0 refl (whole !))) (stop !))))) (from ! (stop !)) (init ! 55 refl (tt, tt)) $
-        assigns ! (agg ! (and_then ! (load ! (from ! (stop !)) (look ! 55 refl)) (and_then ! (load ! (from ! (fld ! refl (stop !))) (look_in ! 71 (sub ! 1 refl (whole !)))) (no_more !)))) (from ! (stop !)) (init ! 53 refl (tt, (tt, (record { fits = room-frames.0 }, tt)))) $
-        assigns ! (addr ! (from ! (fld ! refl (hop ! (look_in ! 69 (sub ! 0 refl (whole !))) (stop !))))) (from ! (stop !)) (init ! 51 refl (tt, tt)) $
-        assigns ! (agg ! (and_then ! (load ! (from ! (stop !)) (look ! 51 refl)) (and_then ! (load ! (from ! (fld ! refl (stop !))) (look_in ! 69 (sub ! 1 refl (whole !)))) (no_more !)))) (from ! (stop !)) (init ! 49 refl (tt, (tt, (record { fits = room-pool.0 }, tt)))) $
-        assigns ! (addr ! (from ! (fld ! refl (hop ! (look_in ! 67 (sub ! 0 refl (whole !))) (stop !))))) (from ! (stop !)) (init ! 47 refl (tt, tt)) $
-        assigns ! (agg ! (and_then ! (load ! (from ! (stop !)) (look ! 47 refl)) (and_then ! (load ! (from ! (fld ! refl (stop !))) (look_in ! 67 (sub ! 1 refl (whole !)))) (no_more !)))) (from ! (stop !)) (init ! 45 refl (tt, (tt, (record { fits = room-memory.0 }, tt)))) $
-        -- _0 = engine::kinds::step_read(_1, _11, _13, _15, _17, _7.1, _7.2)
-        move ! (1 ∷ 2 ∷ 3 ∷ 4 ∷ []) $
-        S-step-read.step mem run ! fm known-step-read b-deques o-deques n-deques deques b-frames o-frames n-frames frames b-pool o-pool n-pool pool b-memory o-memory n-memory memory h r.w r.x h-good (LL.owed M-Fields.the_type L-Fields.the_laws r _ r-good).1.0.1 (LL.owed M-Fields.the_type L-Fields.the_laws r _ r-good).1.1.0.1 (F.needs-2 h numbers deques frames pool memory r room-numbers.0 room-deques.0 room-frames.0 room-pool.0 room-memory.0 ok' (eqb→eq r.kind 5 test-1)) (refl) room-deques (refl) room-frames (refl) room-pool (refl) room-memory
-        (λ ν-0 δ-0 ν-1 δ-1 ν-2 δ-2 ν-3 δ-3. and_then ! (load ! (from ! (stop !)) (look ! 78 refl)) (and_then ! (load ! (from ! (stop !)) (look ! 58 refl)) (and_then ! (load ! (from ! (stop !)) (look ! 54 refl)) (and_then ! (load ! (from ! (stop !)) (look ! 50 refl)) (and_then ! (load ! (from ! (stop !)) (look ! 46 refl)) (and_then ! (load ! (from ! (fld ! refl (stop !))) (look_in ! 66 (sub ! 1 refl (whole !)))) (and_then ! (load ! (from ! (fld ! refl (stop !))) (look_in ! 66 (sub ! 2 refl (whole !)))) (no_more !)))))))) (λ r-2 deques-2 frames-2 pool-2 memory-2 r-2-good r-2-is same-deques-2 same-frames-2 same-pool-2 same-memory-2.
-        land ! (from ! (stop !)) (init ! 79 refl ((LL.lawful M-Visited.the_type L-Visited.the_laws 𝓛).typed r-2 _ r-2-good).0) $
-        returns_within ! Post refl (look ! 79 refl) $ forget ! 45 refl $ forget ! 47 refl $ forget ! 49 refl $ forget ! 51 refl $ forget ! 53 refl $ forget ! 55 refl $ forget ! 57 refl $ forget ! 59 refl $ forget ! 61 refl $ forget ! 65 refl $ forget ! 67 refl $ forget ! 69 refl $ forget ! 71 refl $ forget ! 73 refl $ forget ! 75 refl $ forget ! 77 refl $ forget ! 79 refl $
-        free_all ! 5 refl $
-        move ! (4 ∷ 0 ∷ 1 ∷ 2 ∷ 3 ∷ []) $
-        by ! (exits' r-2 numbers deques-2 frames-2 pool-2 memory-2 r-2-good (F.out-3 h numbers deques frames pool memory r room-numbers.0 room-deques.0 room-frames.0 room-pool.0 room-memory.0 ok' (eqb→eq r.kind 5 test-1) r-2 deques-2 frames-2 pool-2 memory-2 r-2-is same-deques-2 same-frames-2 same-pool-2 same-memory-2) (refl) (same-deques-2) (same-frames-2) (same-pool-2) (same-memory-2))))
+        assigns ! (addr ! (from ! (fld ! refl (hop ! (look_in ! 52 (sub ! 0 refl (whole !))) (stop !))))) (from ! (stop !)) (init ! 42 refl (tt, tt)) $
+        assigns ! (agg ! (and_then ! (load ! (from ! (stop !)) (look ! 42 refl)) (and_then ! (load ! (from ! (fld ! refl (stop !))) (look_in ! 52 (sub ! 1 refl (whole !)))) (no_more !)))) (from ! (stop !)) (init ! 40 refl (tt, (tt, (record { fits = room-deques.0 }, tt)))) $
+        assigns ! (addr ! (from ! (fld ! refl (hop ! (look_in ! 50 (sub ! 0 refl (whole !))) (stop !))))) (from ! (stop !)) (init ! 38 refl (tt, tt)) $
+        assigns ! (agg ! (and_then ! (load ! (from ! (stop !)) (look ! 38 refl)) (and_then ! (load ! (from ! (fld ! refl (stop !))) (look_in ! 50 (sub ! 1 refl (whole !)))) (no_more !)))) (from ! (stop !)) (init ! 36 refl (tt, (tt, (record { fits = room-frames.0 }, tt)))) $
+        assigns ! (addr ! (from ! (fld ! refl (hop ! (look_in ! 48 (sub ! 0 refl (whole !))) (stop !))))) (from ! (stop !)) (init ! 34 refl (tt, tt)) $
+        assigns ! (agg ! (and_then ! (load ! (from ! (stop !)) (look ! 34 refl)) (and_then ! (load ! (from ! (fld ! refl (stop !))) (look_in ! 48 (sub ! 1 refl (whole !)))) (no_more !)))) (from ! (stop !)) (init ! 32 refl (tt, (tt, (record { fits = room-pool.0 }, tt)))) $
+        -- _0 = engine::kinds::step_read(_1, _9, _11, _13, _6.1, _6.2)
+        move ! (1 ∷ 2 ∷ 3 ∷ []) $
+        S-step-read.step mem run ! fm known-step-read b-deques o-deques n-deques deques b-frames o-frames n-frames frames b-pool o-pool n-pool pool h r.w r.x h-good (LL.owed M-Fields.the_type L-Fields.the_laws r _ r-good).1.0.1 (LL.owed M-Fields.the_type L-Fields.the_laws r _ r-good).1.1.0.1 (F.needs-2 h numbers deques frames pool r room-numbers.0 room-deques.0 room-frames.0 room-pool.0 ok' (eqb→eq r.kind 5 test-1)) (refl) room-deques (refl) room-frames (refl) room-pool
+        (λ ν-0 δ-0 ν-1 δ-1 ν-2 δ-2. and_then ! (load ! (from ! (stop !)) (look ! 57 refl)) (and_then ! (load ! (from ! (stop !)) (look ! 41 refl)) (and_then ! (load ! (from ! (stop !)) (look ! 37 refl)) (and_then ! (load ! (from ! (stop !)) (look ! 33 refl)) (and_then ! (load ! (from ! (fld ! refl (stop !))) (look_in ! 47 (sub ! 1 refl (whole !)))) (and_then ! (load ! (from ! (fld ! refl (stop !))) (look_in ! 47 (sub ! 2 refl (whole !)))) (no_more !))))))) (λ r-2 deques-2 frames-2 pool-2 r-2-good r-2-is same-deques-2 same-frames-2 same-pool-2.
+        land ! (from ! (stop !)) (init ! 58 refl ((LL.lawful M-Out.the_type L-Out.the_laws 𝓛).typed r-2 _ r-2-good).0) $
+        returns_within ! Post refl (look ! 58 refl) $ forget ! 32 refl $ forget ! 34 refl $ forget ! 36 refl $ forget ! 38 refl $ forget ! 40 refl $ forget ! 42 refl $ forget ! 44 refl $ forget ! 46 refl $ forget ! 48 refl $ forget ! 50 refl $ forget ! 52 refl $ forget ! 54 refl $ forget ! 56 refl $ forget ! 58 refl $
+        free_all ! 4 refl $
+        move ! (3 ∷ 0 ∷ 1 ∷ 2 ∷ []) $
+        by ! (exits' r-2 numbers deques-2 frames-2 pool-2 r-2-good (F.out-3 h numbers deques frames pool r room-numbers.0 room-deques.0 room-frames.0 room-pool.0 ok' (eqb→eq r.kind 5 test-1) r-2 deques-2 frames-2 pool-2 r-2-is same-deques-2 same-frames-2 same-pool-2) (refl) (same-deques-2) (same-frames-2) (same-pool-2))))
         (λ test-1.
-        assigns ! (bin ! (load ! (from ! (fld ! refl (stop !))) (look_in ! 65 (sub ! 0 refl (whole !)))) (const ! _ tt) tt) (from ! (stop !)) (store ! 61 refl (tt, tt)) $
-        leave_if ! (load ! (from ! (stop !)) (look ! 61 refl))
+        assigns ! (bin ! (load ! (from ! (fld ! refl (stop !))) (look_in ! 46 (sub ! 0 refl (whole !)))) (const ! _ tt) tt) (from ! (stop !)) (store ! 44 refl (tt, tt)) $
+        leave_if ! (load ! (from ! (stop !)) (look ! 44 refl))
         (λ test-4.
-        assigns ! (addr ! (from ! (fld ! refl (hop ! (look_in ! 73 (sub ! 0 refl (whole !))) (stop !))))) (from ! (stop !)) (init ! 43 refl (tt, tt)) $
-        assigns ! (agg ! (and_then ! (load ! (from ! (stop !)) (look ! 43 refl)) (and_then ! (load ! (from ! (fld ! refl (stop !))) (look_in ! 73 (sub ! 1 refl (whole !)))) (no_more !)))) (from ! (stop !)) (init ! 41 refl (tt, (tt, (record { fits = room-deques.0 }, tt)))) $
-        assigns ! (addr ! (from ! (fld ! refl (hop ! (look_in ! 71 (sub ! 0 refl (whole !))) (stop !))))) (from ! (stop !)) (init ! 39 refl (tt, tt)) $
-        assigns ! (agg ! (and_then ! (load ! (from ! (stop !)) (look ! 39 refl)) (and_then ! (load ! (from ! (fld ! refl (stop !))) (look_in ! 71 (sub ! 1 refl (whole !)))) (no_more !)))) (from ! (stop !)) (init ! 37 refl (tt, (tt, (record { fits = room-frames.0 }, tt)))) $
-        assigns ! (addr ! (from ! (fld ! refl (hop ! (look_in ! 69 (sub ! 0 refl (whole !))) (stop !))))) (from ! (stop !)) (init ! 35 refl (tt, tt)) $
-        assigns ! (agg ! (and_then ! (load ! (from ! (stop !)) (look ! 35 refl)) (and_then ! (load ! (from ! (fld ! refl (stop !))) (look_in ! 69 (sub ! 1 refl (whole !)))) (no_more !)))) (from ! (stop !)) (init ! 33 refl (tt, (tt, (record { fits = room-pool.0 }, tt)))) $
-        assigns ! (addr ! (from ! (fld ! refl (hop ! (look_in ! 67 (sub ! 0 refl (whole !))) (stop !))))) (from ! (stop !)) (init ! 31 refl (tt, tt)) $
-        assigns ! (agg ! (and_then ! (load ! (from ! (stop !)) (look ! 31 refl)) (and_then ! (load ! (from ! (fld ! refl (stop !))) (look_in ! 67 (sub ! 1 refl (whole !)))) (no_more !)))) (from ! (stop !)) (init ! 29 refl (tt, (tt, (record { fits = room-memory.0 }, tt)))) $
-        -- _0 = engine::kinds::step_write(_1, _19, _21, _23, _25, _7.1, _7.2, _7.3)
-        move ! (1 ∷ 2 ∷ 3 ∷ 4 ∷ []) $
-        S-step-write.step mem run ! fm known-step-write b-deques o-deques n-deques deques b-frames o-frames n-frames frames b-pool o-pool n-pool pool b-memory o-memory n-memory memory h r.w r.x r.v h-good (LL.owed M-Fields.the_type L-Fields.the_laws r _ r-good).1.0.1 (LL.owed M-Fields.the_type L-Fields.the_laws r _ r-good).1.1.0.1 (LL.owed M-Fields.the_type L-Fields.the_laws r _ r-good).1.1.1.0.1 (F.needs-5 h numbers deques frames pool memory r room-numbers.0 room-deques.0 room-frames.0 room-pool.0 room-memory.0 ok' (differ r.kind 5 test-1) (eqb→eq r.kind 6 test-4)) (refl) room-deques (refl) room-frames (refl) room-pool (refl) room-memory
-        (λ ν-0 δ-0 ν-1 δ-1 ν-2 δ-2 ν-3 δ-3. and_then ! (load ! (from ! (stop !)) (look ! 78 refl)) (and_then ! (load ! (from ! (stop !)) (look ! 42 refl)) (and_then ! (load ! (from ! (stop !)) (look ! 38 refl)) (and_then ! (load ! (from ! (stop !)) (look ! 34 refl)) (and_then ! (load ! (from ! (stop !)) (look ! 30 refl)) (and_then ! (load ! (from ! (fld ! refl (stop !))) (look_in ! 66 (sub ! 1 refl (whole !)))) (and_then ! (load ! (from ! (fld ! refl (stop !))) (look_in ! 66 (sub ! 2 refl (whole !)))) (and_then ! (load ! (from ! (fld ! refl (stop !))) (look_in ! 66 (sub ! 3 refl (whole !)))) (no_more !))))))))) (λ r-5 deques-5 frames-5 pool-5 memory-5 r-5-good r-5-is same-deques-5 same-frames-5 same-pool-5 same-memory-5.
-        land ! (from ! (stop !)) (init ! 79 refl ((LL.lawful M-Visited.the_type L-Visited.the_laws 𝓛).typed r-5 _ r-5-good).0) $
-        returns_within ! Post refl (look ! 79 refl) $ forget ! 29 refl $ forget ! 31 refl $ forget ! 33 refl $ forget ! 35 refl $ forget ! 37 refl $ forget ! 39 refl $ forget ! 41 refl $ forget ! 43 refl $ forget ! 61 refl $ forget ! 65 refl $ forget ! 67 refl $ forget ! 69 refl $ forget ! 71 refl $ forget ! 73 refl $ forget ! 75 refl $ forget ! 77 refl $ forget ! 79 refl $
-        free_all ! 5 refl $
-        move ! (4 ∷ 0 ∷ 1 ∷ 2 ∷ 3 ∷ []) $
-        by ! (exits' r-5 numbers deques-5 frames-5 pool-5 memory-5 r-5-good (F.out-6 h numbers deques frames pool memory r room-numbers.0 room-deques.0 room-frames.0 room-pool.0 room-memory.0 ok' (differ r.kind 5 test-1) (eqb→eq r.kind 6 test-4) r-5 deques-5 frames-5 pool-5 memory-5 r-5-is same-deques-5 same-frames-5 same-pool-5 same-memory-5) (refl) (same-deques-5) (same-frames-5) (same-pool-5) (same-memory-5))))
+        assigns ! (addr ! (from ! (fld ! refl (hop ! (look_in ! 52 (sub ! 0 refl (whole !))) (stop !))))) (from ! (stop !)) (init ! 30 refl (tt, tt)) $
+        assigns ! (agg ! (and_then ! (load ! (from ! (stop !)) (look ! 30 refl)) (and_then ! (load ! (from ! (fld ! refl (stop !))) (look_in ! 52 (sub ! 1 refl (whole !)))) (no_more !)))) (from ! (stop !)) (init ! 28 refl (tt, (tt, (record { fits = room-deques.0 }, tt)))) $
+        assigns ! (addr ! (from ! (fld ! refl (hop ! (look_in ! 50 (sub ! 0 refl (whole !))) (stop !))))) (from ! (stop !)) (init ! 26 refl (tt, tt)) $
+        assigns ! (agg ! (and_then ! (load ! (from ! (stop !)) (look ! 26 refl)) (and_then ! (load ! (from ! (fld ! refl (stop !))) (look_in ! 50 (sub ! 1 refl (whole !)))) (no_more !)))) (from ! (stop !)) (init ! 24 refl (tt, (tt, (record { fits = room-frames.0 }, tt)))) $
+        assigns ! (addr ! (from ! (fld ! refl (hop ! (look_in ! 48 (sub ! 0 refl (whole !))) (stop !))))) (from ! (stop !)) (init ! 22 refl (tt, tt)) $
+        assigns ! (agg ! (and_then ! (load ! (from ! (stop !)) (look ! 22 refl)) (and_then ! (load ! (from ! (fld ! refl (stop !))) (look_in ! 48 (sub ! 1 refl (whole !)))) (no_more !)))) (from ! (stop !)) (init ! 20 refl (tt, (tt, (record { fits = room-pool.0 }, tt)))) $
+        -- _0 = engine::kinds::step_write(_1, _15, _17, _19, _6.1, _6.2, _6.3)
+        move ! (1 ∷ 2 ∷ 3 ∷ []) $
+        S-step-write.step mem run ! fm known-step-write b-deques o-deques n-deques deques b-frames o-frames n-frames frames b-pool o-pool n-pool pool h r.w r.x r.v h-good (LL.owed M-Fields.the_type L-Fields.the_laws r _ r-good).1.0.1 (LL.owed M-Fields.the_type L-Fields.the_laws r _ r-good).1.1.0.1 (LL.owed M-Fields.the_type L-Fields.the_laws r _ r-good).1.1.1.0.1 (F.needs-5 h numbers deques frames pool r room-numbers.0 room-deques.0 room-frames.0 room-pool.0 ok' (differ r.kind 5 test-1) (eqb→eq r.kind 6 test-4)) (refl) room-deques (refl) room-frames (refl) room-pool
+        (λ ν-0 δ-0 ν-1 δ-1 ν-2 δ-2. and_then ! (load ! (from ! (stop !)) (look ! 57 refl)) (and_then ! (load ! (from ! (stop !)) (look ! 29 refl)) (and_then ! (load ! (from ! (stop !)) (look ! 25 refl)) (and_then ! (load ! (from ! (stop !)) (look ! 21 refl)) (and_then ! (load ! (from ! (fld ! refl (stop !))) (look_in ! 47 (sub ! 1 refl (whole !)))) (and_then ! (load ! (from ! (fld ! refl (stop !))) (look_in ! 47 (sub ! 2 refl (whole !)))) (and_then ! (load ! (from ! (fld ! refl (stop !))) (look_in ! 47 (sub ! 3 refl (whole !)))) (no_more !)))))))) (λ r-5 deques-5 frames-5 pool-5 r-5-good r-5-is same-deques-5 same-frames-5 same-pool-5.
+        land ! (from ! (stop !)) (init ! 58 refl ((LL.lawful M-Out.the_type L-Out.the_laws 𝓛).typed r-5 _ r-5-good).0) $
+        returns_within ! Post refl (look ! 58 refl) $ forget ! 20 refl $ forget ! 22 refl $ forget ! 24 refl $ forget ! 26 refl $ forget ! 28 refl $ forget ! 30 refl $ forget ! 44 refl $ forget ! 46 refl $ forget ! 48 refl $ forget ! 50 refl $ forget ! 52 refl $ forget ! 54 refl $ forget ! 56 refl $ forget ! 58 refl $
+        free_all ! 4 refl $
+        move ! (3 ∷ 0 ∷ 1 ∷ 2 ∷ []) $
+        by ! (exits' r-5 numbers deques-5 frames-5 pool-5 r-5-good (F.out-6 h numbers deques frames pool r room-numbers.0 room-deques.0 room-frames.0 room-pool.0 ok' (differ r.kind 5 test-1) (eqb→eq r.kind 6 test-4) r-5 deques-5 frames-5 pool-5 r-5-is same-deques-5 same-frames-5 same-pool-5) (refl) (same-deques-5) (same-frames-5) (same-pool-5))))
         (λ test-4.
-        assigns ! (addr ! (from ! (fld ! refl (hop ! (look_in ! 75 (sub ! 0 refl (whole !))) (stop !))))) (from ! (stop !)) (init ! 27 refl (tt, tt)) $
-        assigns ! (agg ! (and_then ! (load ! (from ! (stop !)) (look ! 27 refl)) (and_then ! (load ! (from ! (fld ! refl (stop !))) (look_in ! 75 (sub ! 1 refl (whole !)))) (no_more !)))) (from ! (stop !)) (init ! 25 refl (tt, (tt, (record { fits = room-numbers.0 }, tt)))) $
-        assigns ! (addr ! (from ! (fld ! refl (hop ! (look_in ! 73 (sub ! 0 refl (whole !))) (stop !))))) (from ! (stop !)) (init ! 23 refl (tt, tt)) $
-        assigns ! (agg ! (and_then ! (load ! (from ! (stop !)) (look ! 23 refl)) (and_then ! (load ! (from ! (fld ! refl (stop !))) (look_in ! 73 (sub ! 1 refl (whole !)))) (no_more !)))) (from ! (stop !)) (init ! 21 refl (tt, (tt, (record { fits = room-deques.0 }, tt)))) $
-        assigns ! (addr ! (from ! (fld ! refl (hop ! (look_in ! 71 (sub ! 0 refl (whole !))) (stop !))))) (from ! (stop !)) (init ! 19 refl (tt, tt)) $
-        assigns ! (agg ! (and_then ! (load ! (from ! (stop !)) (look ! 19 refl)) (and_then ! (load ! (from ! (fld ! refl (stop !))) (look_in ! 71 (sub ! 1 refl (whole !)))) (no_more !)))) (from ! (stop !)) (init ! 17 refl (tt, (tt, (record { fits = room-frames.0 }, tt)))) $
-        assigns ! (addr ! (from ! (fld ! refl (hop ! (look_in ! 69 (sub ! 0 refl (whole !))) (stop !))))) (from ! (stop !)) (init ! 15 refl (tt, tt)) $
-        assigns ! (agg ! (and_then ! (load ! (from ! (stop !)) (look ! 15 refl)) (and_then ! (load ! (from ! (fld ! refl (stop !))) (look_in ! 69 (sub ! 1 refl (whole !)))) (no_more !)))) (from ! (stop !)) (init ! 13 refl (tt, (tt, (record { fits = room-pool.0 }, tt)))) $
-        -- _8 = engine::records::control_step(_1, _27, _29, _31, _33, _7)
-        S-control-step.step mem run ! fm known-control-step b-numbers o-numbers n-numbers numbers b-deques o-deques n-deques deques b-frames o-frames n-frames frames b-pool o-pool n-pool pool h r h-good r-good (F.needs-7 h numbers deques frames pool memory r room-numbers.0 room-deques.0 room-frames.0 room-pool.0 room-memory.0 ok' (differ r.kind 5 test-1) (differ r.kind 6 test-4)) (refl) room-numbers (refl) room-deques (refl) room-frames (refl) room-pool
-        (λ ν-0 δ-0 ν-1 δ-1 ν-2 δ-2 ν-3 δ-3. and_then ! (load ! (from ! (stop !)) (look ! 78 refl)) (and_then ! (load ! (from ! (stop !)) (look ! 26 refl)) (and_then ! (load ! (from ! (stop !)) (look ! 22 refl)) (and_then ! (load ! (from ! (stop !)) (look ! 18 refl)) (and_then ! (load ! (from ! (stop !)) (look ! 14 refl)) (and_then ! (load ! (from ! (stop !)) (look ! 66 refl)) (no_more !))))))) (λ out numbers-7 deques-7 frames-7 pool-7 out-good out-is same-numbers-7 same-deques-7 same-frames-7 same-pool-7.
-        land ! (from ! (stop !)) (init ! 63 refl ((LL.lawful M-Out.the_type L-Out.the_laws 𝓛).typed out _ out-good).0) $
-        -- _34 = engine::records::empties(_8.3)
-        S-empties.step mem run ! fm known-empties out.first (LL.owed M-Out.the_type L-Out.the_laws out _ out-good).1.1.1.0.1
-        (and_then ! (load ! (from ! (fld ! refl (stop !))) (look_in ! 64 (sub ! 3 refl (whole !)))) (no_more !)) (λ r-8 r-8-is.
-        land ! (from ! (stop !)) (init ! 11 refl (tt, tt)) $
-        fork ! (load ! (from ! (stop !)) (look ! 11 refl))
-        (λ test-9.
-        regroup ! $
-        assigns ! (addr ! (from ! (fld ! refl (hop ! (look_in ! 67 (sub ! 0 refl (whole !))) (stop !))))) (from ! (stop !)) (init ! 7 refl (tt, tt)) $
-        regroup ! $
-        assigns ! (agg ! (and_then ! (load ! (from ! (stop !)) (look ! 7 refl)) (and_then ! (load ! (from ! (fld ! refl (stop !))) (look_in ! 67 (sub ! 1 refl (whole !)))) (no_more !)))) (from ! (stop !)) (init ! 5 refl (tt, (tt, (record { fits = room-memory.0 }, tt)))) $
-        -- _35 = memory::empty(_37, _7.1)
-        move ! (4 ∷ []) $
-        S-empty.step mem run ! fm known-empty b-memory o-memory n-memory memory r.w (LL.owed M-Fields.the_type L-Fields.the_laws r _ r-good).1.0.1 (F.needs-10 h numbers deques frames pool memory r room-numbers.0 room-deques.0 room-frames.0 room-pool.0 room-memory.0 ok' (differ r.kind 5 test-1) (differ r.kind 6 test-4) out numbers-7 deques-7 frames-7 pool-7 out-is same-numbers-7 same-deques-7 same-frames-7 same-pool-7 r-8 r-8-is (is_true r-8 test-9)) (refl) room-memory
-        (λ ν-0 δ-0. and_then ! (load ! (from ! (stop !)) (look ! 6 refl)) (and_then ! (load ! (from ! (fld ! refl (stop !))) (look_in ! 66 (sub ! 1 refl (whole !)))) (no_more !))) (λ memory-10 done-10 same-memory-10.
-        land ! (from ! (stop !)) (init ! 9 refl (tt, tt)) $
-        -- _0 = engine::kinds::visited(_8, 0)
-        S-visited.step mem run ! fm known-visited out 0 out-good (lit< tt)
-        (and_then ! (load ! (from ! (stop !)) (look ! 64 refl)) (and_then ! (const ! _ tt) (no_more !))) (λ r-11 r-11-good r-11-is.
-        land ! (from ! (stop !)) (init ! 79 refl ((LL.lawful M-Visited.the_type L-Visited.the_laws 𝓛).typed r-11 _ r-11-good).0) $
-        returns_within ! Post refl (look ! 79 refl) $ forget ! 5 refl $ forget ! 7 refl $ forget ! 9 refl $ forget ! 11 refl $ forget ! 13 refl $ forget ! 15 refl $ forget ! 17 refl $ forget ! 19 refl $ forget ! 21 refl $ forget ! 23 refl $ forget ! 25 refl $ forget ! 27 refl $ forget ! 61 refl $ forget ! 63 refl $ forget ! 65 refl $ forget ! 67 refl $ forget ! 69 refl $ forget ! 71 refl $ forget ! 73 refl $ forget ! 75 refl $ forget ! 77 refl $ forget ! 79 refl $
-        free_all ! 5 refl $
-        move ! (1 ∷ 2 ∷ 3 ∷ 4 ∷ 0 ∷ []) $
-        by ! (exits' r-11 numbers-7 deques-7 frames-7 pool-7 memory-10 r-11-good (F.out-12 h numbers deques frames pool memory r room-numbers.0 room-deques.0 room-frames.0 room-pool.0 room-memory.0 ok' (differ r.kind 5 test-1) (differ r.kind 6 test-4) out numbers-7 deques-7 frames-7 pool-7 out-is same-numbers-7 same-deques-7 same-frames-7 same-pool-7 r-8 r-8-is (is_true r-8 test-9) memory-10 done-10 same-memory-10 r-11 r-11-is) (same-numbers-7) (same-deques-7) (same-frames-7) (same-pool-7) (same-memory-10)))))
-        (λ test-9.
-        skipped ! $
-        -- _0 = engine::kinds::visited(_8, 0)
-        S-visited.step mem run ! fm known-visited out 0 out-good (lit< tt)
-        (and_then ! (load ! (from ! (stop !)) (look ! 64 refl)) (and_then ! (const ! _ tt) (no_more !))) (λ r-13 r-13-good r-13-is.
-        land ! (from ! (stop !)) (init ! 79 refl ((LL.lawful M-Visited.the_type L-Visited.the_laws 𝓛).typed r-13 _ r-13-good).0) $
-        returns_within ! Post refl (look ! 79 refl) $ forget ! 11 refl $ forget ! 13 refl $ forget ! 15 refl $ forget ! 17 refl $ forget ! 19 refl $ forget ! 21 refl $ forget ! 23 refl $ forget ! 25 refl $ forget ! 27 refl $ forget ! 61 refl $ forget ! 63 refl $ forget ! 65 refl $ forget ! 67 refl $ forget ! 69 refl $ forget ! 71 refl $ forget ! 73 refl $ forget ! 75 refl $ forget ! 77 refl $ forget ! 79 refl $
-        free_all ! 5 refl $
-        by ! (exits' r-13 numbers-7 deques-7 frames-7 pool-7 memory r-13-good (F.out-14 h numbers deques frames pool memory r room-numbers.0 room-deques.0 room-frames.0 room-pool.0 room-memory.0 ok' (differ r.kind 5 test-1) (differ r.kind 6 test-4) out numbers-7 deques-7 frames-7 pool-7 out-is same-numbers-7 same-deques-7 same-frames-7 same-pool-7 r-8 r-8-is (is_false r-8 test-9) r-13 r-13-is) (same-numbers-7) (same-deques-7) (same-frames-7) (same-pool-7) (refl))))))))))))))))))))))))))))))))))))))))))))))
+        assigns ! (addr ! (from ! (fld ! refl (hop ! (look_in ! 54 (sub ! 0 refl (whole !))) (stop !))))) (from ! (stop !)) (init ! 18 refl (tt, tt)) $
+        assigns ! (agg ! (and_then ! (load ! (from ! (stop !)) (look ! 18 refl)) (and_then ! (load ! (from ! (fld ! refl (stop !))) (look_in ! 54 (sub ! 1 refl (whole !)))) (no_more !)))) (from ! (stop !)) (init ! 16 refl (tt, (tt, (record { fits = room-numbers.0 }, tt)))) $
+        assigns ! (addr ! (from ! (fld ! refl (hop ! (look_in ! 52 (sub ! 0 refl (whole !))) (stop !))))) (from ! (stop !)) (init ! 14 refl (tt, tt)) $
+        assigns ! (agg ! (and_then ! (load ! (from ! (stop !)) (look ! 14 refl)) (and_then ! (load ! (from ! (fld ! refl (stop !))) (look_in ! 52 (sub ! 1 refl (whole !)))) (no_more !)))) (from ! (stop !)) (init ! 12 refl (tt, (tt, (record { fits = room-deques.0 }, tt)))) $
+        assigns ! (addr ! (from ! (fld ! refl (hop ! (look_in ! 50 (sub ! 0 refl (whole !))) (stop !))))) (from ! (stop !)) (init ! 10 refl (tt, tt)) $
+        assigns ! (agg ! (and_then ! (load ! (from ! (stop !)) (look ! 10 refl)) (and_then ! (load ! (from ! (fld ! refl (stop !))) (look_in ! 50 (sub ! 1 refl (whole !)))) (no_more !)))) (from ! (stop !)) (init ! 8 refl (tt, (tt, (record { fits = room-frames.0 }, tt)))) $
+        assigns ! (addr ! (from ! (fld ! refl (hop ! (look_in ! 48 (sub ! 0 refl (whole !))) (stop !))))) (from ! (stop !)) (init ! 6 refl (tt, tt)) $
+        assigns ! (agg ! (and_then ! (load ! (from ! (stop !)) (look ! 6 refl)) (and_then ! (load ! (from ! (fld ! refl (stop !))) (look_in ! 48 (sub ! 1 refl (whole !)))) (no_more !)))) (from ! (stop !)) (init ! 4 refl (tt, (tt, (record { fits = room-pool.0 }, tt)))) $
+        -- _0 = engine::records::control_step(_1, _21, _23, _25, _27, _6)
+        S-control-step.step mem run ! fm known-control-step b-numbers o-numbers n-numbers numbers b-deques o-deques n-deques deques b-frames o-frames n-frames frames b-pool o-pool n-pool pool h r h-good r-good (F.needs-7 h numbers deques frames pool r room-numbers.0 room-deques.0 room-frames.0 room-pool.0 ok' (differ r.kind 5 test-1) (differ r.kind 6 test-4)) (refl) room-numbers (refl) room-deques (refl) room-frames (refl) room-pool
+        (λ ν-0 δ-0 ν-1 δ-1 ν-2 δ-2 ν-3 δ-3. and_then ! (load ! (from ! (stop !)) (look ! 57 refl)) (and_then ! (load ! (from ! (stop !)) (look ! 17 refl)) (and_then ! (load ! (from ! (stop !)) (look ! 13 refl)) (and_then ! (load ! (from ! (stop !)) (look ! 9 refl)) (and_then ! (load ! (from ! (stop !)) (look ! 5 refl)) (and_then ! (load ! (from ! (stop !)) (look ! 47 refl)) (no_more !))))))) (λ r-7 numbers-7 deques-7 frames-7 pool-7 r-7-good r-7-is same-numbers-7 same-deques-7 same-frames-7 same-pool-7.
+        land ! (from ! (stop !)) (init ! 58 refl ((LL.lawful M-Out.the_type L-Out.the_laws 𝓛).typed r-7 _ r-7-good).0) $
+        returns_within ! Post refl (look ! 58 refl) $ forget ! 4 refl $ forget ! 6 refl $ forget ! 8 refl $ forget ! 10 refl $ forget ! 12 refl $ forget ! 14 refl $ forget ! 16 refl $ forget ! 18 refl $ forget ! 44 refl $ forget ! 46 refl $ forget ! 48 refl $ forget ! 50 refl $ forget ! 52 refl $ forget ! 54 refl $ forget ! 56 refl $ forget ! 58 refl $
+        free_all ! 4 refl $
+        by ! (exits' r-7 numbers-7 deques-7 frames-7 pool-7 r-7-good (F.out-8 h numbers deques frames pool r room-numbers.0 room-deques.0 room-frames.0 room-pool.0 ok' (differ r.kind 5 test-1) (differ r.kind 6 test-4) r-7 numbers-7 deques-7 frames-7 pool-7 r-7-is same-numbers-7 same-deques-7 same-frames-7 same-pool-7) (same-numbers-7) (same-deques-7) (same-frames-7) (same-pool-7)))))))))))))))))))))))))))))))))
 
 module _ {M : Type 1} {𝓤 : Ura M} (𝓛 : Logic 𝓤) (mem : Memory → SProp 𝓤) (run : Routine → Fun 𝓤) (𝓣 : Tables 𝓤 𝓛.H) where
   open 𝓛 use {H}
 
-  walks : Triple 𝓤 (𝓣.C #step-read) (S-step-read.Asked 𝓛 mem run) → Triple 𝓤 (𝓣.C #step-write) (S-step-write.Asked 𝓛 mem run) → Triple 𝓤 (𝓣.C #control-step) (S-control-step.Asked 𝓛 mem run) → Triple 𝓤 (𝓣.C #empties) (S-empties.Asked 𝓛 mem run) → Triple 𝓤 (𝓣.C #empty) (S-empty.Asked 𝓛 mem run) → Triple 𝓤 (𝓣.C #visited) (S-visited.Asked 𝓛 mem run) → Walks 𝓛 f'.ended stayed (WpFn 𝓤 H 𝓣.C 𝓣.Λ code.function) (f'.clauses 𝓛 mem run)
-  walks known-step-read known-step-write known-control-step known-empties known-empty known-visited = walked 𝓛 f'.ended stayed (f'.clauses 𝓛 mem run) (WpFn 𝓤 H 𝓣.C 𝓣.Λ code.function)
-      (λ κs. (LL.vals M-Head.the_type L-Head.the_laws, (mut_slice_vals, (mut_slice_vals, (mut_slice_vals, (mut_slice_vals, (mut_slice_vals, (LL.vals M-Fields.the_type L-Fields.the_laws, tt))))))))
-      (λ κs. (LL.tells M-Head.the_type L-Head.the_laws, (mut_slice_Tells (named 0) κs.0 u32, (mut_slice_Tells (named 1) κs.1.0 u32, (mut_slice_Tells (named 2) κs.1.1.0 R-Frame, (mut_slice_Tells (named 3) κs.1.1.1.0 u32, (mut_slice_Tells (named 4) κs.1.1.1.1.0 u32, (LL.tells M-Fields.the_type L-Fields.the_laws, tt))))))))
-      (λ κs qs bounds a g are. needs 𝓤 ((length a.1.0.now ≡ number_count) × Ready (core a.0 (totals_in a.1.0.now) a.1.1.0.now a.1.1.1.0.now a.1.1.1.1.0.now) × Recalls (core a.0 (totals_in a.1.0.now) a.1.1.0.now a.1.1.1.0.now a.1.1.1.1.0.now) a.1.1.1.1.1.0.now) _
-      (walk 𝓛 mem run κs.0 qs.0 a.1.0.ref_ptr.0 a.1.0.ref_ptr.1 a.1.0.ghost_name a.1.0.now κs.1.0 qs.1.0 a.1.1.0.ref_ptr.0 a.1.1.0.ref_ptr.1 a.1.1.0.ghost_name a.1.1.0.now κs.1.1.0 qs.1.1.0 a.1.1.1.0.ref_ptr.0 a.1.1.1.0.ref_ptr.1 a.1.1.1.0.ghost_name a.1.1.1.0.now κs.1.1.1.0 qs.1.1.1.0 a.1.1.1.1.0.ref_ptr.0 a.1.1.1.1.0.ref_ptr.1 a.1.1.1.1.0.ghost_name a.1.1.1.1.0.now κs.1.1.1.1.0 qs.1.1.1.1.0 a.1.1.1.1.1.0.ref_ptr.0 a.1.1.1.1.1.0.ref_ptr.1 a.1.1.1.1.1.0.ghost_name a.1.1.1.1.1.0.now a.0 are.0 a.1.1.1.1.1.1.0 are.1.1.1.1.1.1.0 are.1.0.0.1 are.1.1.0.0.1 are.1.1.1.0.0.1 are.1.1.1.1.0.0.1 are.1.1.1.1.1.0.0.1 𝓣 known-step-read known-step-write known-control-step known-empties known-empty known-visited))
+  walks : Triple 𝓤 (𝓣.C #step-read) (S-step-read.Asked 𝓛 mem run) → Triple 𝓤 (𝓣.C #step-write) (S-step-write.Asked 𝓛 mem run) → Triple 𝓤 (𝓣.C #control-step) (S-control-step.Asked 𝓛 mem run) → Walks 𝓛 f'.ended stayed (WpFn 𝓤 H 𝓣.C 𝓣.Λ code.function) (f'.clauses 𝓛 mem run)
+  walks known-step-read known-step-write known-control-step = walked 𝓛 f'.ended stayed (f'.clauses 𝓛 mem run) (WpFn 𝓤 H 𝓣.C 𝓣.Λ code.function)
+      (λ κs. (LL.vals M-Head.the_type L-Head.the_laws, (mut_slice_vals, (mut_slice_vals, (mut_slice_vals, (mut_slice_vals, (LL.vals M-Fields.the_type L-Fields.the_laws, tt)))))))
+      (λ κs. (LL.tells M-Head.the_type L-Head.the_laws, (mut_slice_Tells (named 0) κs.0 u32, (mut_slice_Tells (named 1) κs.1.0 u32, (mut_slice_Tells (named 2) κs.1.1.0 R-Frame, (mut_slice_Tells (named 3) κs.1.1.1.0 u32, (LL.tells M-Fields.the_type L-Fields.the_laws, tt)))))))
+      (λ κs qs bounds a g are. needs 𝓤 ((length a.1.0.now ≡ number_count) × Ready (core a.0 (totals_in a.1.0.now) a.1.1.0.now a.1.1.1.0.now a.1.1.1.1.0.now)) _
+      (walk 𝓛 mem run κs.0 qs.0 a.1.0.ref_ptr.0 a.1.0.ref_ptr.1 a.1.0.ghost_name a.1.0.now κs.1.0 qs.1.0 a.1.1.0.ref_ptr.0 a.1.1.0.ref_ptr.1 a.1.1.0.ghost_name a.1.1.0.now κs.1.1.0 qs.1.1.0 a.1.1.1.0.ref_ptr.0 a.1.1.1.0.ref_ptr.1 a.1.1.1.0.ghost_name a.1.1.1.0.now κs.1.1.1.0 qs.1.1.1.0 a.1.1.1.1.0.ref_ptr.0 a.1.1.1.1.0.ref_ptr.1 a.1.1.1.1.0.ghost_name a.1.1.1.1.0.now a.0 are.0 a.1.1.1.1.1.0 are.1.1.1.1.1.0 are.1.0.0.1 are.1.1.0.0.1 are.1.1.1.0.0.1 are.1.1.1.1.0.0.1 𝓣 known-step-read known-step-write known-control-step))
 
-  meets : Triple 𝓤 (𝓣.C #step-read) (S-step-read.Asked 𝓛 mem run) → Triple 𝓤 (𝓣.C #step-write) (S-step-write.Asked 𝓛 mem run) → Triple 𝓤 (𝓣.C #control-step) (S-control-step.Asked 𝓛 mem run) → Triple 𝓤 (𝓣.C #empties) (S-empties.Asked 𝓛 mem run) → Triple 𝓤 (𝓣.C #empty) (S-empty.Asked 𝓛 mem run) → Triple 𝓤 (𝓣.C #visited) (S-visited.Asked 𝓛 mem run) → Meets 𝓛 f'.signature (WpFn 𝓤 H 𝓣.C 𝓣.Λ code.function) (f'.spec 𝓛 mem run)
-  meets known-step-read known-step-write known-control-step known-empties known-empty known-visited = walk_Meets 𝓛 f'.ended stayed
-      (Goes-none 𝓛 5 (λ _. R-Head) yes (λ κs x f. refl), (Goes-slice 𝓛 5 0 tt (plain (λ _. u32)), (Goes-slice 𝓛 5 1 tt (plain (λ _. u32)), (Goes-slice 𝓛 5 2 tt (plain (λ _. R-Frame)), (Goes-slice 𝓛 5 3 tt (plain (λ _. u32)), (Goes-slice 𝓛 5 4 tt (plain (λ _. u32)), (Goes-none 𝓛 5 (λ _. R-Fields) yes (λ κs x f. refl), tt)))))))
-      (f'.clauses 𝓛 mem run) (WpFn 𝓤 H 𝓣.C 𝓣.Λ code.function) (WpFn-mono 𝓤 H 𝓛.laws 𝓣 code.function) (walks known-step-read known-step-write known-control-step known-empties known-empty known-visited)
+  meets : Triple 𝓤 (𝓣.C #step-read) (S-step-read.Asked 𝓛 mem run) → Triple 𝓤 (𝓣.C #step-write) (S-step-write.Asked 𝓛 mem run) → Triple 𝓤 (𝓣.C #control-step) (S-control-step.Asked 𝓛 mem run) → Meets 𝓛 f'.signature (WpFn 𝓤 H 𝓣.C 𝓣.Λ code.function) (f'.spec 𝓛 mem run)
+  meets known-step-read known-step-write known-control-step = walk_Meets 𝓛 f'.ended stayed
+      (Goes-none 𝓛 4 (λ _. R-Head) yes (λ κs x f. refl), (Goes-slice 𝓛 4 0 tt (plain (λ _. u32)), (Goes-slice 𝓛 4 1 tt (plain (λ _. u32)), (Goes-slice 𝓛 4 2 tt (plain (λ _. R-Frame)), (Goes-slice 𝓛 4 3 tt (plain (λ _. u32)), (Goes-none 𝓛 4 (λ _. R-Fields) yes (λ κs x f. refl), tt))))))
+      (f'.clauses 𝓛 mem run) (WpFn 𝓤 H 𝓣.C 𝓣.Λ code.function) (WpFn-mono 𝓤 H 𝓛.laws 𝓣 code.function) (walks known-step-read known-step-write known-control-step)
 
 pub take-step-spec : {M : Type 1} → stated.statement M
 unfolding code.routine tables_of
@@ -284,7 +231,4 @@ take-step-spec 𝓤 𝓛 𝓜 𝓡 =
     (meets 𝓛 𝓜.mem 𝓡.run (tables_of 𝓤 𝓛.H 𝓜 (tables 𝓤 𝓛.H 𝓜 𝓡 code.env))
     (cited 𝓤 𝓛.H (S-step-read.Asked 𝓛 𝓜.mem 𝓡.run) 𝓜 𝓡 code.env #step-read D-step-read.routine code.calls-engine::kinds::step-read (T-step-read.met 𝓤 𝓛 𝓜 𝓡))
     (cited 𝓤 𝓛.H (S-step-write.Asked 𝓛 𝓜.mem 𝓡.run) 𝓜 𝓡 code.env #step-write D-step-write.routine code.calls-engine::kinds::step-write (T-step-write.met 𝓤 𝓛 𝓜 𝓡))
-    (cited 𝓤 𝓛.H (S-control-step.Asked 𝓛 𝓜.mem 𝓡.run) 𝓜 𝓡 code.env #control-step D-control-step.routine code.calls-engine::records::control-step (T-control-step.met 𝓤 𝓛 𝓜 𝓡))
-    (cited 𝓤 𝓛.H (S-empties.Asked 𝓛 𝓜.mem 𝓡.run) 𝓜 𝓡 code.env #empties D-empties.routine code.calls-engine::records::empties (T-empties.met 𝓤 𝓛 𝓜 𝓡))
-    (cited 𝓤 𝓛.H (S-empty.Asked 𝓛 𝓜.mem 𝓡.run) 𝓜 𝓡 code.env #empty D-empty.routine code.calls-memory::empty (T-empty.met 𝓤 𝓛 𝓜 𝓡))
-    (cited 𝓤 𝓛.H (S-visited.Asked 𝓛 𝓜.mem 𝓡.run) 𝓜 𝓡 code.env #visited D-visited.routine code.calls-engine::kinds::visited (T-visited.met 𝓤 𝓛 𝓜 𝓡)))
+    (cited 𝓤 𝓛.H (S-control-step.Asked 𝓛 𝓜.mem 𝓡.run) 𝓜 𝓡 code.env #control-step D-control-step.routine code.calls-engine::records::control-step (T-control-step.met 𝓤 𝓛 𝓜 𝓡)))

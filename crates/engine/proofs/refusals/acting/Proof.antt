@@ -1,9 +1,13 @@
 -- The tests in order; the ways out are in `proofs.Laws`.
-use Rattle.std.proofs.Common.{◌≡◌, ◌<◌, true, false, sym, refl, ◌∙◌, arith, rules}
+use mathlib.Core.Path.{◌≡◌, sym, refl, ◌∙◌}
+use mathlib.Core.Bool.{true, false}
+use Prim.Native.Nat.{◌<◌}
+use native.Mathlib.Omega.{arith}
 use Rattle.words.specs.Tests.{true≢false}
 use Rattle.frames.specs.Widths.{max_workers}
 use Rattle.semantics.specs.declared.Refusal.TheVariants.{NoWorker, MainReturned, WorkerIdle}
 use Rattle.engine.proofs.Laws.{idles_is, is_refused, acting_no_worker, acting_passes, acting-main-returned, acting-idle}
+use borrow.Author.Rules.{rules}
 use Rattle.engine.proofs.refusals.acting.Statement.{statement}
 use Rattle.engine.proofs.refusals.acting.Tie as tie
 

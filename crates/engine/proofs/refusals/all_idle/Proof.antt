@@ -1,5 +1,10 @@
 -- The invariant: the workers left are all idle iff all are. The measure: how many are left.
-use Rattle.std.proofs.Common.{◌≡◌, ℕ, ◌-◌, ◌<◌, ◌≤◌, eqb, sym, refl, ◌∙◌, arith, rules, eq-eqb, ne_eqb}
+use mathlib.Core.Path.{◌≡◌, refl, sym, ◌∙◌}
+use Prim.Native.Nat.{ℕ, ◌-◌, ◌≤◌, ◌<◌}
+use lib.Dec.{eqb}
+use native.Mathlib.Omega.{arith}
+use borrow.Author.Rules.{rules}
+use borrow.Author.Tests.{eq-eqb, ne_eqb}
 use Rattle.words.specs.Basics.{all}
 use Rattle.frames.specs.Widths.{max_workers}
 use Rattle.frames.specs.Deques.{size}

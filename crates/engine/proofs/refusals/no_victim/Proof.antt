@@ -1,5 +1,6 @@
 -- No such worker, or fewer than two frames.
-use Rattle.std.proofs.Common.{rules, le-ltb, lt-ltb}
+use borrow.Author.Rules.{rules}
+use borrow.Author.Tests.{lt-ltb, le-ltb}
 use Rattle.engine.proofs.refusals.no_victim.Statement.{statement}
 use Rattle.engine.proofs.refusals.no_victim.Tie as tie
 

@@ -1,6 +1,7 @@
 -- The tests in order: the ways out are in `proofs.Laws`.
-use Rattle.std.proofs.Common.{sym, ◌∙◌, rules}
+use borrow.Author.Rules.{rules}
 use borrow.Author.Tests.{not-true, not-false}
+use mathlib.Core.Path.{sym, ◌∙◌}
 use Rattle.engine.proofs.Laws.{idles_is, steal_no_worker, steal_busy, steal_passes, steal-main-returned, steal_no_victim}
 use Rattle.engine.proofs.refusals.steal_refusal.Statement.{statement}
 use Rattle.engine.proofs.refusals.steal_refusal.Tie as tie

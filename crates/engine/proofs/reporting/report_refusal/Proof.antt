@@ -1,5 +1,6 @@
 -- The tests in order: the ways out are in `proofs.Reports`.
-use Rattle.std.proofs.Common.{◌∙◌, rules}
+use mathlib.Core.Path.{◌∙◌}
+use borrow.Author.Rules.{rules}
 use Rattle.engine.proofs.Reports.{refuses_start, refuses_tape, refuses_work, refuses_nothing}
 use Rattle.engine.proofs.reporting.report_refusal.Statement.{statement}
 use Rattle.engine.proofs.reporting.report_refusal.Tie as tie

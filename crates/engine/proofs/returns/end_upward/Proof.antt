@@ -1,13 +1,17 @@
 -- Written by tools/walk: `engine::returns::end_upward` meets its contract, by a walk of its MIR. Do not edit: the facts are in Proof/Facts.antt. Assumes nothing.
 mod Facts
-use Rattle.std.proofs.Common.{◌≡◌, ℕ, ◌+◌, ◌-◌, ◌*◌, ◌^◌, ◌<◌, ◌≤◌, Bool, true, false, cond, not, T as Holds, eqb, ltb, leb, List, [], ◌∷◌, length, get_or, set, sym, refl, ap, ◌∙◌, subst, lit<, eqb→eq, ltb→lt, leb→le, nltb→le, length-set, w8, w16, w32, w64, MutBor}
-use lib.Dec.{nleb→lt}
+use mathlib.Core.Path.{◌≡◌, refl, sym, ◌∙◌, ap, subst}
+use Prim.Native.Nat.{ℕ, ◌+◌, ◌-◌, ◌*◌, ◌<◌, ◌≤◌, ◌^◌}
+use mathlib.Core.List.{List, [], ◌∷◌}
+use mathlib.Core.Bool.{Bool, true, false, not}
+use lib.Dec.{T as Holds, ltb, leb, eqb, ltb→lt, leb→le, nltb→le, nleb→lt, eqb→eq, lit<}
+use lib.ListN.{length, get_or, set, length-set}
 use lib.WfN.{lt-wf_rel}
 use mathlib.Core.WellFounded.InvImage
 use mathlib.Core.WellFounded.{WellFounded}
 use seplogic.Ra.Ura.{Ura}
 use seplogic.Ra.TreeShare.{full_share}
-use mir.Syntax.{named, ty_int, ty_bool, ty_ptr, Ty, Body as Code, loop as loopᴹ}
+use mir.Syntax.{named, w8, w16, w32, w64, ty_int, ty_bool, ty_ptr, Ty, Body as Code, loop as loopᴹ}
 use mir.Val.{Val, vunit, vbool, vint, vptr}
 use base.Logic.{SProp, ent, via, fst∗, emp}
 use base.Fml.{Lft, GName, Share, ftrue, flft, fat, froom, fdies}
@@ -29,6 +33,7 @@ use denote.Memory.{cell_at}
 use denote.Index.{place as place', place_is, place_byte}
 use denote.Plain.{uint_copy, uint_Makes, uint_vals, uint_Tells, bool_Makes, bool_vals, bool_Tells, Nothing-Makes}
 use denote.Builtin.{u8, u16, u32, u64, usize, bool, unit}
+use denote.Ref.{MutBor}
 use denote.Slice.{slice_val, MutSlice, ShrSlice, Room, mut_slice_vals, mut_slice_Tells, shr_slice_Tells}
 use denote.Signature.{plain}
 use denote.Steps.{nothing, owned}
@@ -57,6 +62,7 @@ use Rattle.engine.proofs.Called.end_totals as S-end-totals
 use Rattle.engine.proofs.numbers.end_totals.Symbol as D-end-totals
 use Rattle.engine.proofs.numbers.end_totals.Symbol.{name as #end-totals}
 use Rattle.engine.proofs.numbers.end_totals.Met as T-end-totals
+use mathlib.Core.Bool.{cond}
 use Rattle.words.specs.Basics.{none}
 use Rattle.reducers.specs.Reducers.{view_words}
 use Rattle.engine.proofs.Called.end_frame as S-end-frame

@@ -1,5 +1,5 @@
 -- The height is that of the splitters.
-use Rattle.std.proofs.Common.{rules}
+use borrow.Author.Rules.{rules}
 use Rattle.engine.proofs.tapes.head_of.Statement.{statement}
 use Rattle.engine.proofs.tapes.head_of.Tie as tie
 

@@ -1,12 +1,16 @@
 -- Written by tools/walk: `engine::tapes::run_on` meets its contract, by a walk of its MIR. Do not edit: the facts are in Proof/Facts.antt. Assumes nothing.
 mod Facts
-use Rattle.std.proofs.Common.{◌≡◌, ℕ, ◌+◌, ◌-◌, ◌*◌, ◌/◌, ◌%◌, ◌^◌, ◌<◌, ◌≤◌, Bool, true, false, not, T as Holds, eqb, ltb, leb, List, [], ◌∷◌, length, get_or, set, sym, refl, ap, ◌∙◌, subst, lit<, eqb→eq, ltb→lt, leb→le, nltb→le, length-set, w8, w16, w32, w64, Bor}
-use lib.Dec.{nleb→lt}
+use mathlib.Core.Path.{◌≡◌, refl, sym, ◌∙◌, ap, subst}
+use Prim.Native.Nat.{ℕ, ◌+◌, ◌-◌, ◌*◌, ◌<◌, ◌≤◌, ◌^◌}
+use mathlib.Core.List.{List, [], ◌∷◌}
+use mathlib.Core.Bool.{Bool, true, false, not}
+use lib.Dec.{T as Holds, ltb, leb, eqb, ltb→lt, leb→le, nltb→le, nleb→lt, eqb→eq, lit<}
+use lib.ListN.{length, get_or, set, length-set}
 use lib.WfN.{lt-wf_rel}
 use mathlib.Core.WellFounded.{WellFounded}
 use seplogic.Ra.Ura.{Ura}
 use seplogic.Ra.TreeShare.{full_share}
-use mir.Syntax.{named, ty_int, ty_bool, ty_ptr, Ty, Body as Code, loop as loopᴹ}
+use mir.Syntax.{named, w8, w16, w32, w64, ty_int, ty_bool, ty_ptr, Ty, Body as Code, loop as loopᴹ}
 use mir.Val.{Val, vunit, vbool, vint, vptr}
 use base.Logic.{SProp, ent, via, fst∗, emp}
 use base.Fml.{Lft, GName, Share, ftrue, flft, fat, froom, fdies}
@@ -28,6 +32,7 @@ use denote.Memory.{cell_at}
 use denote.Index.{place as place', place_is, place_byte}
 use denote.Plain.{uint_copy, uint_Makes, uint_vals, uint_Tells, bool_Makes, bool_vals, bool_Tells, Nothing-Makes}
 use denote.Builtin.{u8, u16, u32, u64, usize, bool, unit}
+use denote.Ref.{Bor}
 use denote.Slice.{slice_val, MutSlice, ShrSlice, Room, shr_slice_vals, mut_slice_Tells, shr_slice_Tells}
 use denote.Signature.{plain}
 use denote.Steps.{nothing, owned}
@@ -40,12 +45,11 @@ use denote.Triple.Table.{entered, cited}
 use denote.Triple.Walked.{says, needs, Stays, stay_slice, stay_none, stay_none_slice, walk_of, Walks, ends_at, walked, Goes-slice, Goes-none, Goes-none_slice, walk_Meets}
 use borrow.Author.Rules.{scaled_Fits}
 use Rattle.frames.proofs.Lent.{at_list, Mine, Yours, ty_at, exit_unless, exit_if, leave_if, fork, skipped, regroup, matched, matched_last, const, is_true, is_false, not_not, differ, widen, less_fits, after, turn_of_lem, take_out, put_in, put_back, look_out, look_back, free_all}
+use Prim.Native.Nat.{◌/◌}
 use Rattle.semantics.specs.Entries.{core_of, records_result, records_of, run_on}
-use Rattle.semantics.specs.Remembering.{memory_over, visits_over}
 use Rattle.semantics.specs.Promises.{parts, Fits}
-use Rattle.semantics.specs.Ranges.{Kept, Remembers}
+use Rattle.semantics.specs.Ranges.{Kept}
 use Rattle.engine.specs.Promises.{IsRun}
-use Rattle.soundness.specs.Layout.{two_words}
 use Rattle.engine.proofs.Called.numbers_in as S-numbers-in
 use Rattle.engine.proofs.numbers.numbers_in.Symbol as D-numbers-in
 use Rattle.engine.proofs.numbers.numbers_in.Symbol.{name as #numbers-in}
@@ -80,9 +84,7 @@ use Rattle.soundness.specs.declared.Numbers.{Numbers}
 use Rattle.semantics.specs.contracts.Head as M-Head
 use Rattle.semantics.proofs.Head.TheLaws as L-Head
 use Rattle.semantics.specs.declared.Head.{Head}
-use Rattle.engine.specs.contracts.Ran as M-Ran
-use Rattle.engine.proofs.Ran.TheLaws as L-Ran
-use Rattle.engine.specs.declared.Ran.{Ran}
+use Rattle.soundness.specs.Layout.{two_words}
 
 abbrev R-Frame : RattleType
 R-Frame = M-Frame.the_row
@@ -102,17 +104,11 @@ R-Head = M-Head.the_row
 abbrev val-Head : Head → Val
 val-Head d = LL.val M-Head.the_type L-Head.the_laws d
 
-abbrev R-Ran : RattleType
-R-Ran = M-Ran.the_row
-
-abbrev val-Ran : Ran → Val
-val-Ran d = LL.val M-Ran.the_type L-Ran.the_laws d
-
 abbrev stayed : Stays (f'.ended).signature.params (f'.ended).kept
-stayed = (stay_slice (0 ∷ []) tt (plain (λ _. u32)), (stay_slice (1 ∷ []) tt (plain (λ _. u32)), (stay_slice (2 ∷ []) tt (plain (λ _. R-Frame)), (stay_slice (3 ∷ []) tt (plain (λ _. u32)), (stay_slice (4 ∷ []) tt (plain (λ _. u32)), (stay_none_slice (5 ∷ []) tt (plain (λ _. u8)) yes, (stay_slice (6 ∷ []) tt (plain (λ _. u32)), (stay_none (λ _. u32) yes, tt))))))))
+stayed = (stay_slice (0 ∷ []) tt (plain (λ _. u32)), (stay_slice (1 ∷ []) tt (plain (λ _. u32)), (stay_slice (2 ∷ []) tt (plain (λ _. R-Frame)), (stay_slice (3 ∷ []) tt (plain (λ _. u32)), (stay_none_slice (4 ∷ []) tt (plain (λ _. u8)) yes, (stay_slice (5 ∷ []) tt (plain (λ _. u32)), (stay_none (λ _. u32) yes, tt)))))))
 
 module _ {M : Type 1} {𝓤 : Ura M} (𝓛 : Logic 𝓤) (mem : Memory → SProp 𝓤) (run : Routine → Fun 𝓤)
-    (κ-numbers : Lft) (q-numbers : Share) (b-numbers o-numbers : ℕ) (γ-numbers : GName) (numbers : List ℕ) (κ-deques : Lft) (q-deques : Share) (b-deques o-deques : ℕ) (γ-deques : GName) (deques : List ℕ) (κ-frames : Lft) (q-frames : Share) (b-frames o-frames : ℕ) (γ-frames : GName) (frames : List Frame) (κ-pool : Lft) (q-pool : Share) (b-pool o-pool : ℕ) (γ-pool : GName) (pool : List ℕ) (κ-memory : Lft) (q-memory : Share) (b-memory o-memory : ℕ) (γ-memory : GName) (memory : List ℕ) (κ-bytes : Lft) (q-bytes : Share) (b-bytes o-bytes : ℕ) (γ-bytes : GName) (bytes : List ℕ) (κ-answers : Lft) (q-answers : Share) (b-answers o-answers : ℕ) (γ-answers : GName) (answers : List ℕ) (free_count : ℕ) (free-count-fits : free_count < 2 ^ 32) (room-numbers : Room u32 (length numbers)) (room-deques : Room u32 (length deques)) (room-frames : Room R-Frame (length frames)) (room-pool : Room u32 (length pool)) (room-memory : Room u32 (length memory)) (room-bytes : Room u8 (length bytes)) (room-answers : Room u32 (length answers)) where
+    (κ-numbers : Lft) (q-numbers : Share) (b-numbers o-numbers : ℕ) (γ-numbers : GName) (numbers : List ℕ) (κ-deques : Lft) (q-deques : Share) (b-deques o-deques : ℕ) (γ-deques : GName) (deques : List ℕ) (κ-frames : Lft) (q-frames : Share) (b-frames o-frames : ℕ) (γ-frames : GName) (frames : List Frame) (κ-pool : Lft) (q-pool : Share) (b-pool o-pool : ℕ) (γ-pool : GName) (pool : List ℕ) (κ-bytes : Lft) (q-bytes : Share) (b-bytes o-bytes : ℕ) (γ-bytes : GName) (bytes : List ℕ) (κ-answers : Lft) (q-answers : Share) (b-answers o-answers : ℕ) (γ-answers : GName) (answers : List ℕ) (free_count : ℕ) (free-count-fits : free_count < 2 ^ 32) (room-numbers : Room u32 (length numbers)) (room-deques : Room u32 (length deques)) (room-frames : Room R-Frame (length frames)) (room-pool : Room u32 (length pool)) (room-bytes : Room u8 (length bytes)) (room-answers : Room u32 (length answers)) where
   open 𝓛 use {H}
 
   abbrev n-numbers : ℕ
@@ -127,102 +123,97 @@ module _ {M : Type 1} {𝓤 : Ura M} (𝓛 : Logic 𝓤) (mem : Memory → SProp
   abbrev n-pool : ℕ
   n-pool = length pool
 
-  abbrev n-memory : ℕ
-  n-memory = length memory
-
   abbrev n-bytes : ℕ
   n-bytes = length bytes
 
   abbrev n-answers : ℕ
   n-answers = length answers
 
-  abbrev args' : Bor (List ℕ) × (Bor (List ℕ) × (Bor (List Frame) × (Bor (List ℕ) × (Bor (List ℕ) × (Bor (List ℕ) × (Bor (List ℕ) × (ℕ × Unit {0})))))))
-  args' = (at_list b-numbers o-numbers γ-numbers numbers, (at_list b-deques o-deques γ-deques deques, (at_list b-frames o-frames γ-frames frames, (at_list b-pool o-pool γ-pool pool, (at_list b-memory o-memory γ-memory memory, (at_list b-bytes o-bytes γ-bytes bytes, (at_list b-answers o-answers γ-answers answers, (free_count, tt))))))))
+  abbrev args' : Bor (List ℕ) × (Bor (List ℕ) × (Bor (List Frame) × (Bor (List ℕ) × (Bor (List ℕ) × (Bor (List ℕ) × (ℕ × Unit {0}))))))
+  args' = (at_list b-numbers o-numbers γ-numbers numbers, (at_list b-deques o-deques γ-deques deques, (at_list b-frames o-frames γ-frames frames, (at_list b-pool o-pool γ-pool pool, (at_list b-bytes o-bytes γ-bytes bytes, (at_list b-answers o-answers γ-answers answers, (free_count, tt)))))))
 
-  abbrev vals' : Vals f'.signature (κ-numbers, (κ-deques, (κ-frames, (κ-pool, (κ-memory, (κ-bytes, (κ-answers, tt)))))))
-  vals' = (slice_val (b-numbers, o-numbers) (length numbers) ∷ [], (slice_val (b-deques, o-deques) (length deques) ∷ [], (slice_val (b-frames, o-frames) (length frames) ∷ [], (slice_val (b-pool, o-pool) (length pool) ∷ [], (slice_val (b-memory, o-memory) (length memory) ∷ [], (slice_val (b-bytes, o-bytes) (length bytes) ∷ [], (slice_val (b-answers, o-answers) (length answers) ∷ [], (vint w32 free_count ∷ [], tt))))))))
+  abbrev vals' : Vals f'.signature (κ-numbers, (κ-deques, (κ-frames, (κ-pool, (κ-bytes, (κ-answers, tt))))))
+  vals' = (slice_val (b-numbers, o-numbers) (length numbers) ∷ [], (slice_val (b-deques, o-deques) (length deques) ∷ [], (slice_val (b-frames, o-frames) (length frames) ∷ [], (slice_val (b-pool, o-pool) (length pool) ∷ [], (slice_val (b-bytes, o-bytes) (length bytes) ∷ [], (slice_val (b-answers, o-answers) (length answers) ∷ [], (vint w32 free_count ∷ [], tt)))))))
 
   abbrev bound' : (walk_of 𝓛 f'.ended stayed (f'.clauses 𝓛 mem run)).Ghost
-  bound' = (((κ-numbers, (κ-deques, (κ-frames, (κ-pool, (κ-memory, (κ-bytes, (κ-answers, tt))))))), (q-numbers, (q-deques, (q-frames, (q-pool, (q-memory, (q-bytes, (q-answers, tt))))))), tt, args', vals'), tt)
+  bound' = (((κ-numbers, (κ-deques, (κ-frames, (κ-pool, (κ-bytes, (κ-answers, tt)))))), (q-numbers, (q-deques, (q-frames, (q-pool, (q-bytes, (q-answers, tt)))))), tt, args', vals'), tt)
 
   abbrev Post : Val → SProp 𝓤
   Post = (walk_of 𝓛 f'.ended stayed (f'.clauses 𝓛 mem run)).post bound'
 
-  exits' : (res' : ℕ) (zs-numbers : List ℕ) (zs-deques : List ℕ) (zs-frames : List Frame) (zs-pool : List ℕ) (zs-memory : List ℕ) (zs-answers : List ℕ) → res' < 2 ^ 64 → IsRun (run_on two_words (records_result (core_of (parts numbers deques frames) pool free_count) answers) 0 (records_of bytes)) zs-numbers zs-deques zs-frames zs-pool zs-answers × (zs-memory ≡ memory_over two_words (core_of (parts numbers deques frames) pool free_count) memory (records_of bytes)) × (res' ≡ visits_over two_words (core_of (parts numbers deques frames) pool free_count) memory (records_of bytes) % 2 ^ 64) → length zs-numbers ≡ length numbers → length zs-deques ≡ length deques → length zs-frames ≡ length frames → length zs-pool ≡ length pool → length zs-memory ≡ length memory → length zs-answers ≡ length answers → ent 𝓤 (⋆ 𝓛 (‵ (Mine u32 κ-numbers q-numbers γ-numbers b-numbers o-numbers n-numbers zs-numbers) ∷ ‵ (Mine u32 κ-deques q-deques γ-deques b-deques o-deques n-deques zs-deques) ∷ ‵ (Mine R-Frame κ-frames q-frames γ-frames b-frames o-frames n-frames zs-frames) ∷ ‵ (Mine u32 κ-pool q-pool γ-pool b-pool o-pool n-pool zs-pool) ∷ ‵ (Mine u32 κ-memory q-memory γ-memory b-memory o-memory n-memory zs-memory) ∷ ‵ (Yours u8 κ-bytes q-bytes γ-bytes b-bytes o-bytes n-bytes bytes) ∷ ‵ (Mine u32 κ-answers q-answers γ-answers b-answers o-answers n-answers zs-answers) ∷ [])) (Post (vint w64 res'))
-  exits' res' zs-numbers zs-deques zs-frames zs-pool zs-memory zs-answers good' e' same_numbers same-deques same-frames same-pool same_memory same-answers =
-      qed 𝓛 (‵ (Mine u32 κ-numbers q-numbers γ-numbers b-numbers o-numbers n-numbers zs-numbers) ∷ ‵ (Mine u32 κ-deques q-deques γ-deques b-deques o-deques n-deques zs-deques) ∷ ‵ (Mine R-Frame κ-frames q-frames γ-frames b-frames o-frames n-frames zs-frames) ∷ ‵ (Mine u32 κ-pool q-pool γ-pool b-pool o-pool n-pool zs-pool) ∷ ‵ (Mine u32 κ-memory q-memory γ-memory b-memory o-memory n-memory zs-memory) ∷ ‵ (Yours u8 κ-bytes q-bytes γ-bytes b-bytes o-bytes n-bytes bytes) ∷ ‵ (Mine u32 κ-answers q-answers γ-answers b-answers o-answers n-answers zs-answers) ∷ []) ∵
-      suffices ! _ (ends_at 𝓛 f'.ended stayed (f'.clauses 𝓛 mem run) bound' (vint w64 res') res' (zs-numbers, (zs-deques, (zs-frames, (zs-pool, (zs-memory, (tt, (zs-answers, (tt, tt)))))))) (same_numbers, (same-deques, (same-frames, (same-pool, (same_memory, (tt, (same-answers, (tt, tt))))))))) $ says ! e' $
-      fsplit ! $ move ! (2 ∷ []) $ fsplit ! $ move ! (4 ∷ []) $ fsplit ! $ move ! (6 ∷ []) $ fsplit ! $ move ! (8 ∷ []) $ fsplit ! $ move ! (10 ∷ []) $ fsplit ! $ move ! (12 ∷ []) $ fsplit ! $ nothing ! $ move ! (14 ∷ 12 ∷ 10 ∷ 8 ∷ 6 ∷ 4 ∷ 2 ∷ 0 ∷ []) $ group ! 8 $ frame ! $
-      nothing ! $ owned ! u32 (Is u32) (uint_Makes 𝓛 w32) free_count _ (refl, free-count-fits) $ fjoin ! $ move ! (1 ∷ 0 ∷ []) $ fjoin ! $ move ! (1 ∷ 0 ∷ []) $ fjoin ! $ move ! (1 ∷ 0 ∷ []) $ fjoin ! $ move ! (1 ∷ 0 ∷ []) $ fjoin ! $ move ! (1 ∷ 0 ∷ []) $ fjoin ! $ move ! (1 ∷ 0 ∷ []) $ fjoin ! $ move ! (1 ∷ 0 ∷ []) $ fjoin ! $ frame ! $
-      owned ! u64 (Is u64) (uint_Makes 𝓛 w64) res' _ (refl, good') $ done !
+  exits' : (zs-numbers : List ℕ) (zs-deques : List ℕ) (zs-frames : List Frame) (zs-pool : List ℕ) (zs-answers : List ℕ) → IsRun (run_on two_words (records_result (core_of (parts numbers deques frames) pool free_count) answers) 0 (records_of bytes)) zs-numbers zs-deques zs-frames zs-pool zs-answers → length zs-numbers ≡ length numbers → length zs-deques ≡ length deques → length zs-frames ≡ length frames → length zs-pool ≡ length pool → length zs-answers ≡ length answers → ent 𝓤 (⋆ 𝓛 (‵ (Mine u32 κ-numbers q-numbers γ-numbers b-numbers o-numbers n-numbers zs-numbers) ∷ ‵ (Mine u32 κ-deques q-deques γ-deques b-deques o-deques n-deques zs-deques) ∷ ‵ (Mine R-Frame κ-frames q-frames γ-frames b-frames o-frames n-frames zs-frames) ∷ ‵ (Mine u32 κ-pool q-pool γ-pool b-pool o-pool n-pool zs-pool) ∷ ‵ (Yours u8 κ-bytes q-bytes γ-bytes b-bytes o-bytes n-bytes bytes) ∷ ‵ (Mine u32 κ-answers q-answers γ-answers b-answers o-answers n-answers zs-answers) ∷ [])) (Post (vunit))
+  exits' zs-numbers zs-deques zs-frames zs-pool zs-answers e' same_numbers same-deques same-frames same-pool same-answers =
+      qed 𝓛 (‵ (Mine u32 κ-numbers q-numbers γ-numbers b-numbers o-numbers n-numbers zs-numbers) ∷ ‵ (Mine u32 κ-deques q-deques γ-deques b-deques o-deques n-deques zs-deques) ∷ ‵ (Mine R-Frame κ-frames q-frames γ-frames b-frames o-frames n-frames zs-frames) ∷ ‵ (Mine u32 κ-pool q-pool γ-pool b-pool o-pool n-pool zs-pool) ∷ ‵ (Yours u8 κ-bytes q-bytes γ-bytes b-bytes o-bytes n-bytes bytes) ∷ ‵ (Mine u32 κ-answers q-answers γ-answers b-answers o-answers n-answers zs-answers) ∷ []) ∵
+      suffices ! _ (ends_at 𝓛 f'.ended stayed (f'.clauses 𝓛 mem run) bound' (vunit) tt (zs-numbers, (zs-deques, (zs-frames, (zs-pool, (tt, (zs-answers, (tt, tt))))))) (same_numbers, (same-deques, (same-frames, (same-pool, (tt, (same-answers, (tt, tt)))))))) $ says ! e' $
+      fsplit ! $ move ! (2 ∷ []) $ fsplit ! $ move ! (4 ∷ []) $ fsplit ! $ move ! (6 ∷ []) $ fsplit ! $ move ! (8 ∷ []) $ fsplit ! $ move ! (10 ∷ []) $ fsplit ! $ nothing ! $ move ! (12 ∷ 10 ∷ 8 ∷ 6 ∷ 4 ∷ 2 ∷ 0 ∷ []) $ group ! 7 $ frame ! $
+      nothing ! $ owned ! u32 (Is u32) (uint_Makes 𝓛 w32) free_count _ (refl, free-count-fits) $ fjoin ! $ move ! (1 ∷ 0 ∷ []) $ fjoin ! $ move ! (1 ∷ 0 ∷ []) $ fjoin ! $ move ! (1 ∷ 0 ∷ []) $ fjoin ! $ move ! (1 ∷ 0 ∷ []) $ fjoin ! $ move ! (1 ∷ 0 ∷ []) $ fjoin ! $ move ! (1 ∷ 0 ∷ []) $ fjoin ! $ frame ! $
+      owned ! unit (Is unit) (Nothing-Makes 𝓛) tt _ refl $ done !
 
   module _ (𝓣 : Tables 𝓤 H) (known-numbers-in : Triple 𝓤 (𝓣.C #numbers-in) (S-numbers-in.Asked 𝓛 mem run)) (known-head-of : Triple 𝓤 (𝓣.C #head-of) (S-head-of.Asked 𝓛 mem run)) (known-record-count : Triple 𝓤 (𝓣.C #record-count) (S-record-count.Asked 𝓛 mem run)) (known-run-records : Triple 𝓤 (𝓣.C #run-records) (S-run-records.Asked 𝓛 mem run)) (known-put-free : Triple 𝓤 (𝓣.C #put-free) (S-put-free.Asked 𝓛 mem run)) where
     abbrev fm : FmC 𝓤 H 𝓛.laws 𝓣.C
     fm = fm_of 𝓤 H 𝓛.laws 𝓣
 
-    walk : Fits (parts numbers deques frames) × Kept two_words (core_of (parts numbers deques frames) pool free_count) × Remembers two_words (core_of (parts numbers deques frames) pool free_count) memory × (2 * (length bytes / 8) ≤ length answers) → ent 𝓤 (on_entry 𝓛 f'.signature (κ-numbers, (κ-deques, (κ-frames, (κ-pool, (κ-memory, (κ-bytes, (κ-answers, tt))))))) (q-numbers, (q-deques, (q-frames, (q-pool, (q-memory, (q-bytes, (q-answers, tt))))))) args' vals') (WpFn 𝓤 H 𝓣.C 𝓣.Λ code.function (slice_val (b-numbers, o-numbers) (length numbers) ∷ slice_val (b-deques, o-deques) (length deques) ∷ slice_val (b-frames, o-frames) (length frames) ∷ slice_val (b-pool, o-pool) (length pool) ∷ slice_val (b-memory, o-memory) (length memory) ∷ slice_val (b-bytes, o-bytes) (length bytes) ∷ slice_val (b-answers, o-answers) (length answers) ∷ vint w32 free_count ∷ []) Post)
+    walk : Fits (parts numbers deques frames) × Kept two_words (core_of (parts numbers deques frames) pool free_count) × (2 * (length bytes / 8) ≤ length answers) → ent 𝓤 (on_entry 𝓛 f'.signature (κ-numbers, (κ-deques, (κ-frames, (κ-pool, (κ-bytes, (κ-answers, tt)))))) (q-numbers, (q-deques, (q-frames, (q-pool, (q-bytes, (q-answers, tt)))))) args' vals') (WpFn 𝓤 H 𝓣.C 𝓣.Λ code.function (slice_val (b-numbers, o-numbers) (length numbers) ∷ slice_val (b-deques, o-deques) (length deques) ∷ slice_val (b-frames, o-frames) (length frames) ∷ slice_val (b-pool, o-pool) (length pool) ∷ slice_val (b-bytes, o-bytes) (length bytes) ∷ slice_val (b-answers, o-answers) (length answers) ∷ vint w32 free_count ∷ []) Post)
     walk ok' =
-        qed 𝓛 ((‵ (flft κ-numbers q-numbers) ⊛ ‵ (flft κ-deques q-deques) ⊛ ‵ (flft κ-frames q-frames) ⊛ ‵ (flft κ-pool q-pool) ⊛ ‵ (flft κ-memory q-memory) ⊛ ‵ (flft κ-bytes q-bytes) ⊛ ‵ (flft κ-answers q-answers) ⊛ ‵ ftrue) ∷ ‵ (owns (MutSlice (named 0) κ-numbers u32 ∷ MutSlice (named 1) κ-deques u32 ∷ MutSlice (named 2) κ-frames R-Frame ∷ MutSlice (named 3) κ-pool u32 ∷ MutSlice (named 4) κ-memory u32 ∷ ShrSlice (named 5) κ-bytes u8 ∷ MutSlice (named 6) κ-answers u32 ∷ u32 ∷ []) args' vals') ∷ []) ∵ enter ! 𝓣.C 𝓣.Λ code.function (slice_val (b-numbers, o-numbers) (length numbers) ∷ slice_val (b-deques, o-deques) (length deques) ∷ slice_val (b-frames, o-frames) (length frames) ∷ slice_val (b-pool, o-pool) (length pool) ∷ slice_val (b-memory, o-memory) (length memory) ∷ slice_val (b-bytes, o-bytes) (length bytes) ∷ slice_val (b-answers, o-answers) (length answers) ∷ vint w32 free_count ∷ []) _ $
-        alloc1 ! (λ l₀. alloc1 ! (λ l₁. alloc1 ! (λ l₂. alloc1 ! (λ l₃. alloc1 ! (λ l₄. alloc1 ! (λ l₅. alloc1 ! (λ l₆. alloc1 ! (λ l₇. alloc1 ! (λ l₈. alloc1 ! (λ l₉. alloc1 ! (λ l₁₀. alloc1 ! (λ l₁₁. alloc1 ! (λ l₁₂. alloc1 ! (λ l₁₃. alloc1 ! (λ l₁₄. alloc1 ! (λ l₁₅. alloc1 ! (λ l₁₆. alloc1 ! (λ l₁₇. alloc1 ! (λ l₁₈. alloc1 ! (λ l₁₉. alloc1 ! (λ l₂₀. alloc1 ! (λ l₂₁. alloc1 ! (λ l₂₂. alloc1 ! (λ l₂₃. alloc1 ! (λ l₂₄. alloc1 ! (λ l₂₅. alloc1 ! (λ l₂₆. alloc1 ! (λ l₂₇. alloc1 ! (λ l₂₈. alloc1 ! (λ l₂₉. alloc0 ! $ params1 ! $
-        pass1 ! (init ! 56 refl (tt, (tt, (record { fits = room-numbers.0 }, tt)))) $ pass1 ! (init ! 54 refl (tt, (tt, (record { fits = room-deques.0 }, tt)))) $ pass1 ! (init ! 52 refl (tt, (tt, (record { fits = room-frames.0 }, tt)))) $ pass1 ! (init ! 50 refl (tt, (tt, (record { fits = room-pool.0 }, tt)))) $ pass1 ! (init ! 48 refl (tt, (tt, (record { fits = room-memory.0 }, tt)))) $ pass1 ! (init ! 46 refl (tt, (tt, (record { fits = room-bytes.0 }, tt)))) $ pass1 ! (init ! 44 refl (tt, (tt, (record { fits = room-answers.0 }, tt)))) $ pass1 ! (init ! 42 refl (tt, record { fits = free-count-fits })) $ pass0 ! $
-        move ! (61 ∷ []) $ fsplit ! $ move ! (1 ∷ []) $ fsplit ! $ move ! (1 ∷ []) $ fsplit ! $ move ! (1 ∷ []) $ fsplit ! $ move ! (1 ∷ []) $ fsplit ! $ move ! (1 ∷ []) $ fsplit ! $ move ! (1 ∷ []) $ fsplit ! $ move ! (1 ∷ []) $ fsplit ! $ drop ! $ drop ! $ move ! (67 ∷ []) $ split ! $ move ! (1 ∷ []) $ split ! $ move ! (1 ∷ []) $ split ! $ move ! (1 ∷ []) $ split ! $ move ! (1 ∷ []) $ split ! $ move ! (1 ∷ []) $ split ! $ move ! (1 ∷ []) $ split ! $ move ! (1 ∷ []) $ drop ! $ move ! (7 ∷ 0 ∷ []) $ fjoin ! $ move ! (7 ∷ 1 ∷ []) $ fjoin ! $ move ! (7 ∷ 2 ∷ []) $ fjoin ! $ move ! (7 ∷ 3 ∷ []) $ fjoin ! $ move ! (7 ∷ 4 ∷ []) $ fjoin ! $ move ! (7 ∷ 5 ∷ []) $ fjoin ! $ move ! (7 ∷ 6 ∷ []) $ fjoin ! $
-        -- [numbers; deques; frames; pool; memory; bytes; answers; the locals]
-        assigns ! (addr ! (from ! (fld ! refl (hop ! (look_in ! 63 (sub ! 0 refl (whole !))) (stop !))))) (from ! (stop !)) (init ! 41 refl (tt, tt)) $
-        assigns ! (agg ! (and_then ! (load ! (from ! (stop !)) (look ! 41 refl)) (and_then ! (load ! (from ! (fld ! refl (stop !))) (look_in ! 63 (sub ! 1 refl (whole !)))) (no_more !)))) (from ! (stop !)) (init ! 39 refl (tt, (tt, (record { fits = room-numbers.0 }, tt)))) $
-        -- _11 = engine::numbers::numbers_in(_13)
-        S-numbers-in.step-s mem run ! fm known-numbers-in b-numbers o-numbers n-numbers numbers (F.needs-1 numbers deques frames pool memory bytes answers free_count room-numbers.0 room-deques.0 room-frames.0 room-pool.0 room-memory.0 room-bytes.0 room-answers.0 free-count-fits ok') (refl) room-numbers
-        (λ ν-0 δ-0. and_then ! (load ! (from ! (stop !)) (look ! 40 refl)) (no_more !)) (λ r-1 r-1-good r-1-is.
-        land ! (from ! (stop !)) (init ! 43 refl ((LL.lawful M-Numbers.the_type L-Numbers.the_laws 𝓛).typed r-1 _ r-1-good).0) $
-        -- _9 = engine::tapes::head_of(_11, _8)
+        qed 𝓛 ((‵ (flft κ-numbers q-numbers) ⊛ ‵ (flft κ-deques q-deques) ⊛ ‵ (flft κ-frames q-frames) ⊛ ‵ (flft κ-pool q-pool) ⊛ ‵ (flft κ-bytes q-bytes) ⊛ ‵ (flft κ-answers q-answers) ⊛ ‵ ftrue) ∷ ‵ (owns (MutSlice (named 0) κ-numbers u32 ∷ MutSlice (named 1) κ-deques u32 ∷ MutSlice (named 2) κ-frames R-Frame ∷ MutSlice (named 3) κ-pool u32 ∷ ShrSlice (named 4) κ-bytes u8 ∷ MutSlice (named 5) κ-answers u32 ∷ u32 ∷ []) args' vals') ∷ []) ∵ enter ! 𝓣.C 𝓣.Λ code.function (slice_val (b-numbers, o-numbers) (length numbers) ∷ slice_val (b-deques, o-deques) (length deques) ∷ slice_val (b-frames, o-frames) (length frames) ∷ slice_val (b-pool, o-pool) (length pool) ∷ slice_val (b-bytes, o-bytes) (length bytes) ∷ slice_val (b-answers, o-answers) (length answers) ∷ vint w32 free_count ∷ []) _ $
+        alloc1 ! (λ l₀. alloc1 ! (λ l₁. alloc1 ! (λ l₂. alloc1 ! (λ l₃. alloc1 ! (λ l₄. alloc1 ! (λ l₅. alloc1 ! (λ l₆. alloc1 ! (λ l₇. alloc1 ! (λ l₈. alloc1 ! (λ l₉. alloc1 ! (λ l₁₀. alloc1 ! (λ l₁₁. alloc1 ! (λ l₁₂. alloc1 ! (λ l₁₃. alloc1 ! (λ l₁₄. alloc1 ! (λ l₁₅. alloc1 ! (λ l₁₆. alloc1 ! (λ l₁₇. alloc1 ! (λ l₁₈. alloc1 ! (λ l₁₉. alloc1 ! (λ l₂₀. alloc1 ! (λ l₂₁. alloc1 ! (λ l₂₂. alloc1 ! (λ l₂₃. alloc1 ! (λ l₂₄. alloc1 ! (λ l₂₅. alloc1 ! (λ l₂₆. alloc0 ! $ params1 ! $
+        pass1 ! (init ! 50 refl (tt, (tt, (record { fits = room-numbers.0 }, tt)))) $ pass1 ! (init ! 48 refl (tt, (tt, (record { fits = room-deques.0 }, tt)))) $ pass1 ! (init ! 46 refl (tt, (tt, (record { fits = room-frames.0 }, tt)))) $ pass1 ! (init ! 44 refl (tt, (tt, (record { fits = room-pool.0 }, tt)))) $ pass1 ! (init ! 42 refl (tt, (tt, (record { fits = room-bytes.0 }, tt)))) $ pass1 ! (init ! 40 refl (tt, (tt, (record { fits = room-answers.0 }, tt)))) $ pass1 ! (init ! 38 refl (tt, record { fits = free-count-fits })) $ pass0 ! $
+        move ! (55 ∷ []) $ fsplit ! $ move ! (1 ∷ []) $ fsplit ! $ move ! (1 ∷ []) $ fsplit ! $ move ! (1 ∷ []) $ fsplit ! $ move ! (1 ∷ []) $ fsplit ! $ move ! (1 ∷ []) $ fsplit ! $ move ! (1 ∷ []) $ fsplit ! $ drop ! $ drop ! $ move ! (60 ∷ []) $ split ! $ move ! (1 ∷ []) $ split ! $ move ! (1 ∷ []) $ split ! $ move ! (1 ∷ []) $ split ! $ move ! (1 ∷ []) $ split ! $ move ! (1 ∷ []) $ split ! $ move ! (1 ∷ []) $ drop ! $ move ! (6 ∷ 0 ∷ []) $ fjoin ! $ move ! (6 ∷ 1 ∷ []) $ fjoin ! $ move ! (6 ∷ 2 ∷ []) $ fjoin ! $ move ! (6 ∷ 3 ∷ []) $ fjoin ! $ move ! (6 ∷ 4 ∷ []) $ fjoin ! $ move ! (6 ∷ 5 ∷ []) $ fjoin ! $
+        -- [numbers; deques; frames; pool; bytes; answers; the locals]
+        assigns ! (addr ! (from ! (fld ! refl (hop ! (look_in ! 56 (sub ! 0 refl (whole !))) (stop !))))) (from ! (stop !)) (init ! 36 refl (tt, tt)) $
+        assigns ! (agg ! (and_then ! (load ! (from ! (stop !)) (look ! 36 refl)) (and_then ! (load ! (from ! (fld ! refl (stop !))) (look_in ! 56 (sub ! 1 refl (whole !)))) (no_more !)))) (from ! (stop !)) (init ! 34 refl (tt, (tt, (record { fits = room-numbers.0 }, tt)))) $
+        -- _10 = engine::numbers::numbers_in(_12)
+        S-numbers-in.step-s mem run ! fm known-numbers-in b-numbers o-numbers n-numbers numbers (F.needs-1 numbers deques frames pool bytes answers free_count room-numbers.0 room-deques.0 room-frames.0 room-pool.0 room-bytes.0 room-answers.0 free-count-fits ok') (refl) room-numbers
+        (λ ν-0 δ-0. and_then ! (load ! (from ! (stop !)) (look ! 35 refl)) (no_more !)) (λ r-1 r-1-good r-1-is.
+        land ! (from ! (stop !)) (init ! 38 refl ((LL.lawful M-Numbers.the_type L-Numbers.the_laws 𝓛).typed r-1 _ r-1-good).0) $
+        -- _8 = engine::tapes::head_of(_10, _7)
         S-head-of.step mem run ! fm known-head-of r-1 free_count r-1-good free-count-fits
-        (and_then ! (load ! (from ! (stop !)) (look ! 44 refl)) (and_then ! (load ! (from ! (stop !)) (look ! 50 refl)) (no_more !))) (λ first' first'-good first'-is.
-        land ! (from ! (stop !)) (init ! 47 refl ((LL.lawful M-Head.the_type L-Head.the_laws 𝓛).typed first' _ first'-good).0) $
-        assigns ! (addr ! (from ! (fld ! refl (hop ! (look_in ! 63 (sub ! 0 refl (whole !))) (stop !))))) (from ! (stop !)) (init ! 37 refl (tt, tt)) $
-        assigns ! (agg ! (and_then ! (load ! (from ! (stop !)) (look ! 37 refl)) (and_then ! (load ! (from ! (fld ! refl (stop !))) (look_in ! 63 (sub ! 1 refl (whole !)))) (no_more !)))) (from ! (stop !)) (init ! 35 refl (tt, (tt, (record { fits = room-numbers.0 }, tt)))) $
-        assigns ! (addr ! (from ! (fld ! refl (hop ! (look_in ! 61 (sub ! 0 refl (whole !))) (stop !))))) (from ! (stop !)) (init ! 33 refl (tt, tt)) $
-        assigns ! (agg ! (and_then ! (load ! (from ! (stop !)) (look ! 33 refl)) (and_then ! (load ! (from ! (fld ! refl (stop !))) (look_in ! 61 (sub ! 1 refl (whole !)))) (no_more !)))) (from ! (stop !)) (init ! 31 refl (tt, (tt, (record { fits = room-deques.0 }, tt)))) $
-        assigns ! (addr ! (from ! (fld ! refl (hop ! (look_in ! 59 (sub ! 0 refl (whole !))) (stop !))))) (from ! (stop !)) (init ! 29 refl (tt, tt)) $
-        assigns ! (agg ! (and_then ! (load ! (from ! (stop !)) (look ! 29 refl)) (and_then ! (load ! (from ! (fld ! refl (stop !))) (look_in ! 59 (sub ! 1 refl (whole !)))) (no_more !)))) (from ! (stop !)) (init ! 27 refl (tt, (tt, (record { fits = room-frames.0 }, tt)))) $
-        assigns ! (addr ! (from ! (fld ! refl (hop ! (look_in ! 57 (sub ! 0 refl (whole !))) (stop !))))) (from ! (stop !)) (init ! 25 refl (tt, tt)) $
-        assigns ! (agg ! (and_then ! (load ! (from ! (stop !)) (look ! 25 refl)) (and_then ! (load ! (from ! (fld ! refl (stop !))) (look_in ! 57 (sub ! 1 refl (whole !)))) (no_more !)))) (from ! (stop !)) (init ! 23 refl (tt, (tt, (record { fits = room-pool.0 }, tt)))) $
-        assigns ! (addr ! (from ! (fld ! refl (hop ! (look_in ! 55 (sub ! 0 refl (whole !))) (stop !))))) (from ! (stop !)) (init ! 21 refl (tt, tt)) $
-        assigns ! (agg ! (and_then ! (load ! (from ! (stop !)) (look ! 21 refl)) (and_then ! (load ! (from ! (fld ! refl (stop !))) (look_in ! 55 (sub ! 1 refl (whole !)))) (no_more !)))) (from ! (stop !)) (init ! 19 refl (tt, (tt, (record { fits = room-memory.0 }, tt)))) $
-        assigns ! (addr ! (from ! (fld ! refl (hop ! (look_in ! 51 (sub ! 0 refl (whole !))) (stop !))))) (from ! (stop !)) (init ! 17 refl (tt, tt)) $
-        assigns ! (agg ! (and_then ! (load ! (from ! (stop !)) (look ! 17 refl)) (and_then ! (load ! (from ! (fld ! refl (stop !))) (look_in ! 51 (sub ! 1 refl (whole !)))) (no_more !)))) (from ! (stop !)) (init ! 15 refl (tt, (tt, (record { fits = room-answers.0 }, tt)))) $
-        -- _26 = engine::records::record_count(_6)
-        move ! (5 ∷ []) $
+        (and_then ! (load ! (from ! (stop !)) (look ! 39 refl)) (and_then ! (load ! (from ! (stop !)) (look ! 45 refl)) (no_more !))) (λ first' first'-good first'-is.
+        land ! (from ! (stop !)) (init ! 42 refl ((LL.lawful M-Head.the_type L-Head.the_laws 𝓛).typed first' _ first'-good).0) $
+        assigns ! (addr ! (from ! (fld ! refl (hop ! (look_in ! 56 (sub ! 0 refl (whole !))) (stop !))))) (from ! (stop !)) (init ! 32 refl (tt, tt)) $
+        assigns ! (agg ! (and_then ! (load ! (from ! (stop !)) (look ! 32 refl)) (and_then ! (load ! (from ! (fld ! refl (stop !))) (look_in ! 56 (sub ! 1 refl (whole !)))) (no_more !)))) (from ! (stop !)) (init ! 30 refl (tt, (tt, (record { fits = room-numbers.0 }, tt)))) $
+        assigns ! (addr ! (from ! (fld ! refl (hop ! (look_in ! 54 (sub ! 0 refl (whole !))) (stop !))))) (from ! (stop !)) (init ! 28 refl (tt, tt)) $
+        assigns ! (agg ! (and_then ! (load ! (from ! (stop !)) (look ! 28 refl)) (and_then ! (load ! (from ! (fld ! refl (stop !))) (look_in ! 54 (sub ! 1 refl (whole !)))) (no_more !)))) (from ! (stop !)) (init ! 26 refl (tt, (tt, (record { fits = room-deques.0 }, tt)))) $
+        assigns ! (addr ! (from ! (fld ! refl (hop ! (look_in ! 52 (sub ! 0 refl (whole !))) (stop !))))) (from ! (stop !)) (init ! 24 refl (tt, tt)) $
+        assigns ! (agg ! (and_then ! (load ! (from ! (stop !)) (look ! 24 refl)) (and_then ! (load ! (from ! (fld ! refl (stop !))) (look_in ! 52 (sub ! 1 refl (whole !)))) (no_more !)))) (from ! (stop !)) (init ! 22 refl (tt, (tt, (record { fits = room-frames.0 }, tt)))) $
+        assigns ! (addr ! (from ! (fld ! refl (hop ! (look_in ! 50 (sub ! 0 refl (whole !))) (stop !))))) (from ! (stop !)) (init ! 20 refl (tt, tt)) $
+        assigns ! (agg ! (and_then ! (load ! (from ! (stop !)) (look ! 20 refl)) (and_then ! (load ! (from ! (fld ! refl (stop !))) (look_in ! 50 (sub ! 1 refl (whole !)))) (no_more !)))) (from ! (stop !)) (init ! 18 refl (tt, (tt, (record { fits = room-pool.0 }, tt)))) $
+        assigns ! (addr ! (from ! (fld ! refl (hop ! (look_in ! 46 (sub ! 0 refl (whole !))) (stop !))))) (from ! (stop !)) (init ! 16 refl (tt, tt)) $
+        assigns ! (agg ! (and_then ! (load ! (from ! (stop !)) (look ! 16 refl)) (and_then ! (load ! (from ! (fld ! refl (stop !))) (look_in ! 46 (sub ! 1 refl (whole !)))) (no_more !)))) (from ! (stop !)) (init ! 14 refl (tt, (tt, (record { fits = room-answers.0 }, tt)))) $
+        -- _23 = engine::records::record_count(_5)
+        move ! (4 ∷ []) $
         S-record-count.step-g mem run ! fm known-record-count b-bytes o-bytes n-bytes bytes
-        (and_then ! (load ! (from ! (stop !)) (look ! 54 refl)) (no_more !)) (λ r-3 r-3-fits r-3-is.
-        land ! (from ! (stop !)) (init ! 13 refl (tt, record { fits = r-3-fits })) $
-        -- _10 = engine::records::run_records(_9, _15, _17, _19, _21, _23, _6, _25, 0, _26)
-        move ! (1 ∷ 2 ∷ 3 ∷ 4 ∷ 5 ∷ 0 ∷ 6 ∷ []) $
-        S-run-records.step-g mem run ! fm known-run-records b-numbers o-numbers n-numbers numbers b-deques o-deques n-deques deques b-frames o-frames n-frames frames b-pool o-pool n-pool pool b-memory o-memory n-memory memory b-bytes o-bytes n-bytes bytes b-answers o-answers n-answers answers first' 0 r-3 first'-good (lit< tt) r-3-fits (F.needs-4 numbers deques frames pool memory bytes answers free_count room-numbers.0 room-deques.0 room-frames.0 room-pool.0 room-memory.0 room-bytes.0 room-answers.0 free-count-fits ok' r-1 r-1-is first' first'-is r-3 r-3-fits r-3-is) (refl) room-numbers (refl) room-deques (refl) room-frames (refl) room-pool (refl) room-memory (refl) room-answers
-        (λ ν-0 δ-0 ν-1 δ-1 ν-2 δ-2 ν-3 δ-3 ν-4 δ-4 ν-5 δ-5. and_then ! (load ! (from ! (stop !)) (look ! 48 refl)) (and_then ! (load ! (from ! (stop !)) (look ! 36 refl)) (and_then ! (load ! (from ! (stop !)) (look ! 32 refl)) (and_then ! (load ! (from ! (stop !)) (look ! 28 refl)) (and_then ! (load ! (from ! (stop !)) (look ! 24 refl)) (and_then ! (load ! (from ! (stop !)) (look ! 20 refl)) (and_then ! (load ! (from ! (stop !)) (look ! 54 refl)) (and_then ! (load ! (from ! (stop !)) (look ! 16 refl)) (and_then ! (const ! _ tt) (and_then ! (load ! (from ! (stop !)) (look ! 14 refl)) (no_more !))))))))))) (λ last numbers-4 deques-4 frames-4 pool-4 memory-4 answers-4 last-good last-is same-numbers-4 same-deques-4 same-frames-4 same-pool-4 same-memory-4 same-answers-4.
-        land ! (from ! (stop !)) (init ! 45 refl ((LL.lawful M-Ran.the_type L-Ran.the_laws 𝓛).typed last _ last-good).0) $
-        assigns ! (addr ! (from ! (fld ! refl (hop ! (look_in ! 63 (sub ! 0 refl (whole !))) (stop !))))) (from ! (stop !)) (init ! 9 refl (tt, tt)) $
-        assigns ! (agg ! (and_then ! (load ! (from ! (stop !)) (look ! 9 refl)) (and_then ! (load ! (from ! (fld ! refl (stop !))) (look_in ! 63 (sub ! 1 refl (whole !)))) (no_more !)))) (from ! (stop !)) (init ! 7 refl (tt, (tt, (record { fits = room-numbers.0 }, tt)))) $
-        -- _27 = engine::numbers::put_free(_29, _10.0.0.3, _10.0.0.4)
-        S-put-free.step mem run ! fm known-put-free b-numbers o-numbers n-numbers numbers-4 last.head.numbers.free_node last.head.numbers.free_place (LL.owed M-Numbers.the_type L-Numbers.the_laws last.head.numbers _ (LL.owed M-Head.the_type L-Head.the_laws last.head _ (LL.owed M-Ran.the_type L-Ran.the_laws last _ last-good).0).0).1.1.1.0.1 (LL.owed M-Numbers.the_type L-Numbers.the_laws last.head.numbers _ (LL.owed M-Head.the_type L-Head.the_laws last.head _ (LL.owed M-Ran.the_type L-Ran.the_laws last _ last-good).0).0).1.1.1.1.0.1 (F.needs-5 numbers deques frames pool memory bytes answers free_count room-numbers.0 room-deques.0 room-frames.0 room-pool.0 room-memory.0 room-bytes.0 room-answers.0 free-count-fits ok' r-1 r-1-is first' first'-is r-3 r-3-fits r-3-is last numbers-4 deques-4 frames-4 pool-4 memory-4 answers-4 last-is same-numbers-4 same-deques-4 same-frames-4 same-pool-4 same-memory-4 same-answers-4) (same-numbers-4) room-numbers
-        (λ ν-0 δ-0. and_then ! (load ! (from ! (stop !)) (look ! 8 refl)) (and_then ! (load ! (from ! (fld ! refl (fld ! refl (fld ! refl (stop !))))) (look_in ! 46 (sub ! 3 refl (sub ! 0 refl (sub ! 0 refl (whole !)))))) (and_then ! (load ! (from ! (fld ! refl (fld ! refl (fld ! refl (stop !))))) (look_in ! 46 (sub ! 4 refl (sub ! 0 refl (sub ! 0 refl (whole !)))))) (no_more !)))) (λ numbers-5 done-5 same-numbers-5.
-        land ! (from ! (stop !)) (init ! 11 refl (tt, tt)) $
-        assigns ! (of_opd ! (load ! (from ! (fld ! refl (stop !))) (look_in ! 45 (sub ! 1 refl (whole !))))) (from ! (stop !)) (init ! 65 refl (tt, record { fits = (LL.owed M-Ran.the_type L-Ran.the_laws last _ last-good).1.0.1 })) $
-        returns_within ! Post refl (look ! 65 refl) $ forget ! 7 refl $ forget ! 9 refl $ forget ! 11 refl $ forget ! 13 refl $ forget ! 15 refl $ forget ! 17 refl $ forget ! 19 refl $ forget ! 21 refl $ forget ! 23 refl $ forget ! 25 refl $ forget ! 27 refl $ forget ! 29 refl $ forget ! 31 refl $ forget ! 33 refl $ forget ! 35 refl $ forget ! 37 refl $ forget ! 39 refl $ forget ! 41 refl $ forget ! 43 refl $ forget ! 45 refl $ forget ! 47 refl $ forget ! 49 refl $ forget ! 51 refl $ forget ! 53 refl $ forget ! 55 refl $ forget ! 57 refl $ forget ! 59 refl $ forget ! 61 refl $ forget ! 63 refl $ forget ! 65 refl $
-        free_all ! 7 refl $
-        by ! (exits' last.visits numbers-5 deques-4 frames-4 pool-4 memory-4 answers-4 (LL.owed M-Ran.the_type L-Ran.the_laws last _ last-good).1.0.1 (F.out-6 numbers deques frames pool memory bytes answers free_count room-numbers.0 room-deques.0 room-frames.0 room-pool.0 room-memory.0 room-bytes.0 room-answers.0 free-count-fits ok' r-1 r-1-is first' first'-is r-3 r-3-fits r-3-is last numbers-4 deques-4 frames-4 pool-4 memory-4 answers-4 last-is same-numbers-4 same-deques-4 same-frames-4 same-pool-4 same-memory-4 same-answers-4 numbers-5 done-5 same-numbers-5) (same-numbers-5 ∙ same-numbers-4) (same-deques-4) (same-frames-4) (same-pool-4) (same-memory-4) (same-answers-4)))))))))))))))))))))))))))))))))))))
+        (and_then ! (load ! (from ! (stop !)) (look ! 49 refl)) (no_more !)) (λ r-3 r-3-fits r-3-is.
+        land ! (from ! (stop !)) (init ! 12 refl (tt, record { fits = r-3-fits })) $
+        -- _9 = engine::records::run_records(_8, _14, _16, _18, _20, _5, _22, 0, _23)
+        move ! (1 ∷ 2 ∷ 3 ∷ 4 ∷ 0 ∷ 5 ∷ []) $
+        S-run-records.step-g mem run ! fm known-run-records b-numbers o-numbers n-numbers numbers b-deques o-deques n-deques deques b-frames o-frames n-frames frames b-pool o-pool n-pool pool b-bytes o-bytes n-bytes bytes b-answers o-answers n-answers answers first' 0 r-3 first'-good (lit< tt) r-3-fits (F.needs-4 numbers deques frames pool bytes answers free_count room-numbers.0 room-deques.0 room-frames.0 room-pool.0 room-bytes.0 room-answers.0 free-count-fits ok' r-1 r-1-is first' first'-is r-3 r-3-fits r-3-is) (refl) room-numbers (refl) room-deques (refl) room-frames (refl) room-pool (refl) room-answers
+        (λ ν-0 δ-0 ν-1 δ-1 ν-2 δ-2 ν-3 δ-3 ν-4 δ-4. and_then ! (load ! (from ! (stop !)) (look ! 43 refl)) (and_then ! (load ! (from ! (stop !)) (look ! 31 refl)) (and_then ! (load ! (from ! (stop !)) (look ! 27 refl)) (and_then ! (load ! (from ! (stop !)) (look ! 23 refl)) (and_then ! (load ! (from ! (stop !)) (look ! 19 refl)) (and_then ! (load ! (from ! (stop !)) (look ! 49 refl)) (and_then ! (load ! (from ! (stop !)) (look ! 15 refl)) (and_then ! (const ! _ tt) (and_then ! (load ! (from ! (stop !)) (look ! 13 refl)) (no_more !)))))))))) (λ last numbers-4 deques-4 frames-4 pool-4 answers-4 last-good last-is same-numbers-4 same-deques-4 same-frames-4 same-pool-4 same-answers-4.
+        land ! (from ! (stop !)) (init ! 40 refl ((LL.lawful M-Head.the_type L-Head.the_laws 𝓛).typed last _ last-good).0) $
+        assigns ! (addr ! (from ! (fld ! refl (hop ! (look_in ! 56 (sub ! 0 refl (whole !))) (stop !))))) (from ! (stop !)) (init ! 8 refl (tt, tt)) $
+        assigns ! (agg ! (and_then ! (load ! (from ! (stop !)) (look ! 8 refl)) (and_then ! (load ! (from ! (fld ! refl (stop !))) (look_in ! 56 (sub ! 1 refl (whole !)))) (no_more !)))) (from ! (stop !)) (init ! 6 refl (tt, (tt, (record { fits = room-numbers.0 }, tt)))) $
+        -- _24 = engine::numbers::put_free(_26, _9.0.3, _9.0.4)
+        S-put-free.step mem run ! fm known-put-free b-numbers o-numbers n-numbers numbers-4 last.numbers.free_node last.numbers.free_place (LL.owed M-Numbers.the_type L-Numbers.the_laws last.numbers _ (LL.owed M-Head.the_type L-Head.the_laws last _ last-good).0).1.1.1.0.1 (LL.owed M-Numbers.the_type L-Numbers.the_laws last.numbers _ (LL.owed M-Head.the_type L-Head.the_laws last _ last-good).0).1.1.1.1.0.1 (F.needs-5 numbers deques frames pool bytes answers free_count room-numbers.0 room-deques.0 room-frames.0 room-pool.0 room-bytes.0 room-answers.0 free-count-fits ok' r-1 r-1-is first' first'-is r-3 r-3-fits r-3-is last numbers-4 deques-4 frames-4 pool-4 answers-4 last-is same-numbers-4 same-deques-4 same-frames-4 same-pool-4 same-answers-4) (same-numbers-4) room-numbers
+        (λ ν-0 δ-0. and_then ! (load ! (from ! (stop !)) (look ! 7 refl)) (and_then ! (load ! (from ! (fld ! refl (fld ! refl (stop !)))) (look_in ! 41 (sub ! 3 refl (sub ! 0 refl (whole !))))) (and_then ! (load ! (from ! (fld ! refl (fld ! refl (stop !)))) (look_in ! 41 (sub ! 4 refl (sub ! 0 refl (whole !))))) (no_more !)))) (λ numbers-5 done-5 same-numbers-5.
+        land ! (from ! (stop !)) (init ! 10 refl (tt, tt)) $
+        assigns ! (of_opd ! (const ! _ tt)) (from ! (stop !)) (init ! 58 refl (tt, tt)) $
+        returns_within ! Post refl (look ! 58 refl) $ forget ! 6 refl $ forget ! 8 refl $ forget ! 10 refl $ forget ! 12 refl $ forget ! 14 refl $ forget ! 16 refl $ forget ! 18 refl $ forget ! 20 refl $ forget ! 22 refl $ forget ! 24 refl $ forget ! 26 refl $ forget ! 28 refl $ forget ! 30 refl $ forget ! 32 refl $ forget ! 34 refl $ forget ! 36 refl $ forget ! 38 refl $ forget ! 40 refl $ forget ! 42 refl $ forget ! 44 refl $ forget ! 46 refl $ forget ! 48 refl $ forget ! 50 refl $ forget ! 52 refl $ forget ! 54 refl $ forget ! 56 refl $ forget ! 58 refl $
+        free_all ! 6 refl $
+        by ! (exits' numbers-5 deques-4 frames-4 pool-4 answers-4 (F.out-6 numbers deques frames pool bytes answers free_count room-numbers.0 room-deques.0 room-frames.0 room-pool.0 room-bytes.0 room-answers.0 free-count-fits ok' r-1 r-1-is first' first'-is r-3 r-3-fits r-3-is last numbers-4 deques-4 frames-4 pool-4 answers-4 last-is same-numbers-4 same-deques-4 same-frames-4 same-pool-4 same-answers-4 numbers-5 done-5 same-numbers-5) (same-numbers-5 ∙ same-numbers-4) (same-deques-4) (same-frames-4) (same-pool-4) (same-answers-4))))))))))))))))))))))))))))))))))
 
 module _ {M : Type 1} {𝓤 : Ura M} (𝓛 : Logic 𝓤) (mem : Memory → SProp 𝓤) (run : Routine → Fun 𝓤) (𝓣 : Tables 𝓤 𝓛.H) where
   open 𝓛 use {H}
 
   walks : Triple 𝓤 (𝓣.C #numbers-in) (S-numbers-in.Asked 𝓛 mem run) → Triple 𝓤 (𝓣.C #head-of) (S-head-of.Asked 𝓛 mem run) → Triple 𝓤 (𝓣.C #record-count) (S-record-count.Asked 𝓛 mem run) → Triple 𝓤 (𝓣.C #run-records) (S-run-records.Asked 𝓛 mem run) → Triple 𝓤 (𝓣.C #put-free) (S-put-free.Asked 𝓛 mem run) → Walks 𝓛 f'.ended stayed (WpFn 𝓤 H 𝓣.C 𝓣.Λ code.function) (f'.clauses 𝓛 mem run)
   walks known-numbers-in known-head-of known-record-count known-run-records known-put-free = walked 𝓛 f'.ended stayed (f'.clauses 𝓛 mem run) (WpFn 𝓤 H 𝓣.C 𝓣.Λ code.function)
-      (λ κs. (shr_slice_vals, (shr_slice_vals, (shr_slice_vals, (shr_slice_vals, (shr_slice_vals, (shr_slice_vals, (shr_slice_vals, (uint_vals w32, tt)))))))))
-      (λ κs. (mut_slice_Tells (named 0) κs.0 u32, (mut_slice_Tells (named 1) κs.1.0 u32, (mut_slice_Tells (named 2) κs.1.1.0 R-Frame, (mut_slice_Tells (named 3) κs.1.1.1.0 u32, (mut_slice_Tells (named 4) κs.1.1.1.1.0 u32, (shr_slice_Tells (named 5) κs.1.1.1.1.1.0 u8, (mut_slice_Tells (named 6) κs.1.1.1.1.1.1.0 u32, (uint_Tells w32, tt)))))))))
-      (λ κs qs bounds a g are. needs 𝓤 (Fits (parts a.0.now a.1.0.now a.1.1.0.now) × Kept two_words (core_of (parts a.0.now a.1.0.now a.1.1.0.now) a.1.1.1.0.now a.1.1.1.1.1.1.1.0) × Remembers two_words (core_of (parts a.0.now a.1.0.now a.1.1.0.now) a.1.1.1.0.now a.1.1.1.1.1.1.1.0) a.1.1.1.1.0.now × (2 * (length a.1.1.1.1.1.0.now / 8) ≤ length a.1.1.1.1.1.1.0.now)) _
-      (walk 𝓛 mem run κs.0 qs.0 a.0.ref_ptr.0 a.0.ref_ptr.1 a.0.ghost_name a.0.now κs.1.0 qs.1.0 a.1.0.ref_ptr.0 a.1.0.ref_ptr.1 a.1.0.ghost_name a.1.0.now κs.1.1.0 qs.1.1.0 a.1.1.0.ref_ptr.0 a.1.1.0.ref_ptr.1 a.1.1.0.ghost_name a.1.1.0.now κs.1.1.1.0 qs.1.1.1.0 a.1.1.1.0.ref_ptr.0 a.1.1.1.0.ref_ptr.1 a.1.1.1.0.ghost_name a.1.1.1.0.now κs.1.1.1.1.0 qs.1.1.1.1.0 a.1.1.1.1.0.ref_ptr.0 a.1.1.1.1.0.ref_ptr.1 a.1.1.1.1.0.ghost_name a.1.1.1.1.0.now κs.1.1.1.1.1.0 qs.1.1.1.1.1.0 a.1.1.1.1.1.0.ref_ptr.0 a.1.1.1.1.1.0.ref_ptr.1 a.1.1.1.1.1.0.ghost_name a.1.1.1.1.1.0.now κs.1.1.1.1.1.1.0 qs.1.1.1.1.1.1.0 a.1.1.1.1.1.1.0.ref_ptr.0 a.1.1.1.1.1.1.0.ref_ptr.1 a.1.1.1.1.1.1.0.ghost_name a.1.1.1.1.1.1.0.now a.1.1.1.1.1.1.1.0 are.1.1.1.1.1.1.1.0.1 are.0.0.1 are.1.0.0.1 are.1.1.0.0.1 are.1.1.1.0.0.1 are.1.1.1.1.0.0.1 are.1.1.1.1.1.0.0.1 are.1.1.1.1.1.1.0.0.1 𝓣 known-numbers-in known-head-of known-record-count known-run-records known-put-free))
+      (λ κs. (shr_slice_vals, (shr_slice_vals, (shr_slice_vals, (shr_slice_vals, (shr_slice_vals, (shr_slice_vals, (uint_vals w32, tt))))))))
+      (λ κs. (mut_slice_Tells (named 0) κs.0 u32, (mut_slice_Tells (named 1) κs.1.0 u32, (mut_slice_Tells (named 2) κs.1.1.0 R-Frame, (mut_slice_Tells (named 3) κs.1.1.1.0 u32, (shr_slice_Tells (named 4) κs.1.1.1.1.0 u8, (mut_slice_Tells (named 5) κs.1.1.1.1.1.0 u32, (uint_Tells w32, tt))))))))
+      (λ κs qs bounds a g are. needs 𝓤 (Fits (parts a.0.now a.1.0.now a.1.1.0.now) × Kept two_words (core_of (parts a.0.now a.1.0.now a.1.1.0.now) a.1.1.1.0.now a.1.1.1.1.1.1.0) × (2 * (length a.1.1.1.1.0.now / 8) ≤ length a.1.1.1.1.1.0.now)) _
+      (walk 𝓛 mem run κs.0 qs.0 a.0.ref_ptr.0 a.0.ref_ptr.1 a.0.ghost_name a.0.now κs.1.0 qs.1.0 a.1.0.ref_ptr.0 a.1.0.ref_ptr.1 a.1.0.ghost_name a.1.0.now κs.1.1.0 qs.1.1.0 a.1.1.0.ref_ptr.0 a.1.1.0.ref_ptr.1 a.1.1.0.ghost_name a.1.1.0.now κs.1.1.1.0 qs.1.1.1.0 a.1.1.1.0.ref_ptr.0 a.1.1.1.0.ref_ptr.1 a.1.1.1.0.ghost_name a.1.1.1.0.now κs.1.1.1.1.0 qs.1.1.1.1.0 a.1.1.1.1.0.ref_ptr.0 a.1.1.1.1.0.ref_ptr.1 a.1.1.1.1.0.ghost_name a.1.1.1.1.0.now κs.1.1.1.1.1.0 qs.1.1.1.1.1.0 a.1.1.1.1.1.0.ref_ptr.0 a.1.1.1.1.1.0.ref_ptr.1 a.1.1.1.1.1.0.ghost_name a.1.1.1.1.1.0.now a.1.1.1.1.1.1.0 are.1.1.1.1.1.1.0.1 are.0.0.1 are.1.0.0.1 are.1.1.0.0.1 are.1.1.1.0.0.1 are.1.1.1.1.0.0.1 are.1.1.1.1.1.0.0.1 𝓣 known-numbers-in known-head-of known-record-count known-run-records known-put-free))
 
   meets : Triple 𝓤 (𝓣.C #numbers-in) (S-numbers-in.Asked 𝓛 mem run) → Triple 𝓤 (𝓣.C #head-of) (S-head-of.Asked 𝓛 mem run) → Triple 𝓤 (𝓣.C #record-count) (S-record-count.Asked 𝓛 mem run) → Triple 𝓤 (𝓣.C #run-records) (S-run-records.Asked 𝓛 mem run) → Triple 𝓤 (𝓣.C #put-free) (S-put-free.Asked 𝓛 mem run) → Meets 𝓛 f'.signature (WpFn 𝓤 H 𝓣.C 𝓣.Λ code.function) (f'.spec 𝓛 mem run)
   meets known-numbers-in known-head-of known-record-count known-run-records known-put-free = walk_Meets 𝓛 f'.ended stayed
-      (Goes-slice 𝓛 7 0 tt (plain (λ _. u32)), (Goes-slice 𝓛 7 1 tt (plain (λ _. u32)), (Goes-slice 𝓛 7 2 tt (plain (λ _. R-Frame)), (Goes-slice 𝓛 7 3 tt (plain (λ _. u32)), (Goes-slice 𝓛 7 4 tt (plain (λ _. u32)), (Goes-none_slice 𝓛 7 (5 ∷ []) tt (plain (λ _. u8)) yes, (Goes-slice 𝓛 7 6 tt (plain (λ _. u32)), (Goes-none 𝓛 7 (λ _. u32) yes (λ κs x f. refl), tt))))))))
+      (Goes-slice 𝓛 6 0 tt (plain (λ _. u32)), (Goes-slice 𝓛 6 1 tt (plain (λ _. u32)), (Goes-slice 𝓛 6 2 tt (plain (λ _. R-Frame)), (Goes-slice 𝓛 6 3 tt (plain (λ _. u32)), (Goes-none_slice 𝓛 6 (4 ∷ []) tt (plain (λ _. u8)) yes, (Goes-slice 𝓛 6 5 tt (plain (λ _. u32)), (Goes-none 𝓛 6 (λ _. u32) yes (λ κs x f. refl), tt)))))))
       (f'.clauses 𝓛 mem run) (WpFn 𝓤 H 𝓣.C 𝓣.Λ code.function) (WpFn-mono 𝓤 H 𝓛.laws 𝓣 code.function) (walks known-numbers-in known-head-of known-record-count known-run-records known-put-free)
 
 pub run-on-spec : {M : Type 1} → stated.statement M

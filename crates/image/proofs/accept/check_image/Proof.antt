@@ -3,7 +3,7 @@ use mathlib.Core.Path.{◌≡◌, sym, ap, ◌∙◌}
 use native.Mathlib.Omega.{arith}
 use borrow.Author.Rules.{rules}
 use Rattle.image.specs.Image.{blocks_for, blocks_called}
-use Rattle.image.proofs.Ends.{too_short, form_before, form_after, other_length_lem, is_wrong, is_right_lem}
+use Rattle.image.proofs.Ends.{too_short, form_before, form_after, other_length_lem, is_wrong, is_right}
 use Rattle.image.proofs.accept.check_image.Statement.{statement}
 use Rattle.image.proofs.accept.check_image.Tie as tie
 use Rattle.soundness.specs.Layout.{two_words}
@@ -47,7 +47,7 @@ returns-6 c =
     let w = c.before in
     let b = w.before.before in
     let f = first_of b in
-    is_right_lem (start_of f).args.image.now f.first_in_lem.result b.blocks-for.result f.first_in_lem.ensures (omega arith, omega arith) (called b) (omega arith) (sym w.wrong-check.ensures ∙ c.if5.false)
+    is_right (start_of f).args.image.now f.first_in_lem.result b.blocks-for.result f.first_in_lem.ensures (omega arith, omega arith) (called b) (omega arith) (sym w.wrong-check.ensures ∙ c.if5.false)
 
 wrong-check-requires : tie.Need-wrong-check-requires
 wrong-check-requires c κs =

@@ -77,10 +77,10 @@ abbrev val-Frame : Frame → Val
 val-Frame d = LL.val M-Frame.the_type L-Frame.the_laws d
 
 abbrev stayed : Stays (f'.ended).signature.params (f'.ended).kept
-stayed = (stay_slice (0 ∷ []) tt (plain (λ _. u32)), (stay_slice (1 ∷ []) tt (plain (λ _. u32)), (stay_slice (2 ∷ []) tt (plain (λ _. u32)), (stay_none (λ _. u32) yes, (stay_none_slice (3 ∷ []) tt (plain (λ _. u32)) yes, (stay_slice (4 ∷ []) tt (plain (λ _. u32)), (stay_slice (5 ∷ []) tt (plain (λ _. u32)), (stay_none_slice (6 ∷ []) tt (plain (λ _. u8)) yes, (stay_slice (7 ∷ []) tt (plain (λ _. u32)), (stay_slice (8 ∷ []) tt (plain (λ _. u8)), (stay_none (λ _. usize) yes, tt)))))))))))
+stayed = (stay_slice (0 ∷ []) tt (plain (λ _. u32)), (stay_slice (1 ∷ []) tt (plain (λ _. u32)), (stay_none (λ _. u32) yes, (stay_none_slice (2 ∷ []) tt (plain (λ _. u32)) yes, (stay_slice (3 ∷ []) tt (plain (λ _. u32)), (stay_slice (4 ∷ []) tt (plain (λ _. u32)), (stay_none_slice (5 ∷ []) tt (plain (λ _. u8)) yes, (stay_slice (6 ∷ []) tt (plain (λ _. u32)), (stay_slice (7 ∷ []) tt (plain (λ _. u8)), (stay_none (λ _. usize) yes, tt))))))))))
 
 module _ {M : Type 1} {𝓤 : Ura M} (𝓛 : Logic 𝓤) (mem : Memory → SProp 𝓤) (run : Routine → Fun 𝓤)
-    (κ-numbers : Lft) (q-numbers : Share) (b-numbers o-numbers : ℕ) (γ-numbers : GName) (numbers : List ℕ) (κ-deques : Lft) (q-deques : Share) (b-deques o-deques : ℕ) (γ-deques : GName) (deques : List ℕ) (κ-memory : Lft) (q-memory : Share) (b-memory o-memory : ℕ) (γ-memory : GName) (memory : List ℕ) (κ-values : Lft) (q-values : Share) (b-values o-values : ℕ) (γ-values : GName) (values : List ℕ) (κ-pool : Lft) (q-pool : Share) (b-pool o-pool : ℕ) (γ-pool : GName) (pool : List ℕ) (κ-work : Lft) (q-work : Share) (b-work o-work : ℕ) (γ-work : GName) (work : List ℕ) (κ-records : Lft) (q-records : Share) (b-records o-records : ℕ) (γ-records : GName) (records : List ℕ) (κ-answers : Lft) (q-answers : Share) (b-answers o-answers : ℕ) (γ-answers : GName) (answers : List ℕ) (κ-out : Lft) (q-out : Share) (b-out o-out : ℕ) (γ-out : GName) (out : List ℕ) (workers : ℕ) (workers-fits : workers < 2 ^ 32) (at : ℕ) (at-fits : at < 2 ^ 64) (room-numbers : Room u32 (length numbers)) (room-deques : Room u32 (length deques)) (room-memory : Room u32 (length memory)) (room-values : Room u32 (length values)) (room-pool : Room u32 (length pool)) (room-work : Room u32 (length work)) (room-records : Room u8 (length records)) (room-answers : Room u32 (length answers)) (room_out : Room u8 (length out)) where
+    (κ-numbers : Lft) (q-numbers : Share) (b-numbers o-numbers : ℕ) (γ-numbers : GName) (numbers : List ℕ) (κ-deques : Lft) (q-deques : Share) (b-deques o-deques : ℕ) (γ-deques : GName) (deques : List ℕ) (κ-values : Lft) (q-values : Share) (b-values o-values : ℕ) (γ-values : GName) (values : List ℕ) (κ-pool : Lft) (q-pool : Share) (b-pool o-pool : ℕ) (γ-pool : GName) (pool : List ℕ) (κ-work : Lft) (q-work : Share) (b-work o-work : ℕ) (γ-work : GName) (work : List ℕ) (κ-records : Lft) (q-records : Share) (b-records o-records : ℕ) (γ-records : GName) (records : List ℕ) (κ-answers : Lft) (q-answers : Share) (b-answers o-answers : ℕ) (γ-answers : GName) (answers : List ℕ) (κ-out : Lft) (q-out : Share) (b-out o-out : ℕ) (γ-out : GName) (out : List ℕ) (workers : ℕ) (workers-fits : workers < 2 ^ 32) (at : ℕ) (at-fits : at < 2 ^ 64) (room-numbers : Room u32 (length numbers)) (room-deques : Room u32 (length deques)) (room-values : Room u32 (length values)) (room-pool : Room u32 (length pool)) (room-work : Room u32 (length work)) (room-records : Room u8 (length records)) (room-answers : Room u32 (length answers)) (room_out : Room u8 (length out)) where
   open 𝓛 use {H}
 
   abbrev n-numbers : ℕ
@@ -88,9 +88,6 @@ module _ {M : Type 1} {𝓤 : Ura M} (𝓛 : Logic 𝓤) (mem : Memory → SProp
 
   abbrev n-deques : ℕ
   n-deques = length deques
-
-  abbrev n-memory : ℕ
-  n-memory = length memory
 
   abbrev n-values : ℕ
   n-values = length values
@@ -110,14 +107,14 @@ module _ {M : Type 1} {𝓤 : Ura M} (𝓛 : Logic 𝓤) (mem : Memory → SProp
   abbrev n-out : ℕ
   n-out = length out
 
-  abbrev args' : Bor (List ℕ) × (Bor (List ℕ) × (Bor (List ℕ) × (ℕ × (Bor (List ℕ) × (Bor (List ℕ) × (Bor (List ℕ) × (Bor (List ℕ) × (Bor (List ℕ) × (Bor (List ℕ) × (ℕ × Unit {0}))))))))))
-  args' = (at_list b-numbers o-numbers γ-numbers numbers, (at_list b-deques o-deques γ-deques deques, (at_list b-memory o-memory γ-memory memory, (workers, (at_list b-values o-values γ-values values, (at_list b-pool o-pool γ-pool pool, (at_list b-work o-work γ-work work, (at_list b-records o-records γ-records records, (at_list b-answers o-answers γ-answers answers, (at_list b-out o-out γ-out out, (at, tt)))))))))))
+  abbrev args' : Bor (List ℕ) × (Bor (List ℕ) × (ℕ × (Bor (List ℕ) × (Bor (List ℕ) × (Bor (List ℕ) × (Bor (List ℕ) × (Bor (List ℕ) × (Bor (List ℕ) × (ℕ × Unit {0})))))))))
+  args' = (at_list b-numbers o-numbers γ-numbers numbers, (at_list b-deques o-deques γ-deques deques, (workers, (at_list b-values o-values γ-values values, (at_list b-pool o-pool γ-pool pool, (at_list b-work o-work γ-work work, (at_list b-records o-records γ-records records, (at_list b-answers o-answers γ-answers answers, (at_list b-out o-out γ-out out, (at, tt))))))))))
 
-  abbrev vals' : Vals f'.signature (κ-numbers, (κ-deques, (κ-memory, (κ-values, (κ-pool, (κ-work, (κ-records, (κ-answers, (κ-out, tt)))))))))
-  vals' = (slice_val (b-numbers, o-numbers) (length numbers) ∷ [], (slice_val (b-deques, o-deques) (length deques) ∷ [], (slice_val (b-memory, o-memory) (length memory) ∷ [], (vint w32 workers ∷ [], (slice_val (b-values, o-values) (length values) ∷ [], (slice_val (b-pool, o-pool) (length pool) ∷ [], (slice_val (b-work, o-work) (length work) ∷ [], (slice_val (b-records, o-records) (length records) ∷ [], (slice_val (b-answers, o-answers) (length answers) ∷ [], (slice_val (b-out, o-out) (length out) ∷ [], (vint w64 at ∷ [], tt)))))))))))
+  abbrev vals' : Vals f'.signature (κ-numbers, (κ-deques, (κ-values, (κ-pool, (κ-work, (κ-records, (κ-answers, (κ-out, tt))))))))
+  vals' = (slice_val (b-numbers, o-numbers) (length numbers) ∷ [], (slice_val (b-deques, o-deques) (length deques) ∷ [], (vint w32 workers ∷ [], (slice_val (b-values, o-values) (length values) ∷ [], (slice_val (b-pool, o-pool) (length pool) ∷ [], (slice_val (b-work, o-work) (length work) ∷ [], (slice_val (b-records, o-records) (length records) ∷ [], (slice_val (b-answers, o-answers) (length answers) ∷ [], (slice_val (b-out, o-out) (length out) ∷ [], (vint w64 at ∷ [], tt))))))))))
 
   abbrev bound' : (walk_of 𝓛 f'.ended stayed (f'.clauses 𝓛 mem run)).Ghost
-  bound' = (((κ-numbers, (κ-deques, (κ-memory, (κ-values, (κ-pool, (κ-work, (κ-records, (κ-answers, (κ-out, tt))))))))), (q-numbers, (q-deques, (q-memory, (q-values, (q-pool, (q-work, (q-records, (q-answers, (q-out, tt))))))))), tt, args', vals'), tt)
+  bound' = (((κ-numbers, (κ-deques, (κ-values, (κ-pool, (κ-work, (κ-records, (κ-answers, (κ-out, tt)))))))), (q-numbers, (q-deques, (q-values, (q-pool, (q-work, (q-records, (q-answers, (q-out, tt)))))))), tt, args', vals'), tt)
 
   abbrev Post : Val → SProp 𝓤
   Post = (walk_of 𝓛 f'.ended stayed (f'.clauses 𝓛 mem run)).post bound'
@@ -131,74 +128,72 @@ module _ {M : Type 1} {𝓤 : Ura M} (𝓛 : Logic 𝓤) (mem : Memory → SProp
   room-frames : Room R-Frame n-frames
   room-frames = (lit< tt, lit< tt)
 
-  exits' : (res' : ℕ) (zs-numbers : List ℕ) (zs-deques : List ℕ) (zs-memory : List ℕ) (zs-pool : List ℕ) (zs-work : List ℕ) (zs-answers : List ℕ) (zs-out : List ℕ) → res' < 2 ^ 64 → StoresUpTo (11 * length answers + 99) out at (run_lines (parts numbers deques lent_table) memory workers values pool work records answers) zs-out res' → length zs-numbers ≡ length numbers → length zs-deques ≡ length deques → length zs-memory ≡ length memory → length zs-pool ≡ length pool → length zs-work ≡ length work → length zs-answers ≡ length answers → length zs-out ≡ length out → ent 𝓤 (⋆ 𝓛 (‵ (Mine u32 κ-numbers q-numbers γ-numbers b-numbers o-numbers n-numbers zs-numbers) ∷ ‵ (Mine u32 κ-deques q-deques γ-deques b-deques o-deques n-deques zs-deques) ∷ ‵ (Mine u32 κ-memory q-memory γ-memory b-memory o-memory n-memory zs-memory) ∷ ‵ (Yours u32 κ-values q-values γ-values b-values o-values n-values values) ∷ ‵ (Mine u32 κ-pool q-pool γ-pool b-pool o-pool n-pool zs-pool) ∷ ‵ (Mine u32 κ-work q-work γ-work b-work o-work n-work zs-work) ∷ ‵ (Yours u8 κ-records q-records γ-records b-records o-records n-records records) ∷ ‵ (Mine u32 κ-answers q-answers γ-answers b-answers o-answers n-answers zs-answers) ∷ ‵ (Mine u8 κ-out q-out γ-out b-out o-out n-out zs-out) ∷ [])) (Post (vint w64 res'))
-  exits' res' zs-numbers zs-deques zs-memory zs-pool zs-work zs-answers zs-out good' e' same_numbers same-deques same_memory same-pool same_work same-answers same_out =
-      qed 𝓛 (‵ (Mine u32 κ-numbers q-numbers γ-numbers b-numbers o-numbers n-numbers zs-numbers) ∷ ‵ (Mine u32 κ-deques q-deques γ-deques b-deques o-deques n-deques zs-deques) ∷ ‵ (Mine u32 κ-memory q-memory γ-memory b-memory o-memory n-memory zs-memory) ∷ ‵ (Yours u32 κ-values q-values γ-values b-values o-values n-values values) ∷ ‵ (Mine u32 κ-pool q-pool γ-pool b-pool o-pool n-pool zs-pool) ∷ ‵ (Mine u32 κ-work q-work γ-work b-work o-work n-work zs-work) ∷ ‵ (Yours u8 κ-records q-records γ-records b-records o-records n-records records) ∷ ‵ (Mine u32 κ-answers q-answers γ-answers b-answers o-answers n-answers zs-answers) ∷ ‵ (Mine u8 κ-out q-out γ-out b-out o-out n-out zs-out) ∷ []) ∵
-      suffices ! _ (ends_at 𝓛 f'.ended stayed (f'.clauses 𝓛 mem run) bound' (vint w64 res') res' (zs-numbers, (zs-deques, (zs-memory, (tt, (tt, (zs-pool, (zs-work, (tt, (zs-answers, (zs-out, (tt, tt))))))))))) (same_numbers, (same-deques, (same_memory, (tt, (tt, (same-pool, (same_work, (tt, (same-answers, (same_out, (tt, tt)))))))))))) $ says ! e' $
-      fsplit ! $ move ! (2 ∷ []) $ fsplit ! $ move ! (4 ∷ []) $ fsplit ! $ move ! (6 ∷ []) $ fsplit ! $ move ! (8 ∷ []) $ fsplit ! $ move ! (10 ∷ []) $ fsplit ! $ move ! (12 ∷ []) $ fsplit ! $ move ! (14 ∷ []) $ fsplit ! $ move ! (16 ∷ []) $ fsplit ! $ nothing ! $ move ! (18 ∷ 16 ∷ 14 ∷ 12 ∷ 10 ∷ 8 ∷ 6 ∷ 4 ∷ 2 ∷ 0 ∷ []) $ group ! 10 $ frame ! $
-      nothing ! $ owned ! usize (Is usize) (uint_Makes 𝓛 w64) at _ (refl, at-fits) $ fjoin ! $ move ! (1 ∷ 0 ∷ []) $ fjoin ! $ move ! (1 ∷ 0 ∷ []) $ fjoin ! $ move ! (1 ∷ 0 ∷ []) $ fjoin ! $ move ! (1 ∷ 0 ∷ []) $ fjoin ! $ move ! (1 ∷ 0 ∷ []) $ fjoin ! $ move ! (1 ∷ 0 ∷ []) $ fjoin ! $ owned ! u32 (Is u32) (uint_Makes 𝓛 w32) workers _ (refl, workers-fits) $ fjoin ! $ move ! (1 ∷ 0 ∷ []) $ fjoin ! $ move ! (1 ∷ 0 ∷ []) $ fjoin ! $ move ! (1 ∷ 0 ∷ []) $ fjoin ! $ frame ! $
+  exits' : (res' : ℕ) (zs-numbers : List ℕ) (zs-deques : List ℕ) (zs-pool : List ℕ) (zs-work : List ℕ) (zs-answers : List ℕ) (zs-out : List ℕ) → res' < 2 ^ 64 → StoresUpTo (11 * length answers + 71) out at (run_lines (parts numbers deques lent_table) workers values pool work records answers) zs-out res' → length zs-numbers ≡ length numbers → length zs-deques ≡ length deques → length zs-pool ≡ length pool → length zs-work ≡ length work → length zs-answers ≡ length answers → length zs-out ≡ length out → ent 𝓤 (⋆ 𝓛 (‵ (Mine u32 κ-numbers q-numbers γ-numbers b-numbers o-numbers n-numbers zs-numbers) ∷ ‵ (Mine u32 κ-deques q-deques γ-deques b-deques o-deques n-deques zs-deques) ∷ ‵ (Yours u32 κ-values q-values γ-values b-values o-values n-values values) ∷ ‵ (Mine u32 κ-pool q-pool γ-pool b-pool o-pool n-pool zs-pool) ∷ ‵ (Mine u32 κ-work q-work γ-work b-work o-work n-work zs-work) ∷ ‵ (Yours u8 κ-records q-records γ-records b-records o-records n-records records) ∷ ‵ (Mine u32 κ-answers q-answers γ-answers b-answers o-answers n-answers zs-answers) ∷ ‵ (Mine u8 κ-out q-out γ-out b-out o-out n-out zs-out) ∷ [])) (Post (vint w64 res'))
+  exits' res' zs-numbers zs-deques zs-pool zs-work zs-answers zs-out good' e' same_numbers same-deques same-pool same_work same-answers same_out =
+      qed 𝓛 (‵ (Mine u32 κ-numbers q-numbers γ-numbers b-numbers o-numbers n-numbers zs-numbers) ∷ ‵ (Mine u32 κ-deques q-deques γ-deques b-deques o-deques n-deques zs-deques) ∷ ‵ (Yours u32 κ-values q-values γ-values b-values o-values n-values values) ∷ ‵ (Mine u32 κ-pool q-pool γ-pool b-pool o-pool n-pool zs-pool) ∷ ‵ (Mine u32 κ-work q-work γ-work b-work o-work n-work zs-work) ∷ ‵ (Yours u8 κ-records q-records γ-records b-records o-records n-records records) ∷ ‵ (Mine u32 κ-answers q-answers γ-answers b-answers o-answers n-answers zs-answers) ∷ ‵ (Mine u8 κ-out q-out γ-out b-out o-out n-out zs-out) ∷ []) ∵
+      suffices ! _ (ends_at 𝓛 f'.ended stayed (f'.clauses 𝓛 mem run) bound' (vint w64 res') res' (zs-numbers, (zs-deques, (tt, (tt, (zs-pool, (zs-work, (tt, (zs-answers, (zs-out, (tt, tt)))))))))) (same_numbers, (same-deques, (tt, (tt, (same-pool, (same_work, (tt, (same-answers, (same_out, (tt, tt))))))))))) $ says ! e' $
+      fsplit ! $ move ! (2 ∷ []) $ fsplit ! $ move ! (4 ∷ []) $ fsplit ! $ move ! (6 ∷ []) $ fsplit ! $ move ! (8 ∷ []) $ fsplit ! $ move ! (10 ∷ []) $ fsplit ! $ move ! (12 ∷ []) $ fsplit ! $ move ! (14 ∷ []) $ fsplit ! $ nothing ! $ move ! (16 ∷ 14 ∷ 12 ∷ 10 ∷ 8 ∷ 6 ∷ 4 ∷ 2 ∷ 0 ∷ []) $ group ! 9 $ frame ! $
+      nothing ! $ owned ! usize (Is usize) (uint_Makes 𝓛 w64) at _ (refl, at-fits) $ fjoin ! $ move ! (1 ∷ 0 ∷ []) $ fjoin ! $ move ! (1 ∷ 0 ∷ []) $ fjoin ! $ move ! (1 ∷ 0 ∷ []) $ fjoin ! $ move ! (1 ∷ 0 ∷ []) $ fjoin ! $ move ! (1 ∷ 0 ∷ []) $ fjoin ! $ move ! (1 ∷ 0 ∷ []) $ fjoin ! $ owned ! u32 (Is u32) (uint_Makes 𝓛 w32) workers _ (refl, workers-fits) $ fjoin ! $ move ! (1 ∷ 0 ∷ []) $ fjoin ! $ move ! (1 ∷ 0 ∷ []) $ fjoin ! $ frame ! $
       owned ! usize (Is usize) (uint_Makes 𝓛 w64) res' _ (refl, good') $ done !
 
   module _ (𝓣 : Tables 𝓤 H) (known-free-place : Triple 𝓤 (𝓣.C #free-place) (S-free-place.Asked 𝓛 mem run)) (known-run-calls : Triple 𝓤 (𝓣.C #run-calls) (S-run-calls.Asked 𝓛 mem run)) where
     abbrev fm : FmC 𝓤 H 𝓛.laws 𝓣.C
     fm = fm_of 𝓤 H 𝓛.laws 𝓣
 
-    walk : ent 𝓤 (on_entry 𝓛 f'.signature (κ-numbers, (κ-deques, (κ-memory, (κ-values, (κ-pool, (κ-work, (κ-records, (κ-answers, (κ-out, tt))))))))) (q-numbers, (q-deques, (q-memory, (q-values, (q-pool, (q-work, (q-records, (q-answers, (q-out, tt))))))))) args' vals') (WpFn 𝓤 H 𝓣.C 𝓣.Λ code.function (slice_val (b-numbers, o-numbers) (length numbers) ∷ slice_val (b-deques, o-deques) (length deques) ∷ slice_val (b-memory, o-memory) (length memory) ∷ vint w32 workers ∷ slice_val (b-values, o-values) (length values) ∷ slice_val (b-pool, o-pool) (length pool) ∷ slice_val (b-work, o-work) (length work) ∷ slice_val (b-records, o-records) (length records) ∷ slice_val (b-answers, o-answers) (length answers) ∷ slice_val (b-out, o-out) (length out) ∷ vint w64 at ∷ []) Post)
+    walk : ent 𝓤 (on_entry 𝓛 f'.signature (κ-numbers, (κ-deques, (κ-values, (κ-pool, (κ-work, (κ-records, (κ-answers, (κ-out, tt)))))))) (q-numbers, (q-deques, (q-values, (q-pool, (q-work, (q-records, (q-answers, (q-out, tt)))))))) args' vals') (WpFn 𝓤 H 𝓣.C 𝓣.Λ code.function (slice_val (b-numbers, o-numbers) (length numbers) ∷ slice_val (b-deques, o-deques) (length deques) ∷ vint w32 workers ∷ slice_val (b-values, o-values) (length values) ∷ slice_val (b-pool, o-pool) (length pool) ∷ slice_val (b-work, o-work) (length work) ∷ slice_val (b-records, o-records) (length records) ∷ slice_val (b-answers, o-answers) (length answers) ∷ slice_val (b-out, o-out) (length out) ∷ vint w64 at ∷ []) Post)
     walk =
-        qed 𝓛 ((‵ (flft κ-numbers q-numbers) ⊛ ‵ (flft κ-deques q-deques) ⊛ ‵ (flft κ-memory q-memory) ⊛ ‵ (flft κ-values q-values) ⊛ ‵ (flft κ-pool q-pool) ⊛ ‵ (flft κ-work q-work) ⊛ ‵ (flft κ-records q-records) ⊛ ‵ (flft κ-answers q-answers) ⊛ ‵ (flft κ-out q-out) ⊛ ‵ ftrue) ∷ ‵ (owns (MutSlice (named 0) κ-numbers u32 ∷ MutSlice (named 1) κ-deques u32 ∷ MutSlice (named 2) κ-memory u32 ∷ u32 ∷ ShrSlice (named 3) κ-values u32 ∷ MutSlice (named 4) κ-pool u32 ∷ MutSlice (named 5) κ-work u32 ∷ ShrSlice (named 6) κ-records u8 ∷ MutSlice (named 7) κ-answers u32 ∷ MutSlice (named 8) κ-out u8 ∷ usize ∷ []) args' vals') ∷ []) ∵ enter ! 𝓣.C 𝓣.Λ code.function (slice_val (b-numbers, o-numbers) (length numbers) ∷ slice_val (b-deques, o-deques) (length deques) ∷ slice_val (b-memory, o-memory) (length memory) ∷ vint w32 workers ∷ slice_val (b-values, o-values) (length values) ∷ slice_val (b-pool, o-pool) (length pool) ∷ slice_val (b-work, o-work) (length work) ∷ slice_val (b-records, o-records) (length records) ∷ slice_val (b-answers, o-answers) (length answers) ∷ slice_val (b-out, o-out) (length out) ∷ vint w64 at ∷ []) _ $
-        alloc1 ! (λ l₀. alloc1 ! (λ l₁. alloc1 ! (λ l₂. alloc1 ! (λ l₃. alloc1 ! (λ l₄. alloc1 ! (λ l₅. alloc1 ! (λ l₆. alloc1 ! (λ l₇. alloc1 ! (λ l₈. alloc1 ! (λ l₉. alloc1 ! (λ l₁₀. alloc1 ! (λ l₁₁. alloc1 ! (λ l₁₂. alloc1 ! (λ b-frames. alloc1 ! (λ l₁₄. alloc1 ! (λ l₁₅. alloc1 ! (λ l₁₆. alloc1 ! (λ l₁₇. alloc1 ! (λ l₁₈. alloc1 ! (λ l₁₉. alloc1 ! (λ l₂₀. alloc1 ! (λ l₂₁. alloc1 ! (λ l₂₂. alloc1 ! (λ l₂₃. alloc1 ! (λ l₂₄. alloc1 ! (λ l₂₅. alloc1 ! (λ l₂₆. alloc1 ! (λ l₂₇. alloc1 ! (λ l₂₈. alloc1 ! (λ l₂₉. alloc0 ! $ params1 ! $
-        pass1 ! (init ! 56 refl (tt, (tt, (record { fits = room-numbers.0 }, tt)))) $ pass1 ! (init ! 54 refl (tt, (tt, (record { fits = room-deques.0 }, tt)))) $ pass1 ! (init ! 52 refl (tt, (tt, (record { fits = room-memory.0 }, tt)))) $ pass1 ! (init ! 50 refl (tt, record { fits = workers-fits })) $ pass1 ! (init ! 48 refl (tt, (tt, (record { fits = room-values.0 }, tt)))) $ pass1 ! (init ! 46 refl (tt, (tt, (record { fits = room-pool.0 }, tt)))) $ pass1 ! (init ! 44 refl (tt, (tt, (record { fits = room-work.0 }, tt)))) $ pass1 ! (init ! 42 refl (tt, (tt, (record { fits = room-records.0 }, tt)))) $ pass1 ! (init ! 40 refl (tt, (tt, (record { fits = room-answers.0 }, tt)))) $ pass1 ! (init ! 38 refl (tt, (tt, (record { fits = room_out.0 }, tt)))) $ pass1 ! (init ! 36 refl (tt, record { fits = at-fits })) $ pass0 ! $
-        move ! (61 ∷ []) $ fsplit ! $ move ! (1 ∷ []) $ fsplit ! $ move ! (1 ∷ []) $ fsplit ! $ move ! (1 ∷ []) $ fsplit ! $ drop ! $ fsplit ! $ move ! (1 ∷ []) $ fsplit ! $ move ! (1 ∷ []) $ fsplit ! $ move ! (1 ∷ []) $ fsplit ! $ move ! (1 ∷ []) $ fsplit ! $ move ! (1 ∷ []) $ fsplit ! $ move ! (1 ∷ []) $ fsplit ! $ drop ! $ drop ! $ move ! (69 ∷ []) $ split ! $ move ! (1 ∷ []) $ split ! $ move ! (1 ∷ []) $ split ! $ move ! (1 ∷ []) $ split ! $ move ! (1 ∷ []) $ split ! $ move ! (1 ∷ []) $ split ! $ move ! (1 ∷ []) $ split ! $ move ! (1 ∷ []) $ split ! $ move ! (1 ∷ []) $ split ! $ move ! (1 ∷ []) $ drop ! $ move ! (9 ∷ 0 ∷ []) $ fjoin ! $ move ! (9 ∷ 1 ∷ []) $ fjoin ! $ move ! (9 ∷ 2 ∷ []) $ fjoin ! $ move ! (9 ∷ 3 ∷ []) $ fjoin ! $ move ! (9 ∷ 4 ∷ []) $ fjoin ! $ move ! (9 ∷ 5 ∷ []) $ fjoin ! $ move ! (9 ∷ 6 ∷ []) $ fjoin ! $ move ! (9 ∷ 7 ∷ []) $ fjoin ! $ move ! (9 ∷ 8 ∷ []) $ fjoin ! $
-        -- [numbers; deques; memory; values; pool; work; records; answers; out; the locals]
-        -- _12 = frames::records::free_place(0)
+        qed 𝓛 ((‵ (flft κ-numbers q-numbers) ⊛ ‵ (flft κ-deques q-deques) ⊛ ‵ (flft κ-values q-values) ⊛ ‵ (flft κ-pool q-pool) ⊛ ‵ (flft κ-work q-work) ⊛ ‵ (flft κ-records q-records) ⊛ ‵ (flft κ-answers q-answers) ⊛ ‵ (flft κ-out q-out) ⊛ ‵ ftrue) ∷ ‵ (owns (MutSlice (named 0) κ-numbers u32 ∷ MutSlice (named 1) κ-deques u32 ∷ u32 ∷ ShrSlice (named 2) κ-values u32 ∷ MutSlice (named 3) κ-pool u32 ∷ MutSlice (named 4) κ-work u32 ∷ ShrSlice (named 5) κ-records u8 ∷ MutSlice (named 6) κ-answers u32 ∷ MutSlice (named 7) κ-out u8 ∷ usize ∷ []) args' vals') ∷ []) ∵ enter ! 𝓣.C 𝓣.Λ code.function (slice_val (b-numbers, o-numbers) (length numbers) ∷ slice_val (b-deques, o-deques) (length deques) ∷ vint w32 workers ∷ slice_val (b-values, o-values) (length values) ∷ slice_val (b-pool, o-pool) (length pool) ∷ slice_val (b-work, o-work) (length work) ∷ slice_val (b-records, o-records) (length records) ∷ slice_val (b-answers, o-answers) (length answers) ∷ slice_val (b-out, o-out) (length out) ∷ vint w64 at ∷ []) _ $
+        alloc1 ! (λ l₀. alloc1 ! (λ l₁. alloc1 ! (λ l₂. alloc1 ! (λ l₃. alloc1 ! (λ l₄. alloc1 ! (λ l₅. alloc1 ! (λ l₆. alloc1 ! (λ l₇. alloc1 ! (λ l₈. alloc1 ! (λ l₉. alloc1 ! (λ l₁₀. alloc1 ! (λ l₁₁. alloc1 ! (λ b-frames. alloc1 ! (λ l₁₃. alloc1 ! (λ l₁₄. alloc1 ! (λ l₁₅. alloc1 ! (λ l₁₆. alloc1 ! (λ l₁₇. alloc1 ! (λ l₁₈. alloc1 ! (λ l₁₉. alloc1 ! (λ l₂₀. alloc1 ! (λ l₂₁. alloc1 ! (λ l₂₂. alloc1 ! (λ l₂₃. alloc1 ! (λ l₂₄. alloc1 ! (λ l₂₅. alloc1 ! (λ l₂₆. alloc0 ! $ params1 ! $
+        pass1 ! (init ! 50 refl (tt, (tt, (record { fits = room-numbers.0 }, tt)))) $ pass1 ! (init ! 48 refl (tt, (tt, (record { fits = room-deques.0 }, tt)))) $ pass1 ! (init ! 46 refl (tt, record { fits = workers-fits })) $ pass1 ! (init ! 44 refl (tt, (tt, (record { fits = room-values.0 }, tt)))) $ pass1 ! (init ! 42 refl (tt, (tt, (record { fits = room-pool.0 }, tt)))) $ pass1 ! (init ! 40 refl (tt, (tt, (record { fits = room-work.0 }, tt)))) $ pass1 ! (init ! 38 refl (tt, (tt, (record { fits = room-records.0 }, tt)))) $ pass1 ! (init ! 36 refl (tt, (tt, (record { fits = room-answers.0 }, tt)))) $ pass1 ! (init ! 34 refl (tt, (tt, (record { fits = room_out.0 }, tt)))) $ pass1 ! (init ! 32 refl (tt, record { fits = at-fits })) $ pass0 ! $
+        move ! (55 ∷ []) $ fsplit ! $ move ! (1 ∷ []) $ fsplit ! $ move ! (1 ∷ []) $ fsplit ! $ drop ! $ fsplit ! $ move ! (1 ∷ []) $ fsplit ! $ move ! (1 ∷ []) $ fsplit ! $ move ! (1 ∷ []) $ fsplit ! $ move ! (1 ∷ []) $ fsplit ! $ move ! (1 ∷ []) $ fsplit ! $ move ! (1 ∷ []) $ fsplit ! $ drop ! $ drop ! $ move ! (62 ∷ []) $ split ! $ move ! (1 ∷ []) $ split ! $ move ! (1 ∷ []) $ split ! $ move ! (1 ∷ []) $ split ! $ move ! (1 ∷ []) $ split ! $ move ! (1 ∷ []) $ split ! $ move ! (1 ∷ []) $ split ! $ move ! (1 ∷ []) $ split ! $ move ! (1 ∷ []) $ drop ! $ move ! (8 ∷ 0 ∷ []) $ fjoin ! $ move ! (8 ∷ 1 ∷ []) $ fjoin ! $ move ! (8 ∷ 2 ∷ []) $ fjoin ! $ move ! (8 ∷ 3 ∷ []) $ fjoin ! $ move ! (8 ∷ 4 ∷ []) $ fjoin ! $ move ! (8 ∷ 5 ∷ []) $ fjoin ! $ move ! (8 ∷ 6 ∷ []) $ fjoin ! $ move ! (8 ∷ 7 ∷ []) $ fjoin ! $
+        -- [numbers; deques; values; pool; work; records; answers; out; the locals]
+        -- _11 = frames::records::free_place(0)
         S-free-place.step mem run ! fm known-free-place 0 (lit< tt)
         (and_then ! (const ! _ tt) (no_more !)) (λ zero zero-good zero_is.
-        land ! (from ! (stop !)) (init ! 43 refl ((LL.lawful M-Frame.the_type L-Frame.the_laws 𝓛).typed zero _ zero-good).0) $
-        assigns ! (rep ! 64 (load ! (from ! (stop !)) (look ! 43 refl))) (from ! (stop !)) (init ! 41 refl (array_fits 𝓛 R-Frame (LL.lawful M-Frame.the_type L-Frame.the_laws 𝓛) 64 (replicate 64 zero) _ (array_is R-Frame 64 zero (val-Frame zero) zero-good))) $
-        assigns ! (addr ! (from ! (fld ! refl (hop ! (look_in ! 65 (sub ! 0 refl (whole !))) (stop !))))) (from ! (stop !)) (init ! 39 refl (tt, tt)) $
-        assigns ! (agg ! (and_then ! (load ! (from ! (stop !)) (look ! 39 refl)) (and_then ! (load ! (from ! (fld ! refl (stop !))) (look_in ! 65 (sub ! 1 refl (whole !)))) (no_more !)))) (from ! (stop !)) (init ! 37 refl (tt, (tt, (record { fits = room-numbers.0 }, tt)))) $
-        assigns ! (addr ! (from ! (fld ! refl (hop ! (look_in ! 63 (sub ! 0 refl (whole !))) (stop !))))) (from ! (stop !)) (init ! 35 refl (tt, tt)) $
-        assigns ! (agg ! (and_then ! (load ! (from ! (stop !)) (look ! 35 refl)) (and_then ! (load ! (from ! (fld ! refl (stop !))) (look_in ! 63 (sub ! 1 refl (whole !)))) (no_more !)))) (from ! (stop !)) (init ! 33 refl (tt, (tt, (record { fits = room-deques.0 }, tt)))) $
-        move ! (41 ∷ []) $
+        land ! (from ! (stop !)) (init ! 38 refl ((LL.lawful M-Frame.the_type L-Frame.the_laws 𝓛).typed zero _ zero-good).0) $
+        assigns ! (rep ! 64 (load ! (from ! (stop !)) (look ! 38 refl))) (from ! (stop !)) (init ! 36 refl (array_fits 𝓛 R-Frame (LL.lawful M-Frame.the_type L-Frame.the_laws 𝓛) 64 (replicate 64 zero) _ (array_is R-Frame 64 zero (val-Frame zero) zero-good))) $
+        assigns ! (addr ! (from ! (fld ! refl (hop ! (look_in ! 58 (sub ! 0 refl (whole !))) (stop !))))) (from ! (stop !)) (init ! 34 refl (tt, tt)) $
+        assigns ! (agg ! (and_then ! (load ! (from ! (stop !)) (look ! 34 refl)) (and_then ! (load ! (from ! (fld ! refl (stop !))) (look_in ! 58 (sub ! 1 refl (whole !)))) (no_more !)))) (from ! (stop !)) (init ! 32 refl (tt, (tt, (record { fits = room-numbers.0 }, tt)))) $
+        assigns ! (addr ! (from ! (fld ! refl (hop ! (look_in ! 56 (sub ! 0 refl (whole !))) (stop !))))) (from ! (stop !)) (init ! 30 refl (tt, tt)) $
+        assigns ! (agg ! (and_then ! (load ! (from ! (stop !)) (look ! 30 refl)) (and_then ! (load ! (from ! (fld ! refl (stop !))) (look_in ! 56 (sub ! 1 refl (whole !)))) (no_more !)))) (from ! (stop !)) (init ! 28 refl (tt, (tt, (record { fits = room-deques.0 }, tt)))) $
+        move ! (36 ∷ []) $
         open_local ! tt R-Frame tt (LL.makes M-Frame.the_type L-Frame.the_plain 𝓛) n-frames b-frames (replicate 64 zero) ((array_val (replicate 64 (val-Frame zero)))) (array_is R-Frame 64 zero (val-Frame zero) zero-good) room-frames (λ ν-frames γ-frames frames frames-is frames-length.
-        move ! (0 ∷ 2 ∷ 3 ∷ 4 ∷ 5 ∷ 6 ∷ 7 ∷ 8 ∷ 9 ∷ 10 ∷ 11 ∷ 12 ∷ 13 ∷ 14 ∷ 15 ∷ 16 ∷ 17 ∷ 18 ∷ 19 ∷ 20 ∷ 21 ∷ 22 ∷ 23 ∷ 24 ∷ 25 ∷ 26 ∷ 27 ∷ 28 ∷ 29 ∷ 30 ∷ 31 ∷ 32 ∷ 33 ∷ 34 ∷ 35 ∷ 36 ∷ 37 ∷ 38 ∷ 39 ∷ 40 ∷ 41 ∷ 42 ∷ 1 ∷ []) $
-        assigns ! (addr ! (from ! (stop !))) (from ! (stop !)) (init ! 32 refl (tt, tt)) $
-        assigns ! (agg ! (and_then ! (load ! (from ! (stop !)) (look ! 32 refl)) (and_then ! (const ! _ tt) (no_more !)))) (from ! (stop !)) (init ! 30 refl (tt, (tt, (record { fits = room-frames.0 }, tt)))) $
-        assigns ! (addr ! (from ! (fld ! refl (hop ! (look_in ! 62 (sub ! 0 refl (whole !))) (stop !))))) (from ! (stop !)) (init ! 28 refl (tt, tt)) $
-        assigns ! (agg ! (and_then ! (load ! (from ! (stop !)) (look ! 28 refl)) (and_then ! (load ! (from ! (fld ! refl (stop !))) (look_in ! 62 (sub ! 1 refl (whole !)))) (no_more !)))) (from ! (stop !)) (init ! 26 refl (tt, (tt, (record { fits = room-memory.0 }, tt)))) $
-        assigns ! (addr ! (from ! (fld ! refl (hop ! (look_in ! 56 (sub ! 0 refl (whole !))) (stop !))))) (from ! (stop !)) (init ! 24 refl (tt, tt)) $
-        assigns ! (agg ! (and_then ! (load ! (from ! (stop !)) (look ! 24 refl)) (and_then ! (load ! (from ! (fld ! refl (stop !))) (look_in ! 56 (sub ! 1 refl (whole !)))) (no_more !)))) (from ! (stop !)) (init ! 22 refl (tt, (tt, (record { fits = room-pool.0 }, tt)))) $
-        assigns ! (addr ! (from ! (fld ! refl (hop ! (look_in ! 54 (sub ! 0 refl (whole !))) (stop !))))) (from ! (stop !)) (init ! 20 refl (tt, tt)) $
-        assigns ! (agg ! (and_then ! (load ! (from ! (stop !)) (look ! 20 refl)) (and_then ! (load ! (from ! (fld ! refl (stop !))) (look_in ! 54 (sub ! 1 refl (whole !)))) (no_more !)))) (from ! (stop !)) (init ! 18 refl (tt, (tt, (record { fits = room-work.0 }, tt)))) $
-        assigns ! (addr ! (from ! (fld ! refl (hop ! (look_in ! 50 (sub ! 0 refl (whole !))) (stop !))))) (from ! (stop !)) (init ! 16 refl (tt, tt)) $
-        assigns ! (agg ! (and_then ! (load ! (from ! (stop !)) (look ! 16 refl)) (and_then ! (load ! (from ! (fld ! refl (stop !))) (look_in ! 50 (sub ! 1 refl (whole !)))) (no_more !)))) (from ! (stop !)) (init ! 14 refl (tt, (tt, (record { fits = room-answers.0 }, tt)))) $
-        assigns ! (addr ! (from ! (fld ! refl (hop ! (look_in ! 48 (sub ! 0 refl (whole !))) (stop !))))) (from ! (stop !)) (init ! 12 refl (tt, tt)) $
-        assigns ! (agg ! (and_then ! (load ! (from ! (stop !)) (look ! 12 refl)) (and_then ! (load ! (from ! (fld ! refl (stop !))) (look_in ! 48 (sub ! 1 refl (whole !)))) (no_more !)))) (from ! (stop !)) (init ! 10 refl (tt, (tt, (record { fits = room_out.0 }, tt)))) $
-        -- _0 = lines::run::run_calls(_15, _17, _19, _21, _4, _5, _23, _25, _8, _27, _29, _11)
-        move ! (1 ∷ 2 ∷ 0 ∷ 3 ∷ 4 ∷ 5 ∷ 6 ∷ 7 ∷ 8 ∷ 9 ∷ []) $
-        S-run-calls.step-gg mem run ! fm known-run-calls b-numbers o-numbers n-numbers numbers b-deques o-deques n-deques deques b-frames o-frames n-frames frames b-memory o-memory n-memory memory b-values o-values n-values values b-pool o-pool n-pool pool b-work o-work n-work work b-records o-records n-records records b-answers o-answers n-answers answers b-out o-out n-out out workers at workers-fits at-fits (refl) room-numbers (refl) room-deques (frames-length) room-frames (refl) room-memory (refl) room-pool (refl) room-work (refl) room-answers (refl) room_out
-        (λ ν-0 δ-0 ν-1 δ-1 ν-2 δ-2 ν-3 δ-3 ν-4 δ-4 ν-5 δ-5 ν-6 δ-6 ν-7 δ-7. and_then ! (load ! (from ! (stop !)) (look ! 39 refl)) (and_then ! (load ! (from ! (stop !)) (look ! 35 refl)) (and_then ! (load ! (from ! (stop !)) (look ! 31 refl)) (and_then ! (load ! (from ! (stop !)) (look ! 27 refl)) (and_then ! (load ! (from ! (stop !)) (look ! 61 refl)) (and_then ! (load ! (from ! (stop !)) (look ! 59 refl)) (and_then ! (load ! (from ! (stop !)) (look ! 23 refl)) (and_then ! (load ! (from ! (stop !)) (look ! 19 refl)) (and_then ! (load ! (from ! (stop !)) (look ! 53 refl)) (and_then ! (load ! (from ! (stop !)) (look ! 15 refl)) (and_then ! (load ! (from ! (stop !)) (look ! 11 refl)) (and_then ! (load ! (from ! (stop !)) (look ! 47 refl)) (no_more !))))))))))))) (λ r-2 numbers-2 deques-2 frames-2 memory-2 pool-2 work-2 answers-2 out-2 r-2-fits r-2-is same-numbers-2 same-deques-2 same-frames-2 same-memory-2 same-pool-2 same-work-2 same-answers-2 same-out-2.
-        land ! (from ! (stop !)) (init ! 68 refl (tt, record { fits = r-2-fits })) $
-        move ! (2 ∷ 42 ∷ []) $
+        move ! (0 ∷ 2 ∷ 3 ∷ 4 ∷ 5 ∷ 6 ∷ 7 ∷ 8 ∷ 9 ∷ 10 ∷ 11 ∷ 12 ∷ 13 ∷ 14 ∷ 15 ∷ 16 ∷ 17 ∷ 18 ∷ 19 ∷ 20 ∷ 21 ∷ 22 ∷ 23 ∷ 24 ∷ 25 ∷ 26 ∷ 27 ∷ 28 ∷ 29 ∷ 30 ∷ 31 ∷ 32 ∷ 33 ∷ 34 ∷ 35 ∷ 36 ∷ 37 ∷ 1 ∷ []) $
+        assigns ! (addr ! (from ! (stop !))) (from ! (stop !)) (init ! 27 refl (tt, tt)) $
+        assigns ! (agg ! (and_then ! (load ! (from ! (stop !)) (look ! 27 refl)) (and_then ! (const ! _ tt) (no_more !)))) (from ! (stop !)) (init ! 25 refl (tt, (tt, (record { fits = room-frames.0 }, tt)))) $
+        assigns ! (addr ! (from ! (fld ! refl (hop ! (look_in ! 51 (sub ! 0 refl (whole !))) (stop !))))) (from ! (stop !)) (init ! 23 refl (tt, tt)) $
+        assigns ! (agg ! (and_then ! (load ! (from ! (stop !)) (look ! 23 refl)) (and_then ! (load ! (from ! (fld ! refl (stop !))) (look_in ! 51 (sub ! 1 refl (whole !)))) (no_more !)))) (from ! (stop !)) (init ! 21 refl (tt, (tt, (record { fits = room-pool.0 }, tt)))) $
+        assigns ! (addr ! (from ! (fld ! refl (hop ! (look_in ! 49 (sub ! 0 refl (whole !))) (stop !))))) (from ! (stop !)) (init ! 19 refl (tt, tt)) $
+        assigns ! (agg ! (and_then ! (load ! (from ! (stop !)) (look ! 19 refl)) (and_then ! (load ! (from ! (fld ! refl (stop !))) (look_in ! 49 (sub ! 1 refl (whole !)))) (no_more !)))) (from ! (stop !)) (init ! 17 refl (tt, (tt, (record { fits = room-work.0 }, tt)))) $
+        assigns ! (addr ! (from ! (fld ! refl (hop ! (look_in ! 45 (sub ! 0 refl (whole !))) (stop !))))) (from ! (stop !)) (init ! 15 refl (tt, tt)) $
+        assigns ! (agg ! (and_then ! (load ! (from ! (stop !)) (look ! 15 refl)) (and_then ! (load ! (from ! (fld ! refl (stop !))) (look_in ! 45 (sub ! 1 refl (whole !)))) (no_more !)))) (from ! (stop !)) (init ! 13 refl (tt, (tt, (record { fits = room-answers.0 }, tt)))) $
+        assigns ! (addr ! (from ! (fld ! refl (hop ! (look_in ! 43 (sub ! 0 refl (whole !))) (stop !))))) (from ! (stop !)) (init ! 11 refl (tt, tt)) $
+        assigns ! (agg ! (and_then ! (load ! (from ! (stop !)) (look ! 11 refl)) (and_then ! (load ! (from ! (fld ! refl (stop !))) (look_in ! 43 (sub ! 1 refl (whole !)))) (no_more !)))) (from ! (stop !)) (init ! 9 refl (tt, (tt, (record { fits = room_out.0 }, tt)))) $
+        -- _0 = lines::run::run_calls(_14, _16, _18, _3, _4, _20, _22, _7, _24, _26, _10)
+        move ! (1 ∷ 2 ∷ 0 ∷ 3 ∷ 4 ∷ 5 ∷ 6 ∷ 7 ∷ 8 ∷ []) $
+        S-run-calls.step-gg mem run ! fm known-run-calls b-numbers o-numbers n-numbers numbers b-deques o-deques n-deques deques b-frames o-frames n-frames frames b-values o-values n-values values b-pool o-pool n-pool pool b-work o-work n-work work b-records o-records n-records records b-answers o-answers n-answers answers b-out o-out n-out out workers at workers-fits at-fits (refl) room-numbers (refl) room-deques (frames-length) room-frames (refl) room-pool (refl) room-work (refl) room-answers (refl) room_out
+        (λ ν-0 δ-0 ν-1 δ-1 ν-2 δ-2 ν-3 δ-3 ν-4 δ-4 ν-5 δ-5 ν-6 δ-6. and_then ! (load ! (from ! (stop !)) (look ! 34 refl)) (and_then ! (load ! (from ! (stop !)) (look ! 30 refl)) (and_then ! (load ! (from ! (stop !)) (look ! 26 refl)) (and_then ! (load ! (from ! (stop !)) (look ! 56 refl)) (and_then ! (load ! (from ! (stop !)) (look ! 54 refl)) (and_then ! (load ! (from ! (stop !)) (look ! 22 refl)) (and_then ! (load ! (from ! (stop !)) (look ! 18 refl)) (and_then ! (load ! (from ! (stop !)) (look ! 48 refl)) (and_then ! (load ! (from ! (stop !)) (look ! 14 refl)) (and_then ! (load ! (from ! (stop !)) (look ! 10 refl)) (and_then ! (load ! (from ! (stop !)) (look ! 42 refl)) (no_more !)))))))))))) (λ r-2 numbers-2 deques-2 frames-2 pool-2 work-2 answers-2 out-2 r-2-fits r-2-is same-numbers-2 same-deques-2 same-frames-2 same-pool-2 same-work-2 same-answers-2 same-out-2.
+        land ! (from ! (stop !)) (init ! 61 refl (tt, record { fits = r-2-fits })) $
+        move ! (2 ∷ 37 ∷ []) $
         shut_local ! tt R-Frame n-frames b-frames frames-2 (λ v-frames v-frames-is.
-        move ! (1 ∷ 2 ∷ 3 ∷ 4 ∷ 5 ∷ 6 ∷ 7 ∷ 8 ∷ 9 ∷ 10 ∷ 11 ∷ 12 ∷ 13 ∷ 14 ∷ 15 ∷ 16 ∷ 17 ∷ 18 ∷ 19 ∷ 20 ∷ 21 ∷ 22 ∷ 23 ∷ 24 ∷ 25 ∷ 26 ∷ 27 ∷ 28 ∷ 29 ∷ 30 ∷ 31 ∷ 32 ∷ 33 ∷ 34 ∷ 35 ∷ 36 ∷ 37 ∷ 38 ∷ 39 ∷ 40 ∷ 41 ∷ 0 ∷ []) $
-        returns_within ! Post refl (look ! 67 refl) $ forget ! 9 refl $ forget ! 11 refl $ forget ! 13 refl $ forget ! 15 refl $ forget ! 17 refl $ forget ! 19 refl $ forget ! 21 refl $ forget ! 23 refl $ forget ! 25 refl $ forget ! 27 refl $ forget ! 29 refl $ forget ! 31 refl $ forget ! 33 refl $ forget ! 35 refl $ forget ! 37 refl $ forget ! 39 refl $ forget ! 41 refl $ forget ! 43 refl $ forget ! 45 refl $ forget ! 47 refl $ forget ! 49 refl $ forget ! 51 refl $ forget ! 53 refl $ forget ! 55 refl $ forget ! 57 refl $ forget ! 59 refl $ forget ! 61 refl $ forget ! 63 refl $ forget ! 65 refl $ forget ! 67 refl $
-        free_all ! 9 refl $
-        by ! (exits' r-2 numbers-2 deques-2 memory-2 pool-2 work-2 answers-2 out-2 r-2-fits (F.out-3 numbers deques memory workers values pool work records answers out at room-numbers.0 room-deques.0 room-memory.0 workers-fits room-values.0 room-pool.0 room-work.0 room-records.0 room-answers.0 room_out.0 at-fits zero zero_is frames frames-is frames-length r-2 numbers-2 deques-2 frames-2 memory-2 pool-2 work-2 answers-2 out-2 r-2-fits r-2-is same-numbers-2 same-deques-2 same-frames-2 same-memory-2 same-pool-2 same-work-2 same-answers-2 same-out-2) (same-numbers-2) (same-deques-2) (same-memory-2) (same-pool-2) (same-work-2) (same-answers-2) (same-out-2))))))))))))))))))))))))))))))))))))
+        move ! (1 ∷ 2 ∷ 3 ∷ 4 ∷ 5 ∷ 6 ∷ 7 ∷ 8 ∷ 9 ∷ 10 ∷ 11 ∷ 12 ∷ 13 ∷ 14 ∷ 15 ∷ 16 ∷ 17 ∷ 18 ∷ 19 ∷ 20 ∷ 21 ∷ 22 ∷ 23 ∷ 24 ∷ 25 ∷ 26 ∷ 27 ∷ 28 ∷ 29 ∷ 30 ∷ 31 ∷ 32 ∷ 33 ∷ 34 ∷ 35 ∷ 36 ∷ 0 ∷ []) $
+        returns_within ! Post refl (look ! 60 refl) $ forget ! 8 refl $ forget ! 10 refl $ forget ! 12 refl $ forget ! 14 refl $ forget ! 16 refl $ forget ! 18 refl $ forget ! 20 refl $ forget ! 22 refl $ forget ! 24 refl $ forget ! 26 refl $ forget ! 28 refl $ forget ! 30 refl $ forget ! 32 refl $ forget ! 34 refl $ forget ! 36 refl $ forget ! 38 refl $ forget ! 40 refl $ forget ! 42 refl $ forget ! 44 refl $ forget ! 46 refl $ forget ! 48 refl $ forget ! 50 refl $ forget ! 52 refl $ forget ! 54 refl $ forget ! 56 refl $ forget ! 58 refl $ forget ! 60 refl $
+        free_all ! 8 refl $
+        by ! (exits' r-2 numbers-2 deques-2 pool-2 work-2 answers-2 out-2 r-2-fits (F.out-3 numbers deques workers values pool work records answers out at room-numbers.0 room-deques.0 workers-fits room-values.0 room-pool.0 room-work.0 room-records.0 room-answers.0 room_out.0 at-fits zero zero_is frames frames-is frames-length r-2 numbers-2 deques-2 frames-2 pool-2 work-2 answers-2 out-2 r-2-fits r-2-is same-numbers-2 same-deques-2 same-frames-2 same-pool-2 same-work-2 same-answers-2 same-out-2) (same-numbers-2) (same-deques-2) (same-pool-2) (same-work-2) (same-answers-2) (same-out-2)))))))))))))))))))))))))))))))))
 
 module _ {M : Type 1} {𝓤 : Ura M} (𝓛 : Logic 𝓤) (mem : Memory → SProp 𝓤) (run : Routine → Fun 𝓤) (𝓣 : Tables 𝓤 𝓛.H) where
   open 𝓛 use {H}
 
   walks : Triple 𝓤 (𝓣.C #free-place) (S-free-place.Asked 𝓛 mem run) → Triple 𝓤 (𝓣.C #run-calls) (S-run-calls.Asked 𝓛 mem run) → Walks 𝓛 f'.ended stayed (WpFn 𝓤 H 𝓣.C 𝓣.Λ code.function) (f'.clauses 𝓛 mem run)
   walks known-free-place known-run-calls = walked 𝓛 f'.ended stayed (f'.clauses 𝓛 mem run) (WpFn 𝓤 H 𝓣.C 𝓣.Λ code.function)
-      (λ κs. (shr_slice_vals, (shr_slice_vals, (shr_slice_vals, (uint_vals w32, (shr_slice_vals, (shr_slice_vals, (shr_slice_vals, (shr_slice_vals, (shr_slice_vals, (shr_slice_vals, (uint_vals w64, tt))))))))))))
-      (λ κs. (mut_slice_Tells (named 0) κs.0 u32, (mut_slice_Tells (named 1) κs.1.0 u32, (mut_slice_Tells (named 2) κs.1.1.0 u32, (uint_Tells w32, (shr_slice_Tells (named 3) κs.1.1.1.0 u32, (mut_slice_Tells (named 4) κs.1.1.1.1.0 u32, (mut_slice_Tells (named 5) κs.1.1.1.1.1.0 u32, (shr_slice_Tells (named 6) κs.1.1.1.1.1.1.0 u8, (mut_slice_Tells (named 7) κs.1.1.1.1.1.1.1.0 u32, (mut_slice_Tells (named 8) κs.1.1.1.1.1.1.1.1.0 u8, (uint_Tells w64, tt))))))))))))
+      (λ κs. (shr_slice_vals, (shr_slice_vals, (uint_vals w32, (shr_slice_vals, (shr_slice_vals, (shr_slice_vals, (shr_slice_vals, (shr_slice_vals, (shr_slice_vals, (uint_vals w64, tt)))))))))))
+      (λ κs. (mut_slice_Tells (named 0) κs.0 u32, (mut_slice_Tells (named 1) κs.1.0 u32, (uint_Tells w32, (shr_slice_Tells (named 2) κs.1.1.0 u32, (mut_slice_Tells (named 3) κs.1.1.1.0 u32, (mut_slice_Tells (named 4) κs.1.1.1.1.0 u32, (shr_slice_Tells (named 5) κs.1.1.1.1.1.0 u8, (mut_slice_Tells (named 6) κs.1.1.1.1.1.1.0 u32, (mut_slice_Tells (named 7) κs.1.1.1.1.1.1.1.0 u8, (uint_Tells w64, tt)))))))))))
       (λ κs qs bounds a g are. via 𝓤 _ (fst∗ 𝓤 _ (emp 𝓤))
-      (walk 𝓛 mem run κs.0 qs.0 a.0.ref_ptr.0 a.0.ref_ptr.1 a.0.ghost_name a.0.now κs.1.0 qs.1.0 a.1.0.ref_ptr.0 a.1.0.ref_ptr.1 a.1.0.ghost_name a.1.0.now κs.1.1.0 qs.1.1.0 a.1.1.0.ref_ptr.0 a.1.1.0.ref_ptr.1 a.1.1.0.ghost_name a.1.1.0.now κs.1.1.1.0 qs.1.1.1.0 a.1.1.1.1.0.ref_ptr.0 a.1.1.1.1.0.ref_ptr.1 a.1.1.1.1.0.ghost_name a.1.1.1.1.0.now κs.1.1.1.1.0 qs.1.1.1.1.0 a.1.1.1.1.1.0.ref_ptr.0 a.1.1.1.1.1.0.ref_ptr.1 a.1.1.1.1.1.0.ghost_name a.1.1.1.1.1.0.now κs.1.1.1.1.1.0 qs.1.1.1.1.1.0 a.1.1.1.1.1.1.0.ref_ptr.0 a.1.1.1.1.1.1.0.ref_ptr.1 a.1.1.1.1.1.1.0.ghost_name a.1.1.1.1.1.1.0.now κs.1.1.1.1.1.1.0 qs.1.1.1.1.1.1.0 a.1.1.1.1.1.1.1.0.ref_ptr.0 a.1.1.1.1.1.1.1.0.ref_ptr.1 a.1.1.1.1.1.1.1.0.ghost_name a.1.1.1.1.1.1.1.0.now κs.1.1.1.1.1.1.1.0 qs.1.1.1.1.1.1.1.0 a.1.1.1.1.1.1.1.1.0.ref_ptr.0 a.1.1.1.1.1.1.1.1.0.ref_ptr.1 a.1.1.1.1.1.1.1.1.0.ghost_name a.1.1.1.1.1.1.1.1.0.now κs.1.1.1.1.1.1.1.1.0 qs.1.1.1.1.1.1.1.1.0 a.1.1.1.1.1.1.1.1.1.0.ref_ptr.0 a.1.1.1.1.1.1.1.1.1.0.ref_ptr.1 a.1.1.1.1.1.1.1.1.1.0.ghost_name a.1.1.1.1.1.1.1.1.1.0.now a.1.1.1.0 are.1.1.1.0.1 a.1.1.1.1.1.1.1.1.1.1.0 are.1.1.1.1.1.1.1.1.1.1.0.1 are.0.0.1 are.1.0.0.1 are.1.1.0.0.1 are.1.1.1.1.0.0.1 are.1.1.1.1.1.0.0.1 are.1.1.1.1.1.1.0.0.1 are.1.1.1.1.1.1.1.0.0.1 are.1.1.1.1.1.1.1.1.0.0.1 are.1.1.1.1.1.1.1.1.1.0.0.1 𝓣 known-free-place known-run-calls))
+      (walk 𝓛 mem run κs.0 qs.0 a.0.ref_ptr.0 a.0.ref_ptr.1 a.0.ghost_name a.0.now κs.1.0 qs.1.0 a.1.0.ref_ptr.0 a.1.0.ref_ptr.1 a.1.0.ghost_name a.1.0.now κs.1.1.0 qs.1.1.0 a.1.1.1.0.ref_ptr.0 a.1.1.1.0.ref_ptr.1 a.1.1.1.0.ghost_name a.1.1.1.0.now κs.1.1.1.0 qs.1.1.1.0 a.1.1.1.1.0.ref_ptr.0 a.1.1.1.1.0.ref_ptr.1 a.1.1.1.1.0.ghost_name a.1.1.1.1.0.now κs.1.1.1.1.0 qs.1.1.1.1.0 a.1.1.1.1.1.0.ref_ptr.0 a.1.1.1.1.1.0.ref_ptr.1 a.1.1.1.1.1.0.ghost_name a.1.1.1.1.1.0.now κs.1.1.1.1.1.0 qs.1.1.1.1.1.0 a.1.1.1.1.1.1.0.ref_ptr.0 a.1.1.1.1.1.1.0.ref_ptr.1 a.1.1.1.1.1.1.0.ghost_name a.1.1.1.1.1.1.0.now κs.1.1.1.1.1.1.0 qs.1.1.1.1.1.1.0 a.1.1.1.1.1.1.1.0.ref_ptr.0 a.1.1.1.1.1.1.1.0.ref_ptr.1 a.1.1.1.1.1.1.1.0.ghost_name a.1.1.1.1.1.1.1.0.now κs.1.1.1.1.1.1.1.0 qs.1.1.1.1.1.1.1.0 a.1.1.1.1.1.1.1.1.0.ref_ptr.0 a.1.1.1.1.1.1.1.1.0.ref_ptr.1 a.1.1.1.1.1.1.1.1.0.ghost_name a.1.1.1.1.1.1.1.1.0.now a.1.1.0 are.1.1.0.1 a.1.1.1.1.1.1.1.1.1.0 are.1.1.1.1.1.1.1.1.1.0.1 are.0.0.1 are.1.0.0.1 are.1.1.1.0.0.1 are.1.1.1.1.0.0.1 are.1.1.1.1.1.0.0.1 are.1.1.1.1.1.1.0.0.1 are.1.1.1.1.1.1.1.0.0.1 are.1.1.1.1.1.1.1.1.0.0.1 𝓣 known-free-place known-run-calls))
 
   meets : Triple 𝓤 (𝓣.C #free-place) (S-free-place.Asked 𝓛 mem run) → Triple 𝓤 (𝓣.C #run-calls) (S-run-calls.Asked 𝓛 mem run) → Meets 𝓛 f'.signature (WpFn 𝓤 H 𝓣.C 𝓣.Λ code.function) (f'.spec 𝓛 mem run)
   meets known-free-place known-run-calls = walk_Meets 𝓛 f'.ended stayed
-      (Goes-slice 𝓛 9 0 tt (plain (λ _. u32)), (Goes-slice 𝓛 9 1 tt (plain (λ _. u32)), (Goes-slice 𝓛 9 2 tt (plain (λ _. u32)), (Goes-none 𝓛 9 (λ _. u32) yes (λ κs x f. refl), (Goes-none_slice 𝓛 9 (3 ∷ []) tt (plain (λ _. u32)) yes, (Goes-slice 𝓛 9 4 tt (plain (λ _. u32)), (Goes-slice 𝓛 9 5 tt (plain (λ _. u32)), (Goes-none_slice 𝓛 9 (6 ∷ []) tt (plain (λ _. u8)) yes, (Goes-slice 𝓛 9 7 tt (plain (λ _. u32)), (Goes-slice 𝓛 9 8 tt (plain (λ _. u8)), (Goes-none 𝓛 9 (λ _. usize) yes (λ κs x f. refl), tt)))))))))))
+      (Goes-slice 𝓛 8 0 tt (plain (λ _. u32)), (Goes-slice 𝓛 8 1 tt (plain (λ _. u32)), (Goes-none 𝓛 8 (λ _. u32) yes (λ κs x f. refl), (Goes-none_slice 𝓛 8 (2 ∷ []) tt (plain (λ _. u32)) yes, (Goes-slice 𝓛 8 3 tt (plain (λ _. u32)), (Goes-slice 𝓛 8 4 tt (plain (λ _. u32)), (Goes-none_slice 𝓛 8 (5 ∷ []) tt (plain (λ _. u8)) yes, (Goes-slice 𝓛 8 6 tt (plain (λ _. u32)), (Goes-slice 𝓛 8 7 tt (plain (λ _. u8)), (Goes-none 𝓛 8 (λ _. usize) yes (λ κs x f. refl), tt))))))))))
       (f'.clauses 𝓛 mem run) (WpFn 𝓤 H 𝓣.C 𝓣.Λ code.function) (WpFn-mono 𝓤 H 𝓛.laws 𝓣 code.function) (walks known-free-place known-run-calls)
 
 pub run-lent-spec : {M : Type 1} → stated.statement M

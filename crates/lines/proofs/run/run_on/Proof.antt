@@ -1,5 +1,4 @@
--- The values are read, and the parts and the memory are zeros.
-use Rattle.memory.specs.Memory.{no_memory}
+-- The values are read, and the parts are zeros.
 use Rattle.semantics.specs.Entries.{zeros}
 use Rattle.lines.specs.Lines.{lent_table}
 use Rattle.lines.proofs.Calls.{run_read}
@@ -12,17 +11,17 @@ abbrev start_of : tie.After-read-values → tie.Start
 start_of v = v.before.before.before.before.before.before.before.before.before
 
 abbrev values_of : tie.After-run-lent → tie.After-read-values
-values_of r = r.before.before.before.before.before.before.before.before.before.before.before
+values_of r = r.before.before.before.before.before.before.before.before.before.before
 
 returns : tie.Need-returns
 returns c =
-    let r = c.before.before.before.before.before.before.before.before.before.before.before in
+    let r = c.before.before.before.before.before.before.before.before.before.before in
     let v = values_of r in
     let a = (start_of v).args in
-    run_read a.out.now a.at (zeros lent_table) no_memory a.workers _ _ a.pool.now a.work.now a.records.now a.answers.now v.read-values.ensures r.run_lent.ensures
+    run_read a.out.now a.at (zeros lent_table) a.workers _ _ a.pool.now a.work.now a.records.now a.answers.now v.read-values.ensures r.run_lent.ensures
 
 pub run-on-spec : {M : Type 1} → statement M
 run-on-spec =
     tie.close
-    (tie.spec (λ c κs. search rules) (λ c. search rules) (λ c. search rules) (λ c. search rules) (λ c κs. search rules) (λ c. search rules) (λ c. search rules) (λ c. search rules) (λ c. search rules)
+    (tie.spec (λ c κs. search rules) (λ c. search rules) (λ c. search rules) (λ c κs. search rules) (λ c. search rules) (λ c. search rules) (λ c. search rules) (λ c. search rules)
     (λ c. search rules) returns)

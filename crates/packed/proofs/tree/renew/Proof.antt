@@ -6,9 +6,7 @@ use Rattle.packed.proofs.tree.renew.Tie as tie
 returns : tie.Need-returns
 returns c =
     let copied = c.before.before.before.before in
-    let made = copied.copy-path.ensures in
-    let new = renew_by _ _ _ _ _ _ made.0 made.1 c.sub.ensures in
-    (new.0, new.1, made.2, made.3)
+    renew_by _ _ _ _ _ _ copied.copy-path.ensures.0 copied.copy-path.ensures.1 c.sub.ensures
 
 pub renew-spec : {M : Type 1} → statement M
 renew-spec =

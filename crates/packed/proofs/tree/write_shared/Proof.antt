@@ -23,8 +23,7 @@ returns c =
     let renewed = c.before.before.before in
     let s = start_of renewed in
     let low = level_in _ _ s.args.free s.args.count _ _ s.args.v s.pre.3 s.pre.5 s.pre.6 in
-    let made = renewed.renew.ensures in
-    (write_root _ _ _ _ _ _ _ s.pre.3 s.pre.5 (omega (arith, low, c.if1.true)) (made.0, made.1), made.2, made.3)
+    write_root _ _ _ _ _ _ _ s.pre.3 s.pre.5 (omega (arith, low, c.if1.true)) renewed.renew.ensures
 
 set-link-requires : tie.Need-set-link-requires
 set-link-requires c κs =
@@ -44,8 +43,7 @@ returns-2 c =
     let test = linked.before.before in
     let renewed = test.before.before.before in
     let s = start_of renewed in
-    let made = renewed.renew.ensures in
-    (write-below _ _ _ _ _ _ _ s.pre.3 s.pre.5 test.if1.false (made.0, made.1) linked.set_link.ensures, made.2, made.3)
+    write-below _ _ _ _ _ _ _ s.pre.3 s.pre.5 test.if1.false renewed.renew.ensures linked.set_link.ensures
 
 pub write-shared-spec : {M : Type 1} → statement M
 write-shared-spec =

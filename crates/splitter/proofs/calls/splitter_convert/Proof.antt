@@ -45,8 +45,8 @@ use denote.Triple.Table.{entered, cited}
 use denote.Triple.Walked.{says, needs, Stays, stay_slice, stay_none, stay_none_slice, walk_of, Walks, ends_at, walked, Goes-slice, Goes-none, Goes-none_slice, walk_Meets}
 use borrow.Author.Rules.{scaled_Fits}
 use Rattle.frames.proofs.Lent.{at_list, Mine, Yours, ty_at, exit_unless, exit_if, leave_if, fork, skipped, regroup, matched, matched_last, const, is_true, is_false, not_not, differ, widen, less_fits, after, turn_of_lem, take_out, put_in, put_back, look_out, look_back, free_all}
-use Rattle.semantics.specs.Promises.{parts, IsConvertWith}
-use Rattle.semantics.specs.Remembering.{convert_remembering}
+use Rattle.semantics.specs.Convert.{convert_on}
+use Rattle.semantics.specs.Promises.{parts, IsConvert}
 use Rattle.splitter.proofs.Called.convert as S-convert
 use Rattle.conversion.proofs.convert.Symbol as D-convert
 use Rattle.conversion.proofs.convert.Symbol.{name as #convert}
@@ -67,10 +67,10 @@ abbrev val-Frame : Frame → Val
 val-Frame d = LL.val M-Frame.the_type L-Frame.the_laws d
 
 abbrev stayed : Stays (f'.ended).signature.params (f'.ended).kept
-stayed = (stay_none_slice (0 ∷ []) tt (plain (λ _. u32)) yes, (stay_none_slice (1 ∷ []) tt (plain (λ _. u32)) yes, (stay_none_slice (2 ∷ []) tt (plain (λ _. R-Frame)) yes, (stay_slice (3 ∷ []) tt (plain (λ _. u32)), (stay_slice (4 ∷ []) tt (plain (λ _. u32)), (stay_slice (5 ∷ []) tt (plain (λ _. u32)), tt))))))
+stayed = (stay_none_slice (0 ∷ []) tt (plain (λ _. u32)) yes, (stay_none_slice (1 ∷ []) tt (plain (λ _. u32)) yes, (stay_none_slice (2 ∷ []) tt (plain (λ _. R-Frame)) yes, (stay_slice (3 ∷ []) tt (plain (λ _. u32)), (stay_slice (4 ∷ []) tt (plain (λ _. u32)), tt)))))
 
 module _ {M : Type 1} {𝓤 : Ura M} (𝓛 : Logic 𝓤) (mem : Memory → SProp 𝓤) (run : Routine → Fun 𝓤)
-    (κ-numbers : Lft) (q-numbers : Share) (b-numbers o-numbers : ℕ) (γ-numbers : GName) (numbers : List ℕ) (κ-deques : Lft) (q-deques : Share) (b-deques o-deques : ℕ) (γ-deques : GName) (deques : List ℕ) (κ-frames : Lft) (q-frames : Share) (b-frames o-frames : ℕ) (γ-frames : GName) (frames : List Frame) (κ-memory : Lft) (q-memory : Share) (b-memory o-memory : ℕ) (γ-memory : GName) (memory : List ℕ) (κ-pool : Lft) (q-pool : Share) (b-pool o-pool : ℕ) (γ-pool : GName) (pool : List ℕ) (κ-work : Lft) (q-work : Share) (b-work o-work : ℕ) (γ-work : GName) (work : List ℕ) (room-numbers : Room u32 (length numbers)) (room-deques : Room u32 (length deques)) (room-frames : Room R-Frame (length frames)) (room-memory : Room u32 (length memory)) (room-pool : Room u32 (length pool)) (room-work : Room u32 (length work)) where
+    (κ-numbers : Lft) (q-numbers : Share) (b-numbers o-numbers : ℕ) (γ-numbers : GName) (numbers : List ℕ) (κ-deques : Lft) (q-deques : Share) (b-deques o-deques : ℕ) (γ-deques : GName) (deques : List ℕ) (κ-frames : Lft) (q-frames : Share) (b-frames o-frames : ℕ) (γ-frames : GName) (frames : List Frame) (κ-pool : Lft) (q-pool : Share) (b-pool o-pool : ℕ) (γ-pool : GName) (pool : List ℕ) (κ-work : Lft) (q-work : Share) (b-work o-work : ℕ) (γ-work : GName) (work : List ℕ) (room-numbers : Room u32 (length numbers)) (room-deques : Room u32 (length deques)) (room-frames : Room R-Frame (length frames)) (room-pool : Room u32 (length pool)) (room-work : Room u32 (length work)) where
   open 𝓛 use {H}
 
   abbrev n-numbers : ℕ
@@ -82,73 +82,68 @@ module _ {M : Type 1} {𝓤 : Ura M} (𝓛 : Logic 𝓤) (mem : Memory → SProp
   abbrev n-frames : ℕ
   n-frames = length frames
 
-  abbrev n-memory : ℕ
-  n-memory = length memory
-
   abbrev n-pool : ℕ
   n-pool = length pool
 
   abbrev n-work : ℕ
   n-work = length work
 
-  abbrev args' : Bor (List ℕ) × (Bor (List ℕ) × (Bor (List Frame) × (Bor (List ℕ) × (Bor (List ℕ) × (Bor (List ℕ) × Unit {0})))))
-  args' = (at_list b-numbers o-numbers γ-numbers numbers, (at_list b-deques o-deques γ-deques deques, (at_list b-frames o-frames γ-frames frames, (at_list b-memory o-memory γ-memory memory, (at_list b-pool o-pool γ-pool pool, (at_list b-work o-work γ-work work, tt))))))
+  abbrev args' : Bor (List ℕ) × (Bor (List ℕ) × (Bor (List Frame) × (Bor (List ℕ) × (Bor (List ℕ) × Unit {0}))))
+  args' = (at_list b-numbers o-numbers γ-numbers numbers, (at_list b-deques o-deques γ-deques deques, (at_list b-frames o-frames γ-frames frames, (at_list b-pool o-pool γ-pool pool, (at_list b-work o-work γ-work work, tt)))))
 
-  abbrev vals' : Vals f'.signature (κ-numbers, (κ-deques, (κ-frames, (κ-memory, (κ-pool, (κ-work, tt))))))
-  vals' = (slice_val (b-numbers, o-numbers) (length numbers) ∷ [], (slice_val (b-deques, o-deques) (length deques) ∷ [], (slice_val (b-frames, o-frames) (length frames) ∷ [], (slice_val (b-memory, o-memory) (length memory) ∷ [], (slice_val (b-pool, o-pool) (length pool) ∷ [], (slice_val (b-work, o-work) (length work) ∷ [], tt))))))
+  abbrev vals' : Vals f'.signature (κ-numbers, (κ-deques, (κ-frames, (κ-pool, (κ-work, tt)))))
+  vals' = (slice_val (b-numbers, o-numbers) (length numbers) ∷ [], (slice_val (b-deques, o-deques) (length deques) ∷ [], (slice_val (b-frames, o-frames) (length frames) ∷ [], (slice_val (b-pool, o-pool) (length pool) ∷ [], (slice_val (b-work, o-work) (length work) ∷ [], tt)))))
 
   abbrev bound' : (walk_of 𝓛 f'.ended stayed (f'.clauses 𝓛 mem run)).Ghost
-  bound' = (((κ-numbers, (κ-deques, (κ-frames, (κ-memory, (κ-pool, (κ-work, tt)))))), (q-numbers, (q-deques, (q-frames, (q-memory, (q-pool, (q-work, tt)))))), tt, args', vals'), tt)
+  bound' = (((κ-numbers, (κ-deques, (κ-frames, (κ-pool, (κ-work, tt))))), (q-numbers, (q-deques, (q-frames, (q-pool, (q-work, tt))))), tt, args', vals'), tt)
 
   abbrev Post : Val → SProp 𝓤
   Post = (walk_of 𝓛 f'.ended stayed (f'.clauses 𝓛 mem run)).post bound'
 
-  exits' : (res' : ℕ) (zs-memory : List ℕ) (zs-pool : List ℕ) (zs-work : List ℕ) → res' < 2 ^ 32 → IsConvertWith (convert_remembering (parts numbers deques frames) memory pool work) zs-memory zs-pool zs-work res' → length zs-memory ≡ length memory → length zs-pool ≡ length pool → length zs-work ≡ length work → ent 𝓤 (⋆ 𝓛 (‵ (Yours u32 κ-numbers q-numbers γ-numbers b-numbers o-numbers n-numbers numbers) ∷ ‵ (Yours u32 κ-deques q-deques γ-deques b-deques o-deques n-deques deques) ∷ ‵ (Yours R-Frame κ-frames q-frames γ-frames b-frames o-frames n-frames frames) ∷ ‵ (Mine u32 κ-memory q-memory γ-memory b-memory o-memory n-memory zs-memory) ∷ ‵ (Mine u32 κ-pool q-pool γ-pool b-pool o-pool n-pool zs-pool) ∷ ‵ (Mine u32 κ-work q-work γ-work b-work o-work n-work zs-work) ∷ [])) (Post (vint w32 res'))
-  exits' res' zs-memory zs-pool zs-work good' e' same_memory same-pool same_work =
-      qed 𝓛 (‵ (Yours u32 κ-numbers q-numbers γ-numbers b-numbers o-numbers n-numbers numbers) ∷ ‵ (Yours u32 κ-deques q-deques γ-deques b-deques o-deques n-deques deques) ∷ ‵ (Yours R-Frame κ-frames q-frames γ-frames b-frames o-frames n-frames frames) ∷ ‵ (Mine u32 κ-memory q-memory γ-memory b-memory o-memory n-memory zs-memory) ∷ ‵ (Mine u32 κ-pool q-pool γ-pool b-pool o-pool n-pool zs-pool) ∷ ‵ (Mine u32 κ-work q-work γ-work b-work o-work n-work zs-work) ∷ []) ∵
-      suffices ! _ (ends_at 𝓛 f'.ended stayed (f'.clauses 𝓛 mem run) bound' (vint w32 res') res' (tt, (tt, (tt, (zs-memory, (zs-pool, (zs-work, tt)))))) (tt, (tt, (tt, (same_memory, (same-pool, (same_work, tt))))))) $ says ! e' $
-      fsplit ! $ move ! (2 ∷ []) $ fsplit ! $ move ! (4 ∷ []) $ fsplit ! $ move ! (6 ∷ []) $ fsplit ! $ move ! (8 ∷ []) $ fsplit ! $ move ! (10 ∷ []) $ fsplit ! $ nothing ! $ move ! (12 ∷ 10 ∷ 8 ∷ 6 ∷ 4 ∷ 2 ∷ 0 ∷ []) $ group ! 7 $ frame ! $
-      nothing ! $ move ! (1 ∷ 0 ∷ []) $ fjoin ! $ move ! (1 ∷ 0 ∷ []) $ fjoin ! $ move ! (1 ∷ 0 ∷ []) $ fjoin ! $ move ! (1 ∷ 0 ∷ []) $ fjoin ! $ move ! (1 ∷ 0 ∷ []) $ fjoin ! $ move ! (1 ∷ 0 ∷ []) $ fjoin ! $ frame ! $
+  exits' : (res' : ℕ) (zs-pool : List ℕ) (zs-work : List ℕ) → res' < 2 ^ 32 → IsConvert (convert_on (parts numbers deques frames) pool work) zs-pool zs-work res' → length zs-pool ≡ length pool → length zs-work ≡ length work → ent 𝓤 (⋆ 𝓛 (‵ (Yours u32 κ-numbers q-numbers γ-numbers b-numbers o-numbers n-numbers numbers) ∷ ‵ (Yours u32 κ-deques q-deques γ-deques b-deques o-deques n-deques deques) ∷ ‵ (Yours R-Frame κ-frames q-frames γ-frames b-frames o-frames n-frames frames) ∷ ‵ (Mine u32 κ-pool q-pool γ-pool b-pool o-pool n-pool zs-pool) ∷ ‵ (Mine u32 κ-work q-work γ-work b-work o-work n-work zs-work) ∷ [])) (Post (vint w32 res'))
+  exits' res' zs-pool zs-work good' e' same-pool same_work =
+      qed 𝓛 (‵ (Yours u32 κ-numbers q-numbers γ-numbers b-numbers o-numbers n-numbers numbers) ∷ ‵ (Yours u32 κ-deques q-deques γ-deques b-deques o-deques n-deques deques) ∷ ‵ (Yours R-Frame κ-frames q-frames γ-frames b-frames o-frames n-frames frames) ∷ ‵ (Mine u32 κ-pool q-pool γ-pool b-pool o-pool n-pool zs-pool) ∷ ‵ (Mine u32 κ-work q-work γ-work b-work o-work n-work zs-work) ∷ []) ∵
+      suffices ! _ (ends_at 𝓛 f'.ended stayed (f'.clauses 𝓛 mem run) bound' (vint w32 res') res' (tt, (tt, (tt, (zs-pool, (zs-work, tt))))) (tt, (tt, (tt, (same-pool, (same_work, tt)))))) $ says ! e' $
+      fsplit ! $ move ! (2 ∷ []) $ fsplit ! $ move ! (4 ∷ []) $ fsplit ! $ move ! (6 ∷ []) $ fsplit ! $ move ! (8 ∷ []) $ fsplit ! $ nothing ! $ move ! (10 ∷ 8 ∷ 6 ∷ 4 ∷ 2 ∷ 0 ∷ []) $ group ! 6 $ frame ! $
+      nothing ! $ move ! (1 ∷ 0 ∷ []) $ fjoin ! $ move ! (1 ∷ 0 ∷ []) $ fjoin ! $ move ! (1 ∷ 0 ∷ []) $ fjoin ! $ move ! (1 ∷ 0 ∷ []) $ fjoin ! $ move ! (1 ∷ 0 ∷ []) $ fjoin ! $ frame ! $
       owned ! u32 (Is u32) (uint_Makes 𝓛 w32) res' _ (refl, good') $ done !
 
   module _ (𝓣 : Tables 𝓤 H) (known-convert : Triple 𝓤 (𝓣.C #convert) (S-convert.Asked 𝓛 mem run)) where
     abbrev fm : FmC 𝓤 H 𝓛.laws 𝓣.C
     fm = fm_of 𝓤 H 𝓛.laws 𝓣
 
-    walk : ent 𝓤 (on_entry 𝓛 f'.signature (κ-numbers, (κ-deques, (κ-frames, (κ-memory, (κ-pool, (κ-work, tt)))))) (q-numbers, (q-deques, (q-frames, (q-memory, (q-pool, (q-work, tt)))))) args' vals') (WpFn 𝓤 H 𝓣.C 𝓣.Λ code.function (slice_val (b-numbers, o-numbers) (length numbers) ∷ slice_val (b-deques, o-deques) (length deques) ∷ slice_val (b-frames, o-frames) (length frames) ∷ slice_val (b-memory, o-memory) (length memory) ∷ slice_val (b-pool, o-pool) (length pool) ∷ slice_val (b-work, o-work) (length work) ∷ []) Post)
+    walk : ent 𝓤 (on_entry 𝓛 f'.signature (κ-numbers, (κ-deques, (κ-frames, (κ-pool, (κ-work, tt))))) (q-numbers, (q-deques, (q-frames, (q-pool, (q-work, tt))))) args' vals') (WpFn 𝓤 H 𝓣.C 𝓣.Λ code.function (slice_val (b-numbers, o-numbers) (length numbers) ∷ slice_val (b-deques, o-deques) (length deques) ∷ slice_val (b-frames, o-frames) (length frames) ∷ slice_val (b-pool, o-pool) (length pool) ∷ slice_val (b-work, o-work) (length work) ∷ []) Post)
     walk =
-        qed 𝓛 ((‵ (flft κ-numbers q-numbers) ⊛ ‵ (flft κ-deques q-deques) ⊛ ‵ (flft κ-frames q-frames) ⊛ ‵ (flft κ-memory q-memory) ⊛ ‵ (flft κ-pool q-pool) ⊛ ‵ (flft κ-work q-work) ⊛ ‵ ftrue) ∷ ‵ (owns (ShrSlice (named 0) κ-numbers u32 ∷ ShrSlice (named 1) κ-deques u32 ∷ ShrSlice (named 2) κ-frames R-Frame ∷ MutSlice (named 3) κ-memory u32 ∷ MutSlice (named 4) κ-pool u32 ∷ MutSlice (named 5) κ-work u32 ∷ []) args' vals') ∷ []) ∵ enter ! 𝓣.C 𝓣.Λ code.function (slice_val (b-numbers, o-numbers) (length numbers) ∷ slice_val (b-deques, o-deques) (length deques) ∷ slice_val (b-frames, o-frames) (length frames) ∷ slice_val (b-memory, o-memory) (length memory) ∷ slice_val (b-pool, o-pool) (length pool) ∷ slice_val (b-work, o-work) (length work) ∷ []) _ $
-        alloc1 ! (λ l₀. alloc1 ! (λ l₁. alloc1 ! (λ l₂. alloc1 ! (λ l₃. alloc1 ! (λ l₄. alloc1 ! (λ l₅. alloc1 ! (λ l₆. alloc1 ! (λ l₇. alloc1 ! (λ l₈. alloc1 ! (λ l₉. alloc1 ! (λ l₁₀. alloc1 ! (λ l₁₁. alloc1 ! (λ l₁₂. alloc0 ! $ params1 ! $
-        pass1 ! (init ! 22 refl (tt, (tt, (record { fits = room-numbers.0 }, tt)))) $ pass1 ! (init ! 20 refl (tt, (tt, (record { fits = room-deques.0 }, tt)))) $ pass1 ! (init ! 18 refl (tt, (tt, (record { fits = room-frames.0 }, tt)))) $ pass1 ! (init ! 16 refl (tt, (tt, (record { fits = room-memory.0 }, tt)))) $ pass1 ! (init ! 14 refl (tt, (tt, (record { fits = room-pool.0 }, tt)))) $ pass1 ! (init ! 12 refl (tt, (tt, (record { fits = room-work.0 }, tt)))) $ pass0 ! $
-        move ! (27 ∷ []) $ fsplit ! $ move ! (1 ∷ []) $ fsplit ! $ move ! (1 ∷ []) $ fsplit ! $ move ! (1 ∷ []) $ fsplit ! $ move ! (1 ∷ []) $ fsplit ! $ move ! (1 ∷ []) $ fsplit ! $ move ! (1 ∷ []) $ drop ! $ move ! (32 ∷ []) $ split ! $ move ! (1 ∷ []) $ split ! $ move ! (1 ∷ []) $ split ! $ move ! (1 ∷ []) $ split ! $ move ! (1 ∷ []) $ split ! $ move ! (1 ∷ []) $ split ! $ move ! (1 ∷ []) $ drop ! $ move ! (6 ∷ 0 ∷ []) $ fjoin ! $ move ! (6 ∷ 1 ∷ []) $ fjoin ! $ move ! (6 ∷ 2 ∷ []) $ fjoin ! $ move ! (6 ∷ 3 ∷ []) $ fjoin ! $ move ! (6 ∷ 4 ∷ []) $ fjoin ! $ move ! (6 ∷ 5 ∷ []) $ fjoin ! $
-        -- [numbers; deques; frames; memory; pool; work; the locals]
-        assigns ! (addr ! (from ! (fld ! refl (hop ! (look_in ! 22 (sub ! 0 refl (whole !))) (stop !))))) (from ! (stop !)) (init ! 16 refl (tt, tt)) $
-        assigns ! (agg ! (and_then ! (load ! (from ! (stop !)) (look ! 16 refl)) (and_then ! (load ! (from ! (fld ! refl (stop !))) (look_in ! 22 (sub ! 1 refl (whole !)))) (no_more !)))) (from ! (stop !)) (init ! 14 refl (tt, (tt, (record { fits = room-memory.0 }, tt)))) $
-        assigns ! (addr ! (from ! (fld ! refl (hop ! (look_in ! 20 (sub ! 0 refl (whole !))) (stop !))))) (from ! (stop !)) (init ! 12 refl (tt, tt)) $
-        assigns ! (agg ! (and_then ! (load ! (from ! (stop !)) (look ! 12 refl)) (and_then ! (load ! (from ! (fld ! refl (stop !))) (look_in ! 20 (sub ! 1 refl (whole !)))) (no_more !)))) (from ! (stop !)) (init ! 10 refl (tt, (tt, (record { fits = room-pool.0 }, tt)))) $
-        assigns ! (addr ! (from ! (fld ! refl (hop ! (look_in ! 18 (sub ! 0 refl (whole !))) (stop !))))) (from ! (stop !)) (init ! 8 refl (tt, tt)) $
-        assigns ! (agg ! (and_then ! (load ! (from ! (stop !)) (look ! 8 refl)) (and_then ! (load ! (from ! (fld ! refl (stop !))) (look_in ! 18 (sub ! 1 refl (whole !)))) (no_more !)))) (from ! (stop !)) (init ! 6 refl (tt, (tt, (record { fits = room-work.0 }, tt)))) $
-        -- _0 = conversion::convert(_1, _2, _3, _8, _10, _12)
-        S-convert.step-ggg mem run ! fm known-convert b-numbers o-numbers n-numbers numbers b-deques o-deques n-deques deques b-frames o-frames n-frames frames b-memory o-memory n-memory memory b-pool o-pool n-pool pool b-work o-work n-work work (refl) room-memory (refl) room-pool (refl) room-work
-        (λ ν-0 δ-0 ν-1 δ-1 ν-2 δ-2. and_then ! (load ! (from ! (stop !)) (look ! 29 refl)) (and_then ! (load ! (from ! (stop !)) (look ! 27 refl)) (and_then ! (load ! (from ! (stop !)) (look ! 25 refl)) (and_then ! (load ! (from ! (stop !)) (look ! 15 refl)) (and_then ! (load ! (from ! (stop !)) (look ! 11 refl)) (and_then ! (load ! (from ! (stop !)) (look ! 7 refl)) (no_more !))))))) (λ r-1 memory-1 pool-1 work-1 r-1-fits r-1-is same-memory-1 same-pool-1 same-work-1.
-        land ! (from ! (stop !)) (init ! 30 refl (tt, record { fits = r-1-fits })) $
-        returns_within ! Post refl (look ! 30 refl) $ forget ! 6 refl $ forget ! 8 refl $ forget ! 10 refl $ forget ! 12 refl $ forget ! 14 refl $ forget ! 16 refl $ forget ! 18 refl $ forget ! 20 refl $ forget ! 22 refl $ forget ! 24 refl $ forget ! 26 refl $ forget ! 28 refl $ forget ! 30 refl $
-        free_all ! 6 refl $
-        by ! (exits' r-1 memory-1 pool-1 work-1 r-1-fits (F.out-2 numbers deques frames memory pool work room-numbers.0 room-deques.0 room-frames.0 room-memory.0 room-pool.0 room-work.0 r-1 memory-1 pool-1 work-1 r-1-fits r-1-is same-memory-1 same-pool-1 same-work-1) (same-memory-1) (same-pool-1) (same-work-1))))))))))))))))
+        qed 𝓛 ((‵ (flft κ-numbers q-numbers) ⊛ ‵ (flft κ-deques q-deques) ⊛ ‵ (flft κ-frames q-frames) ⊛ ‵ (flft κ-pool q-pool) ⊛ ‵ (flft κ-work q-work) ⊛ ‵ ftrue) ∷ ‵ (owns (ShrSlice (named 0) κ-numbers u32 ∷ ShrSlice (named 1) κ-deques u32 ∷ ShrSlice (named 2) κ-frames R-Frame ∷ MutSlice (named 3) κ-pool u32 ∷ MutSlice (named 4) κ-work u32 ∷ []) args' vals') ∷ []) ∵ enter ! 𝓣.C 𝓣.Λ code.function (slice_val (b-numbers, o-numbers) (length numbers) ∷ slice_val (b-deques, o-deques) (length deques) ∷ slice_val (b-frames, o-frames) (length frames) ∷ slice_val (b-pool, o-pool) (length pool) ∷ slice_val (b-work, o-work) (length work) ∷ []) _ $
+        alloc1 ! (λ l₀. alloc1 ! (λ l₁. alloc1 ! (λ l₂. alloc1 ! (λ l₃. alloc1 ! (λ l₄. alloc1 ! (λ l₅. alloc1 ! (λ l₆. alloc1 ! (λ l₇. alloc1 ! (λ l₈. alloc1 ! (λ l₉. alloc0 ! $ params1 ! $
+        pass1 ! (init ! 16 refl (tt, (tt, (record { fits = room-numbers.0 }, tt)))) $ pass1 ! (init ! 14 refl (tt, (tt, (record { fits = room-deques.0 }, tt)))) $ pass1 ! (init ! 12 refl (tt, (tt, (record { fits = room-frames.0 }, tt)))) $ pass1 ! (init ! 10 refl (tt, (tt, (record { fits = room-pool.0 }, tt)))) $ pass1 ! (init ! 8 refl (tt, (tt, (record { fits = room-work.0 }, tt)))) $ pass0 ! $
+        move ! (21 ∷ []) $ fsplit ! $ move ! (1 ∷ []) $ fsplit ! $ move ! (1 ∷ []) $ fsplit ! $ move ! (1 ∷ []) $ fsplit ! $ move ! (1 ∷ []) $ fsplit ! $ move ! (1 ∷ []) $ drop ! $ move ! (25 ∷ []) $ split ! $ move ! (1 ∷ []) $ split ! $ move ! (1 ∷ []) $ split ! $ move ! (1 ∷ []) $ split ! $ move ! (1 ∷ []) $ split ! $ move ! (1 ∷ []) $ drop ! $ move ! (5 ∷ 0 ∷ []) $ fjoin ! $ move ! (5 ∷ 1 ∷ []) $ fjoin ! $ move ! (5 ∷ 2 ∷ []) $ fjoin ! $ move ! (5 ∷ 3 ∷ []) $ fjoin ! $ move ! (5 ∷ 4 ∷ []) $ fjoin ! $
+        -- [numbers; deques; frames; pool; work; the locals]
+        assigns ! (addr ! (from ! (fld ! refl (hop ! (look_in ! 15 (sub ! 0 refl (whole !))) (stop !))))) (from ! (stop !)) (init ! 11 refl (tt, tt)) $
+        assigns ! (agg ! (and_then ! (load ! (from ! (stop !)) (look ! 11 refl)) (and_then ! (load ! (from ! (fld ! refl (stop !))) (look_in ! 15 (sub ! 1 refl (whole !)))) (no_more !)))) (from ! (stop !)) (init ! 9 refl (tt, (tt, (record { fits = room-pool.0 }, tt)))) $
+        assigns ! (addr ! (from ! (fld ! refl (hop ! (look_in ! 13 (sub ! 0 refl (whole !))) (stop !))))) (from ! (stop !)) (init ! 7 refl (tt, tt)) $
+        assigns ! (agg ! (and_then ! (load ! (from ! (stop !)) (look ! 7 refl)) (and_then ! (load ! (from ! (fld ! refl (stop !))) (look_in ! 13 (sub ! 1 refl (whole !)))) (no_more !)))) (from ! (stop !)) (init ! 5 refl (tt, (tt, (record { fits = room-work.0 }, tt)))) $
+        -- _0 = conversion::convert(_1, _2, _3, _7, _9)
+        S-convert.step-ggg mem run ! fm known-convert b-numbers o-numbers n-numbers numbers b-deques o-deques n-deques deques b-frames o-frames n-frames frames b-pool o-pool n-pool pool b-work o-work n-work work (refl) room-pool (refl) room-work
+        (λ ν-0 δ-0 ν-1 δ-1. and_then ! (load ! (from ! (stop !)) (look ! 22 refl)) (and_then ! (load ! (from ! (stop !)) (look ! 20 refl)) (and_then ! (load ! (from ! (stop !)) (look ! 18 refl)) (and_then ! (load ! (from ! (stop !)) (look ! 10 refl)) (and_then ! (load ! (from ! (stop !)) (look ! 6 refl)) (no_more !)))))) (λ r-1 pool-1 work-1 r-1-fits r-1-is same-pool-1 same-work-1.
+        land ! (from ! (stop !)) (init ! 23 refl (tt, record { fits = r-1-fits })) $
+        returns_within ! Post refl (look ! 23 refl) $ forget ! 5 refl $ forget ! 7 refl $ forget ! 9 refl $ forget ! 11 refl $ forget ! 13 refl $ forget ! 15 refl $ forget ! 17 refl $ forget ! 19 refl $ forget ! 21 refl $ forget ! 23 refl $
+        free_all ! 5 refl $
+        by ! (exits' r-1 pool-1 work-1 r-1-fits (F.out-2 numbers deques frames pool work room-numbers.0 room-deques.0 room-frames.0 room-pool.0 room-work.0 r-1 pool-1 work-1 r-1-fits r-1-is same-pool-1 same-work-1) (same-pool-1) (same-work-1)))))))))))))
 
 module _ {M : Type 1} {𝓤 : Ura M} (𝓛 : Logic 𝓤) (mem : Memory → SProp 𝓤) (run : Routine → Fun 𝓤) (𝓣 : Tables 𝓤 𝓛.H) where
   open 𝓛 use {H}
 
   walks : Triple 𝓤 (𝓣.C #convert) (S-convert.Asked 𝓛 mem run) → Walks 𝓛 f'.ended stayed (WpFn 𝓤 H 𝓣.C 𝓣.Λ code.function) (f'.clauses 𝓛 mem run)
   walks known-convert = walked 𝓛 f'.ended stayed (f'.clauses 𝓛 mem run) (WpFn 𝓤 H 𝓣.C 𝓣.Λ code.function)
-      (λ κs. (shr_slice_vals, (shr_slice_vals, (shr_slice_vals, (shr_slice_vals, (shr_slice_vals, (shr_slice_vals, tt)))))))
-      (λ κs. (shr_slice_Tells (named 0) κs.0 u32, (shr_slice_Tells (named 1) κs.1.0 u32, (shr_slice_Tells (named 2) κs.1.1.0 R-Frame, (mut_slice_Tells (named 3) κs.1.1.1.0 u32, (mut_slice_Tells (named 4) κs.1.1.1.1.0 u32, (mut_slice_Tells (named 5) κs.1.1.1.1.1.0 u32, tt)))))))
+      (λ κs. (shr_slice_vals, (shr_slice_vals, (shr_slice_vals, (shr_slice_vals, (shr_slice_vals, tt))))))
+      (λ κs. (shr_slice_Tells (named 0) κs.0 u32, (shr_slice_Tells (named 1) κs.1.0 u32, (shr_slice_Tells (named 2) κs.1.1.0 R-Frame, (mut_slice_Tells (named 3) κs.1.1.1.0 u32, (mut_slice_Tells (named 4) κs.1.1.1.1.0 u32, tt))))))
       (λ κs qs bounds a g are. via 𝓤 _ (fst∗ 𝓤 _ (emp 𝓤))
-      (walk 𝓛 mem run κs.0 qs.0 a.0.ref_ptr.0 a.0.ref_ptr.1 a.0.ghost_name a.0.now κs.1.0 qs.1.0 a.1.0.ref_ptr.0 a.1.0.ref_ptr.1 a.1.0.ghost_name a.1.0.now κs.1.1.0 qs.1.1.0 a.1.1.0.ref_ptr.0 a.1.1.0.ref_ptr.1 a.1.1.0.ghost_name a.1.1.0.now κs.1.1.1.0 qs.1.1.1.0 a.1.1.1.0.ref_ptr.0 a.1.1.1.0.ref_ptr.1 a.1.1.1.0.ghost_name a.1.1.1.0.now κs.1.1.1.1.0 qs.1.1.1.1.0 a.1.1.1.1.0.ref_ptr.0 a.1.1.1.1.0.ref_ptr.1 a.1.1.1.1.0.ghost_name a.1.1.1.1.0.now κs.1.1.1.1.1.0 qs.1.1.1.1.1.0 a.1.1.1.1.1.0.ref_ptr.0 a.1.1.1.1.1.0.ref_ptr.1 a.1.1.1.1.1.0.ghost_name a.1.1.1.1.1.0.now are.0.0.1 are.1.0.0.1 are.1.1.0.0.1 are.1.1.1.0.0.1 are.1.1.1.1.0.0.1 are.1.1.1.1.1.0.0.1 𝓣 known-convert))
+      (walk 𝓛 mem run κs.0 qs.0 a.0.ref_ptr.0 a.0.ref_ptr.1 a.0.ghost_name a.0.now κs.1.0 qs.1.0 a.1.0.ref_ptr.0 a.1.0.ref_ptr.1 a.1.0.ghost_name a.1.0.now κs.1.1.0 qs.1.1.0 a.1.1.0.ref_ptr.0 a.1.1.0.ref_ptr.1 a.1.1.0.ghost_name a.1.1.0.now κs.1.1.1.0 qs.1.1.1.0 a.1.1.1.0.ref_ptr.0 a.1.1.1.0.ref_ptr.1 a.1.1.1.0.ghost_name a.1.1.1.0.now κs.1.1.1.1.0 qs.1.1.1.1.0 a.1.1.1.1.0.ref_ptr.0 a.1.1.1.1.0.ref_ptr.1 a.1.1.1.1.0.ghost_name a.1.1.1.1.0.now are.0.0.1 are.1.0.0.1 are.1.1.0.0.1 are.1.1.1.0.0.1 are.1.1.1.1.0.0.1 𝓣 known-convert))
 
   meets : Triple 𝓤 (𝓣.C #convert) (S-convert.Asked 𝓛 mem run) → Meets 𝓛 f'.signature (WpFn 𝓤 H 𝓣.C 𝓣.Λ code.function) (f'.spec 𝓛 mem run)
   meets known-convert = walk_Meets 𝓛 f'.ended stayed
-      (Goes-none_slice 𝓛 6 (0 ∷ []) tt (plain (λ _. u32)) yes, (Goes-none_slice 𝓛 6 (1 ∷ []) tt (plain (λ _. u32)) yes, (Goes-none_slice 𝓛 6 (2 ∷ []) tt (plain (λ _. R-Frame)) yes, (Goes-slice 𝓛 6 3 tt (plain (λ _. u32)), (Goes-slice 𝓛 6 4 tt (plain (λ _. u32)), (Goes-slice 𝓛 6 5 tt (plain (λ _. u32)), tt))))))
+      (Goes-none_slice 𝓛 5 (0 ∷ []) tt (plain (λ _. u32)) yes, (Goes-none_slice 𝓛 5 (1 ∷ []) tt (plain (λ _. u32)) yes, (Goes-none_slice 𝓛 5 (2 ∷ []) tt (plain (λ _. R-Frame)) yes, (Goes-slice 𝓛 5 3 tt (plain (λ _. u32)), (Goes-slice 𝓛 5 4 tt (plain (λ _. u32)), tt)))))
       (f'.clauses 𝓛 mem run) (WpFn 𝓤 H 𝓣.C 𝓣.Λ code.function) (WpFn-mono 𝓤 H 𝓛.laws 𝓣 code.function) (walks known-convert)
 
 pub splitter-convert-spec : {M : Type 1} → stated.statement M

@@ -45,9 +45,8 @@ use denote.Triple.Table.{entered, cited}
 use denote.Triple.Walked.{says, needs, Stays, stay_slice, stay_none, stay_none_slice, walk_of, Walks, ends_at, walked, Goes-slice, Goes-none, Goes-none_slice, walk_Meets}
 use borrow.Author.Rules.{scaled_Fits}
 use Rattle.frames.proofs.Lent.{at_list, Mine, Yours, ty_at, exit_unless, exit_if, leave_if, fork, skipped, regroup, matched, matched_last, const, is_true, is_false, not_not, differ, widen, less_fits, after, turn_of_lem, take_out, put_in, put_back, look_out, look_back, free_all}
-use Rattle.semantics.specs.Promises.{parts, lent, IsReportWith}
-use Rattle.semantics.specs.Remembering.{report_remembering}
-use Rattle.soundness.specs.Layout.{two_words}
+use Rattle.semantics.specs.Promises.{parts, lent, IsReport}
+use Rattle.semantics.specs.Report.{report_on}
 use Rattle.splitter.proofs.Called.report as S-report
 use Rattle.engine.proofs.report.Symbol as D-report
 use Rattle.engine.proofs.report.Symbol.{name as #report}
@@ -60,6 +59,7 @@ use Rattle.splitter.proofs.calls.splitter_report.Proof.Facts as F
 use Rattle.frames.specs.contracts.Frame as M-Frame
 use Rattle.frames.proofs.Frame.TheLaws as L-Frame
 use Rattle.frames.specs.declared.Frame.{Frame}
+use Rattle.soundness.specs.Layout.{two_words}
 
 abbrev R-Frame : RattleType
 R-Frame = M-Frame.the_row
@@ -68,10 +68,10 @@ abbrev val-Frame : Frame → Val
 val-Frame d = LL.val M-Frame.the_type L-Frame.the_laws d
 
 abbrev stayed : Stays (f'.ended).signature.params (f'.ended).kept
-stayed = (stay_slice (0 ∷ []) tt (plain (λ _. u32)), (stay_slice (1 ∷ []) tt (plain (λ _. u32)), (stay_slice (2 ∷ []) tt (plain (λ _. R-Frame)), (stay_slice (3 ∷ []) tt (plain (λ _. u32)), (stay_none (λ _. u32) yes, (stay_none_slice (4 ∷ []) tt (plain (λ _. u32)) yes, (stay_slice (5 ∷ []) tt (plain (λ _. u32)), (stay_slice (6 ∷ []) tt (plain (λ _. u32)), (stay_none_slice (7 ∷ []) tt (plain (λ _. u8)) yes, (stay_slice (8 ∷ []) tt (plain (λ _. u32)), (stay_slice (9 ∷ []) tt (plain (λ _. u64)), (stay_slice (10 ∷ []) tt (plain (λ _. u64)), tt))))))))))))
+stayed = (stay_slice (0 ∷ []) tt (plain (λ _. u32)), (stay_slice (1 ∷ []) tt (plain (λ _. u32)), (stay_slice (2 ∷ []) tt (plain (λ _. R-Frame)), (stay_none (λ _. u32) yes, (stay_none_slice (3 ∷ []) tt (plain (λ _. u32)) yes, (stay_slice (4 ∷ []) tt (plain (λ _. u32)), (stay_slice (5 ∷ []) tt (plain (λ _. u32)), (stay_none_slice (6 ∷ []) tt (plain (λ _. u8)) yes, (stay_slice (7 ∷ []) tt (plain (λ _. u32)), (stay_slice (8 ∷ []) tt (plain (λ _. u64)), (stay_slice (9 ∷ []) tt (plain (λ _. u64)), tt)))))))))))
 
 module _ {M : Type 1} {𝓤 : Ura M} (𝓛 : Logic 𝓤) (mem : Memory → SProp 𝓤) (run : Routine → Fun 𝓤)
-    (κ-numbers : Lft) (q-numbers : Share) (b-numbers o-numbers : ℕ) (γ-numbers : GName) (numbers : List ℕ) (κ-deques : Lft) (q-deques : Share) (b-deques o-deques : ℕ) (γ-deques : GName) (deques : List ℕ) (κ-frames : Lft) (q-frames : Share) (b-frames o-frames : ℕ) (γ-frames : GName) (frames : List Frame) (κ-memory : Lft) (q-memory : Share) (b-memory o-memory : ℕ) (γ-memory : GName) (memory : List ℕ) (κ-values : Lft) (q-values : Share) (b-values o-values : ℕ) (γ-values : GName) (values : List ℕ) (κ-pool : Lft) (q-pool : Share) (b-pool o-pool : ℕ) (γ-pool : GName) (pool : List ℕ) (κ-work : Lft) (q-work : Share) (b-work o-work : ℕ) (γ-work : GName) (work : List ℕ) (κ-bytes : Lft) (q-bytes : Share) (b-bytes o-bytes : ℕ) (γ-bytes : GName) (bytes : List ℕ) (κ-answers : Lft) (q-answers : Share) (b-answers o-answers : ℕ) (γ-answers : GName) (answers : List ℕ) (κ-clocks : Lft) (q-clocks : Share) (b-clocks o-clocks : ℕ) (γ-clocks : GName) (clocks : List ℕ) (κ-report : Lft) (q-report : Share) (b-report o-report : ℕ) (γ-report : GName) (report : List ℕ) (workers : ℕ) (workers-fits : workers < 2 ^ 32) (room-numbers : Room u32 (length numbers)) (room-deques : Room u32 (length deques)) (room-frames : Room R-Frame (length frames)) (room-memory : Room u32 (length memory)) (room-values : Room u32 (length values)) (room-pool : Room u32 (length pool)) (room-work : Room u32 (length work)) (room-bytes : Room u8 (length bytes)) (room-answers : Room u32 (length answers)) (room-clocks : Room u64 (length clocks)) (room-report : Room u64 (length report)) where
+    (κ-numbers : Lft) (q-numbers : Share) (b-numbers o-numbers : ℕ) (γ-numbers : GName) (numbers : List ℕ) (κ-deques : Lft) (q-deques : Share) (b-deques o-deques : ℕ) (γ-deques : GName) (deques : List ℕ) (κ-frames : Lft) (q-frames : Share) (b-frames o-frames : ℕ) (γ-frames : GName) (frames : List Frame) (κ-values : Lft) (q-values : Share) (b-values o-values : ℕ) (γ-values : GName) (values : List ℕ) (κ-pool : Lft) (q-pool : Share) (b-pool o-pool : ℕ) (γ-pool : GName) (pool : List ℕ) (κ-work : Lft) (q-work : Share) (b-work o-work : ℕ) (γ-work : GName) (work : List ℕ) (κ-bytes : Lft) (q-bytes : Share) (b-bytes o-bytes : ℕ) (γ-bytes : GName) (bytes : List ℕ) (κ-answers : Lft) (q-answers : Share) (b-answers o-answers : ℕ) (γ-answers : GName) (answers : List ℕ) (κ-clocks : Lft) (q-clocks : Share) (b-clocks o-clocks : ℕ) (γ-clocks : GName) (clocks : List ℕ) (κ-report : Lft) (q-report : Share) (b-report o-report : ℕ) (γ-report : GName) (report : List ℕ) (workers : ℕ) (workers-fits : workers < 2 ^ 32) (room-numbers : Room u32 (length numbers)) (room-deques : Room u32 (length deques)) (room-frames : Room R-Frame (length frames)) (room-values : Room u32 (length values)) (room-pool : Room u32 (length pool)) (room-work : Room u32 (length work)) (room-bytes : Room u8 (length bytes)) (room-answers : Room u32 (length answers)) (room-clocks : Room u64 (length clocks)) (room-report : Room u64 (length report)) where
   open 𝓛 use {H}
 
   abbrev n-numbers : ℕ
@@ -82,9 +82,6 @@ module _ {M : Type 1} {𝓤 : Ura M} (𝓛 : Logic 𝓤) (mem : Memory → SProp
 
   abbrev n-frames : ℕ
   n-frames = length frames
-
-  abbrev n-memory : ℕ
-  n-memory = length memory
 
   abbrev n-values : ℕ
   n-values = length values
@@ -107,76 +104,74 @@ module _ {M : Type 1} {𝓤 : Ura M} (𝓛 : Logic 𝓤) (mem : Memory → SProp
   abbrev n-report : ℕ
   n-report = length report
 
-  abbrev args' : Bor (List ℕ) × (Bor (List ℕ) × (Bor (List Frame) × (Bor (List ℕ) × (ℕ × (Bor (List ℕ) × (Bor (List ℕ) × (Bor (List ℕ) × (Bor (List ℕ) × (Bor (List ℕ) × (Bor (List ℕ) × (Bor (List ℕ) × Unit {0})))))))))))
-  args' = (at_list b-numbers o-numbers γ-numbers numbers, (at_list b-deques o-deques γ-deques deques, (at_list b-frames o-frames γ-frames frames, (at_list b-memory o-memory γ-memory memory, (workers, (at_list b-values o-values γ-values values, (at_list b-pool o-pool γ-pool pool, (at_list b-work o-work γ-work work, (at_list b-bytes o-bytes γ-bytes bytes, (at_list b-answers o-answers γ-answers answers, (at_list b-clocks o-clocks γ-clocks clocks, (at_list b-report o-report γ-report report, tt))))))))))))
+  abbrev args' : Bor (List ℕ) × (Bor (List ℕ) × (Bor (List Frame) × (ℕ × (Bor (List ℕ) × (Bor (List ℕ) × (Bor (List ℕ) × (Bor (List ℕ) × (Bor (List ℕ) × (Bor (List ℕ) × (Bor (List ℕ) × Unit {0}))))))))))
+  args' = (at_list b-numbers o-numbers γ-numbers numbers, (at_list b-deques o-deques γ-deques deques, (at_list b-frames o-frames γ-frames frames, (workers, (at_list b-values o-values γ-values values, (at_list b-pool o-pool γ-pool pool, (at_list b-work o-work γ-work work, (at_list b-bytes o-bytes γ-bytes bytes, (at_list b-answers o-answers γ-answers answers, (at_list b-clocks o-clocks γ-clocks clocks, (at_list b-report o-report γ-report report, tt)))))))))))
 
-  abbrev vals' : Vals f'.signature (κ-numbers, (κ-deques, (κ-frames, (κ-memory, (κ-values, (κ-pool, (κ-work, (κ-bytes, (κ-answers, (κ-clocks, (κ-report, tt)))))))))))
-  vals' = (slice_val (b-numbers, o-numbers) (length numbers) ∷ [], (slice_val (b-deques, o-deques) (length deques) ∷ [], (slice_val (b-frames, o-frames) (length frames) ∷ [], (slice_val (b-memory, o-memory) (length memory) ∷ [], (vint w32 workers ∷ [], (slice_val (b-values, o-values) (length values) ∷ [], (slice_val (b-pool, o-pool) (length pool) ∷ [], (slice_val (b-work, o-work) (length work) ∷ [], (slice_val (b-bytes, o-bytes) (length bytes) ∷ [], (slice_val (b-answers, o-answers) (length answers) ∷ [], (slice_val (b-clocks, o-clocks) (length clocks) ∷ [], (slice_val (b-report, o-report) (length report) ∷ [], tt))))))))))))
+  abbrev vals' : Vals f'.signature (κ-numbers, (κ-deques, (κ-frames, (κ-values, (κ-pool, (κ-work, (κ-bytes, (κ-answers, (κ-clocks, (κ-report, tt))))))))))
+  vals' = (slice_val (b-numbers, o-numbers) (length numbers) ∷ [], (slice_val (b-deques, o-deques) (length deques) ∷ [], (slice_val (b-frames, o-frames) (length frames) ∷ [], (vint w32 workers ∷ [], (slice_val (b-values, o-values) (length values) ∷ [], (slice_val (b-pool, o-pool) (length pool) ∷ [], (slice_val (b-work, o-work) (length work) ∷ [], (slice_val (b-bytes, o-bytes) (length bytes) ∷ [], (slice_val (b-answers, o-answers) (length answers) ∷ [], (slice_val (b-clocks, o-clocks) (length clocks) ∷ [], (slice_val (b-report, o-report) (length report) ∷ [], tt)))))))))))
 
   abbrev bound' : (walk_of 𝓛 f'.ended stayed (f'.clauses 𝓛 mem run)).Ghost
-  bound' = (((κ-numbers, (κ-deques, (κ-frames, (κ-memory, (κ-values, (κ-pool, (κ-work, (κ-bytes, (κ-answers, (κ-clocks, (κ-report, tt))))))))))), (q-numbers, (q-deques, (q-frames, (q-memory, (q-values, (q-pool, (q-work, (q-bytes, (q-answers, (q-clocks, (q-report, tt))))))))))), tt, args', vals'), tt)
+  bound' = (((κ-numbers, (κ-deques, (κ-frames, (κ-values, (κ-pool, (κ-work, (κ-bytes, (κ-answers, (κ-clocks, (κ-report, tt)))))))))), (q-numbers, (q-deques, (q-frames, (q-values, (q-pool, (q-work, (q-bytes, (q-answers, (q-clocks, (q-report, tt)))))))))), tt, args', vals'), tt)
 
   abbrev Post : Val → SProp 𝓤
   Post = (walk_of 𝓛 f'.ended stayed (f'.clauses 𝓛 mem run)).post bound'
 
-  exits' : (res' : ℕ) (zs-numbers : List ℕ) (zs-deques : List ℕ) (zs-frames : List Frame) (zs-memory : List ℕ) (zs-pool : List ℕ) (zs-work : List ℕ) (zs-answers : List ℕ) (zs-clocks : List ℕ) (zs-report : List ℕ) → res' < 2 ^ 32 → IsReportWith (report_remembering two_words (parts numbers deques frames) memory workers values pool bytes (lent work answers clocks report)) zs-numbers zs-deques zs-frames zs-memory zs-pool zs-work zs-answers zs-clocks zs-report res' → length zs-numbers ≡ length numbers → length zs-deques ≡ length deques → length zs-frames ≡ length frames → length zs-memory ≡ length memory → length zs-pool ≡ length pool → length zs-work ≡ length work → length zs-answers ≡ length answers → length zs-clocks ≡ length clocks → length zs-report ≡ length report → ent 𝓤 (⋆ 𝓛 (‵ (Mine u32 κ-numbers q-numbers γ-numbers b-numbers o-numbers n-numbers zs-numbers) ∷ ‵ (Mine u32 κ-deques q-deques γ-deques b-deques o-deques n-deques zs-deques) ∷ ‵ (Mine R-Frame κ-frames q-frames γ-frames b-frames o-frames n-frames zs-frames) ∷ ‵ (Mine u32 κ-memory q-memory γ-memory b-memory o-memory n-memory zs-memory) ∷ ‵ (Yours u32 κ-values q-values γ-values b-values o-values n-values values) ∷ ‵ (Mine u32 κ-pool q-pool γ-pool b-pool o-pool n-pool zs-pool) ∷ ‵ (Mine u32 κ-work q-work γ-work b-work o-work n-work zs-work) ∷ ‵ (Yours u8 κ-bytes q-bytes γ-bytes b-bytes o-bytes n-bytes bytes) ∷ ‵ (Mine u32 κ-answers q-answers γ-answers b-answers o-answers n-answers zs-answers) ∷ ‵ (Mine u64 κ-clocks q-clocks γ-clocks b-clocks o-clocks n-clocks zs-clocks) ∷ ‵ (Mine u64 κ-report q-report γ-report b-report o-report n-report zs-report) ∷ [])) (Post (vint w32 res'))
-  exits' res' zs-numbers zs-deques zs-frames zs-memory zs-pool zs-work zs-answers zs-clocks zs-report good' e' same_numbers same-deques same-frames same_memory same-pool same_work same-answers same_clocks same_report =
-      qed 𝓛 (‵ (Mine u32 κ-numbers q-numbers γ-numbers b-numbers o-numbers n-numbers zs-numbers) ∷ ‵ (Mine u32 κ-deques q-deques γ-deques b-deques o-deques n-deques zs-deques) ∷ ‵ (Mine R-Frame κ-frames q-frames γ-frames b-frames o-frames n-frames zs-frames) ∷ ‵ (Mine u32 κ-memory q-memory γ-memory b-memory o-memory n-memory zs-memory) ∷ ‵ (Yours u32 κ-values q-values γ-values b-values o-values n-values values) ∷ ‵ (Mine u32 κ-pool q-pool γ-pool b-pool o-pool n-pool zs-pool) ∷ ‵ (Mine u32 κ-work q-work γ-work b-work o-work n-work zs-work) ∷ ‵ (Yours u8 κ-bytes q-bytes γ-bytes b-bytes o-bytes n-bytes bytes) ∷ ‵ (Mine u32 κ-answers q-answers γ-answers b-answers o-answers n-answers zs-answers) ∷ ‵ (Mine u64 κ-clocks q-clocks γ-clocks b-clocks o-clocks n-clocks zs-clocks) ∷ ‵ (Mine u64 κ-report q-report γ-report b-report o-report n-report zs-report) ∷ []) ∵
-      suffices ! _ (ends_at 𝓛 f'.ended stayed (f'.clauses 𝓛 mem run) bound' (vint w32 res') res' (zs-numbers, (zs-deques, (zs-frames, (zs-memory, (tt, (tt, (zs-pool, (zs-work, (tt, (zs-answers, (zs-clocks, (zs-report, tt)))))))))))) (same_numbers, (same-deques, (same-frames, (same_memory, (tt, (tt, (same-pool, (same_work, (tt, (same-answers, (same_clocks, (same_report, tt))))))))))))) $ says ! e' $
-      fsplit ! $ move ! (2 ∷ []) $ fsplit ! $ move ! (4 ∷ []) $ fsplit ! $ move ! (6 ∷ []) $ fsplit ! $ move ! (8 ∷ []) $ fsplit ! $ move ! (10 ∷ []) $ fsplit ! $ move ! (12 ∷ []) $ fsplit ! $ move ! (14 ∷ []) $ fsplit ! $ move ! (16 ∷ []) $ fsplit ! $ move ! (18 ∷ []) $ fsplit ! $ move ! (20 ∷ []) $ fsplit ! $ nothing ! $ move ! (22 ∷ 20 ∷ 18 ∷ 16 ∷ 14 ∷ 12 ∷ 10 ∷ 8 ∷ 6 ∷ 4 ∷ 2 ∷ 0 ∷ []) $ group ! 12 $ frame ! $
-      nothing ! $ move ! (1 ∷ 0 ∷ []) $ fjoin ! $ move ! (1 ∷ 0 ∷ []) $ fjoin ! $ move ! (1 ∷ 0 ∷ []) $ fjoin ! $ move ! (1 ∷ 0 ∷ []) $ fjoin ! $ move ! (1 ∷ 0 ∷ []) $ fjoin ! $ move ! (1 ∷ 0 ∷ []) $ fjoin ! $ move ! (1 ∷ 0 ∷ []) $ fjoin ! $ owned ! u32 (Is u32) (uint_Makes 𝓛 w32) workers _ (refl, workers-fits) $ fjoin ! $ move ! (1 ∷ 0 ∷ []) $ fjoin ! $ move ! (1 ∷ 0 ∷ []) $ fjoin ! $ move ! (1 ∷ 0 ∷ []) $ fjoin ! $ move ! (1 ∷ 0 ∷ []) $ fjoin ! $ frame ! $
+  exits' : (res' : ℕ) (zs-numbers : List ℕ) (zs-deques : List ℕ) (zs-frames : List Frame) (zs-pool : List ℕ) (zs-work : List ℕ) (zs-answers : List ℕ) (zs-clocks : List ℕ) (zs-report : List ℕ) → res' < 2 ^ 32 → IsReport (report_on two_words (parts numbers deques frames) workers values pool bytes (lent work answers clocks report)) zs-numbers zs-deques zs-frames zs-pool zs-work zs-answers zs-clocks zs-report res' → length zs-numbers ≡ length numbers → length zs-deques ≡ length deques → length zs-frames ≡ length frames → length zs-pool ≡ length pool → length zs-work ≡ length work → length zs-answers ≡ length answers → length zs-clocks ≡ length clocks → length zs-report ≡ length report → ent 𝓤 (⋆ 𝓛 (‵ (Mine u32 κ-numbers q-numbers γ-numbers b-numbers o-numbers n-numbers zs-numbers) ∷ ‵ (Mine u32 κ-deques q-deques γ-deques b-deques o-deques n-deques zs-deques) ∷ ‵ (Mine R-Frame κ-frames q-frames γ-frames b-frames o-frames n-frames zs-frames) ∷ ‵ (Yours u32 κ-values q-values γ-values b-values o-values n-values values) ∷ ‵ (Mine u32 κ-pool q-pool γ-pool b-pool o-pool n-pool zs-pool) ∷ ‵ (Mine u32 κ-work q-work γ-work b-work o-work n-work zs-work) ∷ ‵ (Yours u8 κ-bytes q-bytes γ-bytes b-bytes o-bytes n-bytes bytes) ∷ ‵ (Mine u32 κ-answers q-answers γ-answers b-answers o-answers n-answers zs-answers) ∷ ‵ (Mine u64 κ-clocks q-clocks γ-clocks b-clocks o-clocks n-clocks zs-clocks) ∷ ‵ (Mine u64 κ-report q-report γ-report b-report o-report n-report zs-report) ∷ [])) (Post (vint w32 res'))
+  exits' res' zs-numbers zs-deques zs-frames zs-pool zs-work zs-answers zs-clocks zs-report good' e' same_numbers same-deques same-frames same-pool same_work same-answers same_clocks same_report =
+      qed 𝓛 (‵ (Mine u32 κ-numbers q-numbers γ-numbers b-numbers o-numbers n-numbers zs-numbers) ∷ ‵ (Mine u32 κ-deques q-deques γ-deques b-deques o-deques n-deques zs-deques) ∷ ‵ (Mine R-Frame κ-frames q-frames γ-frames b-frames o-frames n-frames zs-frames) ∷ ‵ (Yours u32 κ-values q-values γ-values b-values o-values n-values values) ∷ ‵ (Mine u32 κ-pool q-pool γ-pool b-pool o-pool n-pool zs-pool) ∷ ‵ (Mine u32 κ-work q-work γ-work b-work o-work n-work zs-work) ∷ ‵ (Yours u8 κ-bytes q-bytes γ-bytes b-bytes o-bytes n-bytes bytes) ∷ ‵ (Mine u32 κ-answers q-answers γ-answers b-answers o-answers n-answers zs-answers) ∷ ‵ (Mine u64 κ-clocks q-clocks γ-clocks b-clocks o-clocks n-clocks zs-clocks) ∷ ‵ (Mine u64 κ-report q-report γ-report b-report o-report n-report zs-report) ∷ []) ∵
+      suffices ! _ (ends_at 𝓛 f'.ended stayed (f'.clauses 𝓛 mem run) bound' (vint w32 res') res' (zs-numbers, (zs-deques, (zs-frames, (tt, (tt, (zs-pool, (zs-work, (tt, (zs-answers, (zs-clocks, (zs-report, tt))))))))))) (same_numbers, (same-deques, (same-frames, (tt, (tt, (same-pool, (same_work, (tt, (same-answers, (same_clocks, (same_report, tt)))))))))))) $ says ! e' $
+      fsplit ! $ move ! (2 ∷ []) $ fsplit ! $ move ! (4 ∷ []) $ fsplit ! $ move ! (6 ∷ []) $ fsplit ! $ move ! (8 ∷ []) $ fsplit ! $ move ! (10 ∷ []) $ fsplit ! $ move ! (12 ∷ []) $ fsplit ! $ move ! (14 ∷ []) $ fsplit ! $ move ! (16 ∷ []) $ fsplit ! $ move ! (18 ∷ []) $ fsplit ! $ nothing ! $ move ! (20 ∷ 18 ∷ 16 ∷ 14 ∷ 12 ∷ 10 ∷ 8 ∷ 6 ∷ 4 ∷ 2 ∷ 0 ∷ []) $ group ! 11 $ frame ! $
+      nothing ! $ move ! (1 ∷ 0 ∷ []) $ fjoin ! $ move ! (1 ∷ 0 ∷ []) $ fjoin ! $ move ! (1 ∷ 0 ∷ []) $ fjoin ! $ move ! (1 ∷ 0 ∷ []) $ fjoin ! $ move ! (1 ∷ 0 ∷ []) $ fjoin ! $ move ! (1 ∷ 0 ∷ []) $ fjoin ! $ move ! (1 ∷ 0 ∷ []) $ fjoin ! $ owned ! u32 (Is u32) (uint_Makes 𝓛 w32) workers _ (refl, workers-fits) $ fjoin ! $ move ! (1 ∷ 0 ∷ []) $ fjoin ! $ move ! (1 ∷ 0 ∷ []) $ fjoin ! $ move ! (1 ∷ 0 ∷ []) $ fjoin ! $ frame ! $
       owned ! u32 (Is u32) (uint_Makes 𝓛 w32) res' _ (refl, good') $ done !
 
   module _ (𝓣 : Tables 𝓤 H) (known-report : Triple 𝓤 (𝓣.C #report) (S-report.Asked 𝓛 mem run)) where
     abbrev fm : FmC 𝓤 H 𝓛.laws 𝓣.C
     fm = fm_of 𝓤 H 𝓛.laws 𝓣
 
-    walk : ent 𝓤 (on_entry 𝓛 f'.signature (κ-numbers, (κ-deques, (κ-frames, (κ-memory, (κ-values, (κ-pool, (κ-work, (κ-bytes, (κ-answers, (κ-clocks, (κ-report, tt))))))))))) (q-numbers, (q-deques, (q-frames, (q-memory, (q-values, (q-pool, (q-work, (q-bytes, (q-answers, (q-clocks, (q-report, tt))))))))))) args' vals') (WpFn 𝓤 H 𝓣.C 𝓣.Λ code.function (slice_val (b-numbers, o-numbers) (length numbers) ∷ slice_val (b-deques, o-deques) (length deques) ∷ slice_val (b-frames, o-frames) (length frames) ∷ slice_val (b-memory, o-memory) (length memory) ∷ vint w32 workers ∷ slice_val (b-values, o-values) (length values) ∷ slice_val (b-pool, o-pool) (length pool) ∷ slice_val (b-work, o-work) (length work) ∷ slice_val (b-bytes, o-bytes) (length bytes) ∷ slice_val (b-answers, o-answers) (length answers) ∷ slice_val (b-clocks, o-clocks) (length clocks) ∷ slice_val (b-report, o-report) (length report) ∷ []) Post)
+    walk : ent 𝓤 (on_entry 𝓛 f'.signature (κ-numbers, (κ-deques, (κ-frames, (κ-values, (κ-pool, (κ-work, (κ-bytes, (κ-answers, (κ-clocks, (κ-report, tt)))))))))) (q-numbers, (q-deques, (q-frames, (q-values, (q-pool, (q-work, (q-bytes, (q-answers, (q-clocks, (q-report, tt)))))))))) args' vals') (WpFn 𝓤 H 𝓣.C 𝓣.Λ code.function (slice_val (b-numbers, o-numbers) (length numbers) ∷ slice_val (b-deques, o-deques) (length deques) ∷ slice_val (b-frames, o-frames) (length frames) ∷ vint w32 workers ∷ slice_val (b-values, o-values) (length values) ∷ slice_val (b-pool, o-pool) (length pool) ∷ slice_val (b-work, o-work) (length work) ∷ slice_val (b-bytes, o-bytes) (length bytes) ∷ slice_val (b-answers, o-answers) (length answers) ∷ slice_val (b-clocks, o-clocks) (length clocks) ∷ slice_val (b-report, o-report) (length report) ∷ []) Post)
     walk =
-        qed 𝓛 ((‵ (flft κ-numbers q-numbers) ⊛ ‵ (flft κ-deques q-deques) ⊛ ‵ (flft κ-frames q-frames) ⊛ ‵ (flft κ-memory q-memory) ⊛ ‵ (flft κ-values q-values) ⊛ ‵ (flft κ-pool q-pool) ⊛ ‵ (flft κ-work q-work) ⊛ ‵ (flft κ-bytes q-bytes) ⊛ ‵ (flft κ-answers q-answers) ⊛ ‵ (flft κ-clocks q-clocks) ⊛ ‵ (flft κ-report q-report) ⊛ ‵ ftrue) ∷ ‵ (owns (MutSlice (named 0) κ-numbers u32 ∷ MutSlice (named 1) κ-deques u32 ∷ MutSlice (named 2) κ-frames R-Frame ∷ MutSlice (named 3) κ-memory u32 ∷ u32 ∷ ShrSlice (named 4) κ-values u32 ∷ MutSlice (named 5) κ-pool u32 ∷ MutSlice (named 6) κ-work u32 ∷ ShrSlice (named 7) κ-bytes u8 ∷ MutSlice (named 8) κ-answers u32 ∷ MutSlice (named 9) κ-clocks u64 ∷ MutSlice (named 10) κ-report u64 ∷ []) args' vals') ∷ []) ∵ enter ! 𝓣.C 𝓣.Λ code.function (slice_val (b-numbers, o-numbers) (length numbers) ∷ slice_val (b-deques, o-deques) (length deques) ∷ slice_val (b-frames, o-frames) (length frames) ∷ slice_val (b-memory, o-memory) (length memory) ∷ vint w32 workers ∷ slice_val (b-values, o-values) (length values) ∷ slice_val (b-pool, o-pool) (length pool) ∷ slice_val (b-work, o-work) (length work) ∷ slice_val (b-bytes, o-bytes) (length bytes) ∷ slice_val (b-answers, o-answers) (length answers) ∷ slice_val (b-clocks, o-clocks) (length clocks) ∷ slice_val (b-report, o-report) (length report) ∷ []) _ $
-        alloc1 ! (λ l₀. alloc1 ! (λ l₁. alloc1 ! (λ l₂. alloc1 ! (λ l₃. alloc1 ! (λ l₄. alloc1 ! (λ l₅. alloc1 ! (λ l₆. alloc1 ! (λ l₇. alloc1 ! (λ l₈. alloc1 ! (λ l₉. alloc1 ! (λ l₁₀. alloc1 ! (λ l₁₁. alloc1 ! (λ l₁₂. alloc1 ! (λ l₁₃. alloc1 ! (λ l₁₄. alloc1 ! (λ l₁₅. alloc1 ! (λ l₁₆. alloc1 ! (λ l₁₇. alloc1 ! (λ l₁₈. alloc1 ! (λ l₁₉. alloc1 ! (λ l₂₀. alloc1 ! (λ l₂₁. alloc1 ! (λ l₂₂. alloc1 ! (λ l₂₃. alloc1 ! (λ l₂₄. alloc1 ! (λ l₂₅. alloc1 ! (λ l₂₆. alloc1 ! (λ l₂₇. alloc1 ! (λ l₂₈. alloc1 ! (λ l₂₉. alloc1 ! (λ l₃₀. alloc0 ! $ params1 ! $
-        pass1 ! (init ! 58 refl (tt, (tt, (record { fits = room-numbers.0 }, tt)))) $ pass1 ! (init ! 56 refl (tt, (tt, (record { fits = room-deques.0 }, tt)))) $ pass1 ! (init ! 54 refl (tt, (tt, (record { fits = room-frames.0 }, tt)))) $ pass1 ! (init ! 52 refl (tt, (tt, (record { fits = room-memory.0 }, tt)))) $ pass1 ! (init ! 50 refl (tt, record { fits = workers-fits })) $ pass1 ! (init ! 48 refl (tt, (tt, (record { fits = room-values.0 }, tt)))) $ pass1 ! (init ! 46 refl (tt, (tt, (record { fits = room-pool.0 }, tt)))) $ pass1 ! (init ! 44 refl (tt, (tt, (record { fits = room-work.0 }, tt)))) $ pass1 ! (init ! 42 refl (tt, (tt, (record { fits = room-bytes.0 }, tt)))) $ pass1 ! (init ! 40 refl (tt, (tt, (record { fits = room-answers.0 }, tt)))) $ pass1 ! (init ! 38 refl (tt, (tt, (record { fits = room-clocks.0 }, tt)))) $ pass1 ! (init ! 36 refl (tt, (tt, (record { fits = room-report.0 }, tt)))) $ pass0 ! $
-        move ! (63 ∷ []) $ fsplit ! $ move ! (1 ∷ []) $ fsplit ! $ move ! (1 ∷ []) $ fsplit ! $ move ! (1 ∷ []) $ fsplit ! $ move ! (1 ∷ []) $ fsplit ! $ drop ! $ fsplit ! $ move ! (1 ∷ []) $ fsplit ! $ move ! (1 ∷ []) $ fsplit ! $ move ! (1 ∷ []) $ fsplit ! $ move ! (1 ∷ []) $ fsplit ! $ move ! (1 ∷ []) $ fsplit ! $ move ! (1 ∷ []) $ fsplit ! $ move ! (1 ∷ []) $ drop ! $ move ! (73 ∷ []) $ split ! $ move ! (1 ∷ []) $ split ! $ move ! (1 ∷ []) $ split ! $ move ! (1 ∷ []) $ split ! $ move ! (1 ∷ []) $ split ! $ move ! (1 ∷ []) $ split ! $ move ! (1 ∷ []) $ split ! $ move ! (1 ∷ []) $ split ! $ move ! (1 ∷ []) $ split ! $ move ! (1 ∷ []) $ split ! $ move ! (1 ∷ []) $ split ! $ move ! (1 ∷ []) $ drop ! $ move ! (11 ∷ 0 ∷ []) $ fjoin ! $ move ! (11 ∷ 1 ∷ []) $ fjoin ! $ move ! (11 ∷ 2 ∷ []) $ fjoin ! $ move ! (11 ∷ 3 ∷ []) $ fjoin ! $ move ! (11 ∷ 4 ∷ []) $ fjoin ! $ move ! (11 ∷ 5 ∷ []) $ fjoin ! $ move ! (11 ∷ 6 ∷ []) $ fjoin ! $ move ! (11 ∷ 7 ∷ []) $ fjoin ! $ move ! (11 ∷ 8 ∷ []) $ fjoin ! $ move ! (11 ∷ 9 ∷ []) $ fjoin ! $ move ! (11 ∷ 10 ∷ []) $ fjoin ! $
-        -- [numbers; deques; frames; memory; values; pool; work; bytes; answers; clocks; report; the locals]
-        assigns ! (addr ! (from ! (fld ! refl (hop ! (look_in ! 69 (sub ! 0 refl (whole !))) (stop !))))) (from ! (stop !)) (init ! 45 refl (tt, tt)) $
-        assigns ! (agg ! (and_then ! (load ! (from ! (stop !)) (look ! 45 refl)) (and_then ! (load ! (from ! (fld ! refl (stop !))) (look_in ! 69 (sub ! 1 refl (whole !)))) (no_more !)))) (from ! (stop !)) (init ! 43 refl (tt, (tt, (record { fits = room-numbers.0 }, tt)))) $
-        assigns ! (addr ! (from ! (fld ! refl (hop ! (look_in ! 67 (sub ! 0 refl (whole !))) (stop !))))) (from ! (stop !)) (init ! 41 refl (tt, tt)) $
-        assigns ! (agg ! (and_then ! (load ! (from ! (stop !)) (look ! 41 refl)) (and_then ! (load ! (from ! (fld ! refl (stop !))) (look_in ! 67 (sub ! 1 refl (whole !)))) (no_more !)))) (from ! (stop !)) (init ! 39 refl (tt, (tt, (record { fits = room-deques.0 }, tt)))) $
-        assigns ! (addr ! (from ! (fld ! refl (hop ! (look_in ! 65 (sub ! 0 refl (whole !))) (stop !))))) (from ! (stop !)) (init ! 37 refl (tt, tt)) $
-        assigns ! (agg ! (and_then ! (load ! (from ! (stop !)) (look ! 37 refl)) (and_then ! (load ! (from ! (fld ! refl (stop !))) (look_in ! 65 (sub ! 1 refl (whole !)))) (no_more !)))) (from ! (stop !)) (init ! 35 refl (tt, (tt, (record { fits = room-frames.0 }, tt)))) $
-        assigns ! (addr ! (from ! (fld ! refl (hop ! (look_in ! 63 (sub ! 0 refl (whole !))) (stop !))))) (from ! (stop !)) (init ! 33 refl (tt, tt)) $
-        assigns ! (agg ! (and_then ! (load ! (from ! (stop !)) (look ! 33 refl)) (and_then ! (load ! (from ! (fld ! refl (stop !))) (look_in ! 63 (sub ! 1 refl (whole !)))) (no_more !)))) (from ! (stop !)) (init ! 31 refl (tt, (tt, (record { fits = room-memory.0 }, tt)))) $
-        assigns ! (addr ! (from ! (fld ! refl (hop ! (look_in ! 57 (sub ! 0 refl (whole !))) (stop !))))) (from ! (stop !)) (init ! 29 refl (tt, tt)) $
-        assigns ! (agg ! (and_then ! (load ! (from ! (stop !)) (look ! 29 refl)) (and_then ! (load ! (from ! (fld ! refl (stop !))) (look_in ! 57 (sub ! 1 refl (whole !)))) (no_more !)))) (from ! (stop !)) (init ! 27 refl (tt, (tt, (record { fits = room-pool.0 }, tt)))) $
-        assigns ! (addr ! (from ! (fld ! refl (hop ! (look_in ! 55 (sub ! 0 refl (whole !))) (stop !))))) (from ! (stop !)) (init ! 25 refl (tt, tt)) $
-        assigns ! (agg ! (and_then ! (load ! (from ! (stop !)) (look ! 25 refl)) (and_then ! (load ! (from ! (fld ! refl (stop !))) (look_in ! 55 (sub ! 1 refl (whole !)))) (no_more !)))) (from ! (stop !)) (init ! 23 refl (tt, (tt, (record { fits = room-work.0 }, tt)))) $
-        assigns ! (addr ! (from ! (fld ! refl (hop ! (look_in ! 51 (sub ! 0 refl (whole !))) (stop !))))) (from ! (stop !)) (init ! 21 refl (tt, tt)) $
-        assigns ! (agg ! (and_then ! (load ! (from ! (stop !)) (look ! 21 refl)) (and_then ! (load ! (from ! (fld ! refl (stop !))) (look_in ! 51 (sub ! 1 refl (whole !)))) (no_more !)))) (from ! (stop !)) (init ! 19 refl (tt, (tt, (record { fits = room-answers.0 }, tt)))) $
-        assigns ! (addr ! (from ! (fld ! refl (hop ! (look_in ! 49 (sub ! 0 refl (whole !))) (stop !))))) (from ! (stop !)) (init ! 17 refl (tt, tt)) $
-        assigns ! (agg ! (and_then ! (load ! (from ! (stop !)) (look ! 17 refl)) (and_then ! (load ! (from ! (fld ! refl (stop !))) (look_in ! 49 (sub ! 1 refl (whole !)))) (no_more !)))) (from ! (stop !)) (init ! 15 refl (tt, (tt, (record { fits = room-clocks.0 }, tt)))) $
-        assigns ! (addr ! (from ! (fld ! refl (hop ! (look_in ! 47 (sub ! 0 refl (whole !))) (stop !))))) (from ! (stop !)) (init ! 13 refl (tt, tt)) $
-        assigns ! (agg ! (and_then ! (load ! (from ! (stop !)) (look ! 13 refl)) (and_then ! (load ! (from ! (fld ! refl (stop !))) (look_in ! 47 (sub ! 1 refl (whole !)))) (no_more !)))) (from ! (stop !)) (init ! 11 refl (tt, (tt, (record { fits = room-report.0 }, tt)))) $
-        -- _0 = engine::entries::report(_14, _16, _18, _20, _5, _6, _22, _24, _9, _26, _28, _30)
-        S-report.step-gg mem run ! fm known-report b-numbers o-numbers n-numbers numbers b-deques o-deques n-deques deques b-frames o-frames n-frames frames b-memory o-memory n-memory memory b-values o-values n-values values b-pool o-pool n-pool pool b-work o-work n-work work b-bytes o-bytes n-bytes bytes b-answers o-answers n-answers answers b-clocks o-clocks n-clocks clocks b-report o-report n-report report workers workers-fits (refl) room-numbers (refl) room-deques (refl) room-frames (refl) room-memory (refl) room-pool (refl) room-work (refl) room-answers (refl) room-clocks (refl) room-report
-        (λ ν-0 δ-0 ν-1 δ-1 ν-2 δ-2 ν-3 δ-3 ν-4 δ-4 ν-5 δ-5 ν-6 δ-6 ν-7 δ-7 ν-8 δ-8. and_then ! (load ! (from ! (stop !)) (look ! 44 refl)) (and_then ! (load ! (from ! (stop !)) (look ! 40 refl)) (and_then ! (load ! (from ! (stop !)) (look ! 36 refl)) (and_then ! (load ! (from ! (stop !)) (look ! 32 refl)) (and_then ! (load ! (from ! (stop !)) (look ! 62 refl)) (and_then ! (load ! (from ! (stop !)) (look ! 60 refl)) (and_then ! (load ! (from ! (stop !)) (look ! 28 refl)) (and_then ! (load ! (from ! (stop !)) (look ! 24 refl)) (and_then ! (load ! (from ! (stop !)) (look ! 54 refl)) (and_then ! (load ! (from ! (stop !)) (look ! 20 refl)) (and_then ! (load ! (from ! (stop !)) (look ! 16 refl)) (and_then ! (load ! (from ! (stop !)) (look ! 12 refl)) (no_more !))))))))))))) (λ r-1 numbers-1 deques-1 frames-1 memory-1 pool-1 work-1 answers-1 clocks-1 report-1 r-1-fits r-1-is same-numbers-1 same-deques-1 same-frames-1 same-memory-1 same-pool-1 same-work-1 same-answers-1 same-clocks-1 same-report-1.
-        land ! (from ! (stop !)) (init ! 71 refl (tt, record { fits = r-1-fits })) $
-        returns_within ! Post refl (look ! 71 refl) $ forget ! 11 refl $ forget ! 13 refl $ forget ! 15 refl $ forget ! 17 refl $ forget ! 19 refl $ forget ! 21 refl $ forget ! 23 refl $ forget ! 25 refl $ forget ! 27 refl $ forget ! 29 refl $ forget ! 31 refl $ forget ! 33 refl $ forget ! 35 refl $ forget ! 37 refl $ forget ! 39 refl $ forget ! 41 refl $ forget ! 43 refl $ forget ! 45 refl $ forget ! 47 refl $ forget ! 49 refl $ forget ! 51 refl $ forget ! 53 refl $ forget ! 55 refl $ forget ! 57 refl $ forget ! 59 refl $ forget ! 61 refl $ forget ! 63 refl $ forget ! 65 refl $ forget ! 67 refl $ forget ! 69 refl $ forget ! 71 refl $
-        free_all ! 11 refl $
-        by ! (exits' r-1 numbers-1 deques-1 frames-1 memory-1 pool-1 work-1 answers-1 clocks-1 report-1 r-1-fits (F.out-2 numbers deques frames memory workers values pool work bytes answers clocks report room-numbers.0 room-deques.0 room-frames.0 room-memory.0 workers-fits room-values.0 room-pool.0 room-work.0 room-bytes.0 room-answers.0 room-clocks.0 room-report.0 r-1 numbers-1 deques-1 frames-1 memory-1 pool-1 work-1 answers-1 clocks-1 report-1 r-1-fits r-1-is same-numbers-1 same-deques-1 same-frames-1 same-memory-1 same-pool-1 same-work-1 same-answers-1 same-clocks-1 same-report-1) (same-numbers-1) (same-deques-1) (same-frames-1) (same-memory-1) (same-pool-1) (same-work-1) (same-answers-1) (same-clocks-1) (same-report-1))))))))))))))))))))))))))))))))))
+        qed 𝓛 ((‵ (flft κ-numbers q-numbers) ⊛ ‵ (flft κ-deques q-deques) ⊛ ‵ (flft κ-frames q-frames) ⊛ ‵ (flft κ-values q-values) ⊛ ‵ (flft κ-pool q-pool) ⊛ ‵ (flft κ-work q-work) ⊛ ‵ (flft κ-bytes q-bytes) ⊛ ‵ (flft κ-answers q-answers) ⊛ ‵ (flft κ-clocks q-clocks) ⊛ ‵ (flft κ-report q-report) ⊛ ‵ ftrue) ∷ ‵ (owns (MutSlice (named 0) κ-numbers u32 ∷ MutSlice (named 1) κ-deques u32 ∷ MutSlice (named 2) κ-frames R-Frame ∷ u32 ∷ ShrSlice (named 3) κ-values u32 ∷ MutSlice (named 4) κ-pool u32 ∷ MutSlice (named 5) κ-work u32 ∷ ShrSlice (named 6) κ-bytes u8 ∷ MutSlice (named 7) κ-answers u32 ∷ MutSlice (named 8) κ-clocks u64 ∷ MutSlice (named 9) κ-report u64 ∷ []) args' vals') ∷ []) ∵ enter ! 𝓣.C 𝓣.Λ code.function (slice_val (b-numbers, o-numbers) (length numbers) ∷ slice_val (b-deques, o-deques) (length deques) ∷ slice_val (b-frames, o-frames) (length frames) ∷ vint w32 workers ∷ slice_val (b-values, o-values) (length values) ∷ slice_val (b-pool, o-pool) (length pool) ∷ slice_val (b-work, o-work) (length work) ∷ slice_val (b-bytes, o-bytes) (length bytes) ∷ slice_val (b-answers, o-answers) (length answers) ∷ slice_val (b-clocks, o-clocks) (length clocks) ∷ slice_val (b-report, o-report) (length report) ∷ []) _ $
+        alloc1 ! (λ l₀. alloc1 ! (λ l₁. alloc1 ! (λ l₂. alloc1 ! (λ l₃. alloc1 ! (λ l₄. alloc1 ! (λ l₅. alloc1 ! (λ l₆. alloc1 ! (λ l₇. alloc1 ! (λ l₈. alloc1 ! (λ l₉. alloc1 ! (λ l₁₀. alloc1 ! (λ l₁₁. alloc1 ! (λ l₁₂. alloc1 ! (λ l₁₃. alloc1 ! (λ l₁₄. alloc1 ! (λ l₁₅. alloc1 ! (λ l₁₆. alloc1 ! (λ l₁₇. alloc1 ! (λ l₁₈. alloc1 ! (λ l₁₉. alloc1 ! (λ l₂₀. alloc1 ! (λ l₂₁. alloc1 ! (λ l₂₂. alloc1 ! (λ l₂₃. alloc1 ! (λ l₂₄. alloc1 ! (λ l₂₅. alloc1 ! (λ l₂₆. alloc1 ! (λ l₂₇. alloc0 ! $ params1 ! $
+        pass1 ! (init ! 52 refl (tt, (tt, (record { fits = room-numbers.0 }, tt)))) $ pass1 ! (init ! 50 refl (tt, (tt, (record { fits = room-deques.0 }, tt)))) $ pass1 ! (init ! 48 refl (tt, (tt, (record { fits = room-frames.0 }, tt)))) $ pass1 ! (init ! 46 refl (tt, record { fits = workers-fits })) $ pass1 ! (init ! 44 refl (tt, (tt, (record { fits = room-values.0 }, tt)))) $ pass1 ! (init ! 42 refl (tt, (tt, (record { fits = room-pool.0 }, tt)))) $ pass1 ! (init ! 40 refl (tt, (tt, (record { fits = room-work.0 }, tt)))) $ pass1 ! (init ! 38 refl (tt, (tt, (record { fits = room-bytes.0 }, tt)))) $ pass1 ! (init ! 36 refl (tt, (tt, (record { fits = room-answers.0 }, tt)))) $ pass1 ! (init ! 34 refl (tt, (tt, (record { fits = room-clocks.0 }, tt)))) $ pass1 ! (init ! 32 refl (tt, (tt, (record { fits = room-report.0 }, tt)))) $ pass0 ! $
+        move ! (57 ∷ []) $ fsplit ! $ move ! (1 ∷ []) $ fsplit ! $ move ! (1 ∷ []) $ fsplit ! $ move ! (1 ∷ []) $ fsplit ! $ drop ! $ fsplit ! $ move ! (1 ∷ []) $ fsplit ! $ move ! (1 ∷ []) $ fsplit ! $ move ! (1 ∷ []) $ fsplit ! $ move ! (1 ∷ []) $ fsplit ! $ move ! (1 ∷ []) $ fsplit ! $ move ! (1 ∷ []) $ fsplit ! $ move ! (1 ∷ []) $ drop ! $ move ! (66 ∷ []) $ split ! $ move ! (1 ∷ []) $ split ! $ move ! (1 ∷ []) $ split ! $ move ! (1 ∷ []) $ split ! $ move ! (1 ∷ []) $ split ! $ move ! (1 ∷ []) $ split ! $ move ! (1 ∷ []) $ split ! $ move ! (1 ∷ []) $ split ! $ move ! (1 ∷ []) $ split ! $ move ! (1 ∷ []) $ split ! $ move ! (1 ∷ []) $ drop ! $ move ! (10 ∷ 0 ∷ []) $ fjoin ! $ move ! (10 ∷ 1 ∷ []) $ fjoin ! $ move ! (10 ∷ 2 ∷ []) $ fjoin ! $ move ! (10 ∷ 3 ∷ []) $ fjoin ! $ move ! (10 ∷ 4 ∷ []) $ fjoin ! $ move ! (10 ∷ 5 ∷ []) $ fjoin ! $ move ! (10 ∷ 6 ∷ []) $ fjoin ! $ move ! (10 ∷ 7 ∷ []) $ fjoin ! $ move ! (10 ∷ 8 ∷ []) $ fjoin ! $ move ! (10 ∷ 9 ∷ []) $ fjoin ! $
+        -- [numbers; deques; frames; values; pool; work; bytes; answers; clocks; report; the locals]
+        assigns ! (addr ! (from ! (fld ! refl (hop ! (look_in ! 62 (sub ! 0 refl (whole !))) (stop !))))) (from ! (stop !)) (init ! 40 refl (tt, tt)) $
+        assigns ! (agg ! (and_then ! (load ! (from ! (stop !)) (look ! 40 refl)) (and_then ! (load ! (from ! (fld ! refl (stop !))) (look_in ! 62 (sub ! 1 refl (whole !)))) (no_more !)))) (from ! (stop !)) (init ! 38 refl (tt, (tt, (record { fits = room-numbers.0 }, tt)))) $
+        assigns ! (addr ! (from ! (fld ! refl (hop ! (look_in ! 60 (sub ! 0 refl (whole !))) (stop !))))) (from ! (stop !)) (init ! 36 refl (tt, tt)) $
+        assigns ! (agg ! (and_then ! (load ! (from ! (stop !)) (look ! 36 refl)) (and_then ! (load ! (from ! (fld ! refl (stop !))) (look_in ! 60 (sub ! 1 refl (whole !)))) (no_more !)))) (from ! (stop !)) (init ! 34 refl (tt, (tt, (record { fits = room-deques.0 }, tt)))) $
+        assigns ! (addr ! (from ! (fld ! refl (hop ! (look_in ! 58 (sub ! 0 refl (whole !))) (stop !))))) (from ! (stop !)) (init ! 32 refl (tt, tt)) $
+        assigns ! (agg ! (and_then ! (load ! (from ! (stop !)) (look ! 32 refl)) (and_then ! (load ! (from ! (fld ! refl (stop !))) (look_in ! 58 (sub ! 1 refl (whole !)))) (no_more !)))) (from ! (stop !)) (init ! 30 refl (tt, (tt, (record { fits = room-frames.0 }, tt)))) $
+        assigns ! (addr ! (from ! (fld ! refl (hop ! (look_in ! 52 (sub ! 0 refl (whole !))) (stop !))))) (from ! (stop !)) (init ! 28 refl (tt, tt)) $
+        assigns ! (agg ! (and_then ! (load ! (from ! (stop !)) (look ! 28 refl)) (and_then ! (load ! (from ! (fld ! refl (stop !))) (look_in ! 52 (sub ! 1 refl (whole !)))) (no_more !)))) (from ! (stop !)) (init ! 26 refl (tt, (tt, (record { fits = room-pool.0 }, tt)))) $
+        assigns ! (addr ! (from ! (fld ! refl (hop ! (look_in ! 50 (sub ! 0 refl (whole !))) (stop !))))) (from ! (stop !)) (init ! 24 refl (tt, tt)) $
+        assigns ! (agg ! (and_then ! (load ! (from ! (stop !)) (look ! 24 refl)) (and_then ! (load ! (from ! (fld ! refl (stop !))) (look_in ! 50 (sub ! 1 refl (whole !)))) (no_more !)))) (from ! (stop !)) (init ! 22 refl (tt, (tt, (record { fits = room-work.0 }, tt)))) $
+        assigns ! (addr ! (from ! (fld ! refl (hop ! (look_in ! 46 (sub ! 0 refl (whole !))) (stop !))))) (from ! (stop !)) (init ! 20 refl (tt, tt)) $
+        assigns ! (agg ! (and_then ! (load ! (from ! (stop !)) (look ! 20 refl)) (and_then ! (load ! (from ! (fld ! refl (stop !))) (look_in ! 46 (sub ! 1 refl (whole !)))) (no_more !)))) (from ! (stop !)) (init ! 18 refl (tt, (tt, (record { fits = room-answers.0 }, tt)))) $
+        assigns ! (addr ! (from ! (fld ! refl (hop ! (look_in ! 44 (sub ! 0 refl (whole !))) (stop !))))) (from ! (stop !)) (init ! 16 refl (tt, tt)) $
+        assigns ! (agg ! (and_then ! (load ! (from ! (stop !)) (look ! 16 refl)) (and_then ! (load ! (from ! (fld ! refl (stop !))) (look_in ! 44 (sub ! 1 refl (whole !)))) (no_more !)))) (from ! (stop !)) (init ! 14 refl (tt, (tt, (record { fits = room-clocks.0 }, tt)))) $
+        assigns ! (addr ! (from ! (fld ! refl (hop ! (look_in ! 42 (sub ! 0 refl (whole !))) (stop !))))) (from ! (stop !)) (init ! 12 refl (tt, tt)) $
+        assigns ! (agg ! (and_then ! (load ! (from ! (stop !)) (look ! 12 refl)) (and_then ! (load ! (from ! (fld ! refl (stop !))) (look_in ! 42 (sub ! 1 refl (whole !)))) (no_more !)))) (from ! (stop !)) (init ! 10 refl (tt, (tt, (record { fits = room-report.0 }, tt)))) $
+        -- _0 = engine::entries::report(_13, _15, _17, _4, _5, _19, _21, _8, _23, _25, _27)
+        S-report.step-gg mem run ! fm known-report b-numbers o-numbers n-numbers numbers b-deques o-deques n-deques deques b-frames o-frames n-frames frames b-values o-values n-values values b-pool o-pool n-pool pool b-work o-work n-work work b-bytes o-bytes n-bytes bytes b-answers o-answers n-answers answers b-clocks o-clocks n-clocks clocks b-report o-report n-report report workers workers-fits (refl) room-numbers (refl) room-deques (refl) room-frames (refl) room-pool (refl) room-work (refl) room-answers (refl) room-clocks (refl) room-report
+        (λ ν-0 δ-0 ν-1 δ-1 ν-2 δ-2 ν-3 δ-3 ν-4 δ-4 ν-5 δ-5 ν-6 δ-6 ν-7 δ-7. and_then ! (load ! (from ! (stop !)) (look ! 39 refl)) (and_then ! (load ! (from ! (stop !)) (look ! 35 refl)) (and_then ! (load ! (from ! (stop !)) (look ! 31 refl)) (and_then ! (load ! (from ! (stop !)) (look ! 57 refl)) (and_then ! (load ! (from ! (stop !)) (look ! 55 refl)) (and_then ! (load ! (from ! (stop !)) (look ! 27 refl)) (and_then ! (load ! (from ! (stop !)) (look ! 23 refl)) (and_then ! (load ! (from ! (stop !)) (look ! 49 refl)) (and_then ! (load ! (from ! (stop !)) (look ! 19 refl)) (and_then ! (load ! (from ! (stop !)) (look ! 15 refl)) (and_then ! (load ! (from ! (stop !)) (look ! 11 refl)) (no_more !)))))))))))) (λ r-1 numbers-1 deques-1 frames-1 pool-1 work-1 answers-1 clocks-1 report-1 r-1-fits r-1-is same-numbers-1 same-deques-1 same-frames-1 same-pool-1 same-work-1 same-answers-1 same-clocks-1 same-report-1.
+        land ! (from ! (stop !)) (init ! 64 refl (tt, record { fits = r-1-fits })) $
+        returns_within ! Post refl (look ! 64 refl) $ forget ! 10 refl $ forget ! 12 refl $ forget ! 14 refl $ forget ! 16 refl $ forget ! 18 refl $ forget ! 20 refl $ forget ! 22 refl $ forget ! 24 refl $ forget ! 26 refl $ forget ! 28 refl $ forget ! 30 refl $ forget ! 32 refl $ forget ! 34 refl $ forget ! 36 refl $ forget ! 38 refl $ forget ! 40 refl $ forget ! 42 refl $ forget ! 44 refl $ forget ! 46 refl $ forget ! 48 refl $ forget ! 50 refl $ forget ! 52 refl $ forget ! 54 refl $ forget ! 56 refl $ forget ! 58 refl $ forget ! 60 refl $ forget ! 62 refl $ forget ! 64 refl $
+        free_all ! 10 refl $
+        by ! (exits' r-1 numbers-1 deques-1 frames-1 pool-1 work-1 answers-1 clocks-1 report-1 r-1-fits (F.out-2 numbers deques frames workers values pool work bytes answers clocks report room-numbers.0 room-deques.0 room-frames.0 workers-fits room-values.0 room-pool.0 room-work.0 room-bytes.0 room-answers.0 room-clocks.0 room-report.0 r-1 numbers-1 deques-1 frames-1 pool-1 work-1 answers-1 clocks-1 report-1 r-1-fits r-1-is same-numbers-1 same-deques-1 same-frames-1 same-pool-1 same-work-1 same-answers-1 same-clocks-1 same-report-1) (same-numbers-1) (same-deques-1) (same-frames-1) (same-pool-1) (same-work-1) (same-answers-1) (same-clocks-1) (same-report-1)))))))))))))))))))))))))))))))
 
 module _ {M : Type 1} {𝓤 : Ura M} (𝓛 : Logic 𝓤) (mem : Memory → SProp 𝓤) (run : Routine → Fun 𝓤) (𝓣 : Tables 𝓤 𝓛.H) where
   open 𝓛 use {H}
 
   walks : Triple 𝓤 (𝓣.C #report) (S-report.Asked 𝓛 mem run) → Walks 𝓛 f'.ended stayed (WpFn 𝓤 H 𝓣.C 𝓣.Λ code.function) (f'.clauses 𝓛 mem run)
   walks known-report = walked 𝓛 f'.ended stayed (f'.clauses 𝓛 mem run) (WpFn 𝓤 H 𝓣.C 𝓣.Λ code.function)
-      (λ κs. (shr_slice_vals, (shr_slice_vals, (shr_slice_vals, (shr_slice_vals, (uint_vals w32, (shr_slice_vals, (shr_slice_vals, (shr_slice_vals, (shr_slice_vals, (shr_slice_vals, (shr_slice_vals, (shr_slice_vals, tt)))))))))))))
-      (λ κs. (mut_slice_Tells (named 0) κs.0 u32, (mut_slice_Tells (named 1) κs.1.0 u32, (mut_slice_Tells (named 2) κs.1.1.0 R-Frame, (mut_slice_Tells (named 3) κs.1.1.1.0 u32, (uint_Tells w32, (shr_slice_Tells (named 4) κs.1.1.1.1.0 u32, (mut_slice_Tells (named 5) κs.1.1.1.1.1.0 u32, (mut_slice_Tells (named 6) κs.1.1.1.1.1.1.0 u32, (shr_slice_Tells (named 7) κs.1.1.1.1.1.1.1.0 u8, (mut_slice_Tells (named 8) κs.1.1.1.1.1.1.1.1.0 u32, (mut_slice_Tells (named 9) κs.1.1.1.1.1.1.1.1.1.0 u64, (mut_slice_Tells (named 10) κs.1.1.1.1.1.1.1.1.1.1.0 u64, tt)))))))))))))
+      (λ κs. (shr_slice_vals, (shr_slice_vals, (shr_slice_vals, (uint_vals w32, (shr_slice_vals, (shr_slice_vals, (shr_slice_vals, (shr_slice_vals, (shr_slice_vals, (shr_slice_vals, (shr_slice_vals, tt))))))))))))
+      (λ κs. (mut_slice_Tells (named 0) κs.0 u32, (mut_slice_Tells (named 1) κs.1.0 u32, (mut_slice_Tells (named 2) κs.1.1.0 R-Frame, (uint_Tells w32, (shr_slice_Tells (named 3) κs.1.1.1.0 u32, (mut_slice_Tells (named 4) κs.1.1.1.1.0 u32, (mut_slice_Tells (named 5) κs.1.1.1.1.1.0 u32, (shr_slice_Tells (named 6) κs.1.1.1.1.1.1.0 u8, (mut_slice_Tells (named 7) κs.1.1.1.1.1.1.1.0 u32, (mut_slice_Tells (named 8) κs.1.1.1.1.1.1.1.1.0 u64, (mut_slice_Tells (named 9) κs.1.1.1.1.1.1.1.1.1.0 u64, tt))))))))))))
       (λ κs qs bounds a g are. via 𝓤 _ (fst∗ 𝓤 _ (emp 𝓤))
-      (walk 𝓛 mem run κs.0 qs.0 a.0.ref_ptr.0 a.0.ref_ptr.1 a.0.ghost_name a.0.now κs.1.0 qs.1.0 a.1.0.ref_ptr.0 a.1.0.ref_ptr.1 a.1.0.ghost_name a.1.0.now κs.1.1.0 qs.1.1.0 a.1.1.0.ref_ptr.0 a.1.1.0.ref_ptr.1 a.1.1.0.ghost_name a.1.1.0.now κs.1.1.1.0 qs.1.1.1.0 a.1.1.1.0.ref_ptr.0 a.1.1.1.0.ref_ptr.1 a.1.1.1.0.ghost_name a.1.1.1.0.now κs.1.1.1.1.0 qs.1.1.1.1.0 a.1.1.1.1.1.0.ref_ptr.0 a.1.1.1.1.1.0.ref_ptr.1 a.1.1.1.1.1.0.ghost_name a.1.1.1.1.1.0.now κs.1.1.1.1.1.0 qs.1.1.1.1.1.0 a.1.1.1.1.1.1.0.ref_ptr.0 a.1.1.1.1.1.1.0.ref_ptr.1 a.1.1.1.1.1.1.0.ghost_name a.1.1.1.1.1.1.0.now κs.1.1.1.1.1.1.0 qs.1.1.1.1.1.1.0 a.1.1.1.1.1.1.1.0.ref_ptr.0 a.1.1.1.1.1.1.1.0.ref_ptr.1 a.1.1.1.1.1.1.1.0.ghost_name a.1.1.1.1.1.1.1.0.now κs.1.1.1.1.1.1.1.0 qs.1.1.1.1.1.1.1.0 a.1.1.1.1.1.1.1.1.0.ref_ptr.0 a.1.1.1.1.1.1.1.1.0.ref_ptr.1 a.1.1.1.1.1.1.1.1.0.ghost_name a.1.1.1.1.1.1.1.1.0.now κs.1.1.1.1.1.1.1.1.0 qs.1.1.1.1.1.1.1.1.0 a.1.1.1.1.1.1.1.1.1.0.ref_ptr.0 a.1.1.1.1.1.1.1.1.1.0.ref_ptr.1 a.1.1.1.1.1.1.1.1.1.0.ghost_name a.1.1.1.1.1.1.1.1.1.0.now κs.1.1.1.1.1.1.1.1.1.0 qs.1.1.1.1.1.1.1.1.1.0 a.1.1.1.1.1.1.1.1.1.1.0.ref_ptr.0 a.1.1.1.1.1.1.1.1.1.1.0.ref_ptr.1 a.1.1.1.1.1.1.1.1.1.1.0.ghost_name a.1.1.1.1.1.1.1.1.1.1.0.now κs.1.1.1.1.1.1.1.1.1.1.0 qs.1.1.1.1.1.1.1.1.1.1.0 a.1.1.1.1.1.1.1.1.1.1.1.0.ref_ptr.0 a.1.1.1.1.1.1.1.1.1.1.1.0.ref_ptr.1 a.1.1.1.1.1.1.1.1.1.1.1.0.ghost_name a.1.1.1.1.1.1.1.1.1.1.1.0.now a.1.1.1.1.0 are.1.1.1.1.0.1 are.0.0.1 are.1.0.0.1 are.1.1.0.0.1 are.1.1.1.0.0.1 are.1.1.1.1.1.0.0.1 are.1.1.1.1.1.1.0.0.1 are.1.1.1.1.1.1.1.0.0.1 are.1.1.1.1.1.1.1.1.0.0.1 are.1.1.1.1.1.1.1.1.1.0.0.1 are.1.1.1.1.1.1.1.1.1.1.0.0.1 are.1.1.1.1.1.1.1.1.1.1.1.0.0.1 𝓣 known-report))
+      (walk 𝓛 mem run κs.0 qs.0 a.0.ref_ptr.0 a.0.ref_ptr.1 a.0.ghost_name a.0.now κs.1.0 qs.1.0 a.1.0.ref_ptr.0 a.1.0.ref_ptr.1 a.1.0.ghost_name a.1.0.now κs.1.1.0 qs.1.1.0 a.1.1.0.ref_ptr.0 a.1.1.0.ref_ptr.1 a.1.1.0.ghost_name a.1.1.0.now κs.1.1.1.0 qs.1.1.1.0 a.1.1.1.1.0.ref_ptr.0 a.1.1.1.1.0.ref_ptr.1 a.1.1.1.1.0.ghost_name a.1.1.1.1.0.now κs.1.1.1.1.0 qs.1.1.1.1.0 a.1.1.1.1.1.0.ref_ptr.0 a.1.1.1.1.1.0.ref_ptr.1 a.1.1.1.1.1.0.ghost_name a.1.1.1.1.1.0.now κs.1.1.1.1.1.0 qs.1.1.1.1.1.0 a.1.1.1.1.1.1.0.ref_ptr.0 a.1.1.1.1.1.1.0.ref_ptr.1 a.1.1.1.1.1.1.0.ghost_name a.1.1.1.1.1.1.0.now κs.1.1.1.1.1.1.0 qs.1.1.1.1.1.1.0 a.1.1.1.1.1.1.1.0.ref_ptr.0 a.1.1.1.1.1.1.1.0.ref_ptr.1 a.1.1.1.1.1.1.1.0.ghost_name a.1.1.1.1.1.1.1.0.now κs.1.1.1.1.1.1.1.0 qs.1.1.1.1.1.1.1.0 a.1.1.1.1.1.1.1.1.0.ref_ptr.0 a.1.1.1.1.1.1.1.1.0.ref_ptr.1 a.1.1.1.1.1.1.1.1.0.ghost_name a.1.1.1.1.1.1.1.1.0.now κs.1.1.1.1.1.1.1.1.0 qs.1.1.1.1.1.1.1.1.0 a.1.1.1.1.1.1.1.1.1.0.ref_ptr.0 a.1.1.1.1.1.1.1.1.1.0.ref_ptr.1 a.1.1.1.1.1.1.1.1.1.0.ghost_name a.1.1.1.1.1.1.1.1.1.0.now κs.1.1.1.1.1.1.1.1.1.0 qs.1.1.1.1.1.1.1.1.1.0 a.1.1.1.1.1.1.1.1.1.1.0.ref_ptr.0 a.1.1.1.1.1.1.1.1.1.1.0.ref_ptr.1 a.1.1.1.1.1.1.1.1.1.1.0.ghost_name a.1.1.1.1.1.1.1.1.1.1.0.now a.1.1.1.0 are.1.1.1.0.1 are.0.0.1 are.1.0.0.1 are.1.1.0.0.1 are.1.1.1.1.0.0.1 are.1.1.1.1.1.0.0.1 are.1.1.1.1.1.1.0.0.1 are.1.1.1.1.1.1.1.0.0.1 are.1.1.1.1.1.1.1.1.0.0.1 are.1.1.1.1.1.1.1.1.1.0.0.1 are.1.1.1.1.1.1.1.1.1.1.0.0.1 𝓣 known-report))
 
   meets : Triple 𝓤 (𝓣.C #report) (S-report.Asked 𝓛 mem run) → Meets 𝓛 f'.signature (WpFn 𝓤 H 𝓣.C 𝓣.Λ code.function) (f'.spec 𝓛 mem run)
   meets known-report = walk_Meets 𝓛 f'.ended stayed
-      (Goes-slice 𝓛 11 0 tt (plain (λ _. u32)), (Goes-slice 𝓛 11 1 tt (plain (λ _. u32)), (Goes-slice 𝓛 11 2 tt (plain (λ _. R-Frame)), (Goes-slice 𝓛 11 3 tt (plain (λ _. u32)), (Goes-none 𝓛 11 (λ _. u32) yes (λ κs x f. refl), (Goes-none_slice 𝓛 11 (4 ∷ []) tt (plain (λ _. u32)) yes, (Goes-slice 𝓛 11 5 tt (plain (λ _. u32)), (Goes-slice 𝓛 11 6 tt (plain (λ _. u32)), (Goes-none_slice 𝓛 11 (7 ∷ []) tt (plain (λ _. u8)) yes, (Goes-slice 𝓛 11 8 tt (plain (λ _. u32)), (Goes-slice 𝓛 11 9 tt (plain (λ _. u64)), (Goes-slice 𝓛 11 10 tt (plain (λ _. u64)), tt))))))))))))
+      (Goes-slice 𝓛 10 0 tt (plain (λ _. u32)), (Goes-slice 𝓛 10 1 tt (plain (λ _. u32)), (Goes-slice 𝓛 10 2 tt (plain (λ _. R-Frame)), (Goes-none 𝓛 10 (λ _. u32) yes (λ κs x f. refl), (Goes-none_slice 𝓛 10 (3 ∷ []) tt (plain (λ _. u32)) yes, (Goes-slice 𝓛 10 4 tt (plain (λ _. u32)), (Goes-slice 𝓛 10 5 tt (plain (λ _. u32)), (Goes-none_slice 𝓛 10 (6 ∷ []) tt (plain (λ _. u8)) yes, (Goes-slice 𝓛 10 7 tt (plain (λ _. u32)), (Goes-slice 𝓛 10 8 tt (plain (λ _. u64)), (Goes-slice 𝓛 10 9 tt (plain (λ _. u64)), tt)))))))))))
       (f'.clauses 𝓛 mem run) (WpFn 𝓤 H 𝓣.C 𝓣.Λ code.function) (WpFn-mono 𝓤 H 𝓛.laws 𝓣 code.function) (walks known-report)
 
 pub splitter-report-spec : {M : Type 1} → stated.statement M

@@ -51,9 +51,8 @@ use denote.Plain.{uint_Lawful}
 use denote.Array.{Array, array_val, array_vals, Array-Tells, Array-Makes}
 use Rattle.frames.proofs.Local.{list_val, array_is, array_fits, open_local, shut_local}
 use Rattle.model.specs.Record.{record_of}
-use Rattle.semantics.specs.Promises.{parts, IsOutsideWith}
-use Rattle.semantics.specs.Remembering.{outside_remembering}
-use Rattle.soundness.specs.Layout.{two_words}
+use Rattle.semantics.specs.Entries.{outside_on}
+use Rattle.semantics.specs.Promises.{parts, IsOutside}
 use Rattle.splitter.proofs.Called.record_of as S-record-of
 use Rattle.splitter.proofs.calls.record_of.Symbol as D-record-of
 use Rattle.splitter.proofs.calls.record_of.Symbol.{name as #record-of}
@@ -74,9 +73,7 @@ use Rattle.splitter.proofs.calls.splitter_step.Proof.Facts as F
 use Rattle.frames.specs.contracts.Frame as M-Frame
 use Rattle.frames.proofs.Frame.TheLaws as L-Frame
 use Rattle.frames.specs.declared.Frame.{Frame}
-use Rattle.engine.specs.contracts.Taped as M-Taped
-use Rattle.engine.proofs.Taped.TheLaws as L-Taped
-use Rattle.engine.specs.declared.Taped.{Taped}
+use Rattle.soundness.specs.Layout.{two_words}
 
 abbrev R-Frame : RattleType
 R-Frame = M-Frame.the_row
@@ -84,17 +81,11 @@ R-Frame = M-Frame.the_row
 abbrev val-Frame : Frame → Val
 val-Frame d = LL.val M-Frame.the_type L-Frame.the_laws d
 
-abbrev R-Taped : RattleType
-R-Taped = M-Taped.the_row
-
-abbrev val-Taped : Taped → Val
-val-Taped d = LL.val M-Taped.the_type L-Taped.the_laws d
-
 abbrev stayed : Stays (f'.ended).signature.params (f'.ended).kept
-stayed = (stay_slice (0 ∷ []) tt (plain (λ _. u32)), (stay_slice (1 ∷ []) tt (plain (λ _. u32)), (stay_slice (2 ∷ []) tt (plain (λ _. R-Frame)), (stay_slice (3 ∷ []) tt (plain (λ _. u32)), (stay_slice (4 ∷ []) tt (plain (λ _. u32)), (stay_slice (5 ∷ []) tt (plain (λ _. u32)), (stay_none (λ _. u32) yes, (stay_none (λ _. u32) yes, (stay_none (λ _. u32) yes, (stay_none (λ _. u32) yes, tt))))))))))
+stayed = (stay_slice (0 ∷ []) tt (plain (λ _. u32)), (stay_slice (1 ∷ []) tt (plain (λ _. u32)), (stay_slice (2 ∷ []) tt (plain (λ _. R-Frame)), (stay_slice (3 ∷ []) tt (plain (λ _. u32)), (stay_slice (4 ∷ []) tt (plain (λ _. u32)), (stay_none (λ _. u32) yes, (stay_none (λ _. u32) yes, (stay_none (λ _. u32) yes, (stay_none (λ _. u32) yes, tt)))))))))
 
 module _ {M : Type 1} {𝓤 : Ura M} (𝓛 : Logic 𝓤) (mem : Memory → SProp 𝓤) (run : Routine → Fun 𝓤)
-    (κ-numbers : Lft) (q-numbers : Share) (b-numbers o-numbers : ℕ) (γ-numbers : GName) (numbers : List ℕ) (κ-deques : Lft) (q-deques : Share) (b-deques o-deques : ℕ) (γ-deques : GName) (deques : List ℕ) (κ-frames : Lft) (q-frames : Share) (b-frames o-frames : ℕ) (γ-frames : GName) (frames : List Frame) (κ-memory : Lft) (q-memory : Share) (b-memory o-memory : ℕ) (γ-memory : GName) (memory : List ℕ) (κ-pool : Lft) (q-pool : Share) (b-pool o-pool : ℕ) (γ-pool : GName) (pool : List ℕ) (κ-work : Lft) (q-work : Share) (b-work o-work : ℕ) (γ-work : GName) (work : List ℕ) (kind : ℕ) (kind_fits : kind < 2 ^ 32) (worker : ℕ) (worker-fits : worker < 2 ^ 32) (field : ℕ) (field_fits : field < 2 ^ 32) (value : ℕ) (value-fits : value < 2 ^ 32) (room-numbers : Room u32 (length numbers)) (room-deques : Room u32 (length deques)) (room-frames : Room R-Frame (length frames)) (room-memory : Room u32 (length memory)) (room-pool : Room u32 (length pool)) (room-work : Room u32 (length work)) where
+    (κ-numbers : Lft) (q-numbers : Share) (b-numbers o-numbers : ℕ) (γ-numbers : GName) (numbers : List ℕ) (κ-deques : Lft) (q-deques : Share) (b-deques o-deques : ℕ) (γ-deques : GName) (deques : List ℕ) (κ-frames : Lft) (q-frames : Share) (b-frames o-frames : ℕ) (γ-frames : GName) (frames : List Frame) (κ-pool : Lft) (q-pool : Share) (b-pool o-pool : ℕ) (γ-pool : GName) (pool : List ℕ) (κ-work : Lft) (q-work : Share) (b-work o-work : ℕ) (γ-work : GName) (work : List ℕ) (kind : ℕ) (kind_fits : kind < 2 ^ 32) (worker : ℕ) (worker-fits : worker < 2 ^ 32) (field : ℕ) (field_fits : field < 2 ^ 32) (value : ℕ) (value-fits : value < 2 ^ 32) (room-numbers : Room u32 (length numbers)) (room-deques : Room u32 (length deques)) (room-frames : Room R-Frame (length frames)) (room-pool : Room u32 (length pool)) (room-work : Room u32 (length work)) where
   open 𝓛 use {H}
 
   abbrev n-numbers : ℕ
@@ -106,23 +97,20 @@ module _ {M : Type 1} {𝓤 : Ura M} (𝓛 : Logic 𝓤) (mem : Memory → SProp
   abbrev n-frames : ℕ
   n-frames = length frames
 
-  abbrev n-memory : ℕ
-  n-memory = length memory
-
   abbrev n-pool : ℕ
   n-pool = length pool
 
   abbrev n-work : ℕ
   n-work = length work
 
-  abbrev args' : MutBor (List ℕ) × (MutBor (List ℕ) × (MutBor (List Frame) × (MutBor (List ℕ) × (MutBor (List ℕ) × (MutBor (List ℕ) × (ℕ × (ℕ × (ℕ × (ℕ × Unit {0})))))))))
-  args' = (at_list b-numbers o-numbers γ-numbers numbers, (at_list b-deques o-deques γ-deques deques, (at_list b-frames o-frames γ-frames frames, (at_list b-memory o-memory γ-memory memory, (at_list b-pool o-pool γ-pool pool, (at_list b-work o-work γ-work work, (kind, (worker, (field, (value, tt))))))))))
+  abbrev args' : MutBor (List ℕ) × (MutBor (List ℕ) × (MutBor (List Frame) × (MutBor (List ℕ) × (MutBor (List ℕ) × (ℕ × (ℕ × (ℕ × (ℕ × Unit {0}))))))))
+  args' = (at_list b-numbers o-numbers γ-numbers numbers, (at_list b-deques o-deques γ-deques deques, (at_list b-frames o-frames γ-frames frames, (at_list b-pool o-pool γ-pool pool, (at_list b-work o-work γ-work work, (kind, (worker, (field, (value, tt)))))))))
 
-  abbrev vals' : Vals f'.signature (κ-numbers, (κ-deques, (κ-frames, (κ-memory, (κ-pool, (κ-work, tt))))))
-  vals' = (slice_val (b-numbers, o-numbers) (length numbers) ∷ [], (slice_val (b-deques, o-deques) (length deques) ∷ [], (slice_val (b-frames, o-frames) (length frames) ∷ [], (slice_val (b-memory, o-memory) (length memory) ∷ [], (slice_val (b-pool, o-pool) (length pool) ∷ [], (slice_val (b-work, o-work) (length work) ∷ [], (vint w32 kind ∷ [], (vint w32 worker ∷ [], (vint w32 field ∷ [], (vint w32 value ∷ [], tt))))))))))
+  abbrev vals' : Vals f'.signature (κ-numbers, (κ-deques, (κ-frames, (κ-pool, (κ-work, tt)))))
+  vals' = (slice_val (b-numbers, o-numbers) (length numbers) ∷ [], (slice_val (b-deques, o-deques) (length deques) ∷ [], (slice_val (b-frames, o-frames) (length frames) ∷ [], (slice_val (b-pool, o-pool) (length pool) ∷ [], (slice_val (b-work, o-work) (length work) ∷ [], (vint w32 kind ∷ [], (vint w32 worker ∷ [], (vint w32 field ∷ [], (vint w32 value ∷ [], tt)))))))))
 
   abbrev bound' : (walk_of 𝓛 f'.ended stayed (f'.clauses 𝓛 mem run)).Ghost
-  bound' = (((κ-numbers, (κ-deques, (κ-frames, (κ-memory, (κ-pool, (κ-work, tt)))))), (q-numbers, (q-deques, (q-frames, (q-memory, (q-pool, (q-work, tt)))))), tt, args', vals'), tt)
+  bound' = (((κ-numbers, (κ-deques, (κ-frames, (κ-pool, (κ-work, tt))))), (q-numbers, (q-deques, (q-frames, (q-pool, (q-work, tt))))), tt, args', vals'), tt)
 
   abbrev Post : Val → SProp 𝓤
   Post = (walk_of 𝓛 f'.ended stayed (f'.clauses 𝓛 mem run)).post bound'
@@ -145,98 +133,96 @@ module _ {M : Type 1} {𝓤 : Ura M} (𝓛 : Logic 𝓤) (mem : Memory → SProp
   room-answers : Room u32 n-answers
   room-answers = (lit< tt, lit< tt)
 
-  exits' : (res' : ℕ) (zs-numbers : List ℕ) (zs-deques : List ℕ) (zs-frames : List Frame) (zs-memory : List ℕ) (zs-pool : List ℕ) (zs-work : List ℕ) → res' < 2 ^ 64 → IsOutsideWith (outside_remembering two_words (parts numbers deques frames) memory pool work (record_of kind worker field value)) zs-numbers zs-deques zs-frames zs-memory zs-pool zs-work res' → length zs-numbers ≡ length numbers → length zs-deques ≡ length deques → length zs-frames ≡ length frames → length zs-memory ≡ length memory → length zs-pool ≡ length pool → length zs-work ≡ length work → ent 𝓤 (⋆ 𝓛 (‵ (Mine u32 κ-numbers q-numbers γ-numbers b-numbers o-numbers n-numbers zs-numbers) ∷ ‵ (Mine u32 κ-deques q-deques γ-deques b-deques o-deques n-deques zs-deques) ∷ ‵ (Mine R-Frame κ-frames q-frames γ-frames b-frames o-frames n-frames zs-frames) ∷ ‵ (Mine u32 κ-memory q-memory γ-memory b-memory o-memory n-memory zs-memory) ∷ ‵ (Mine u32 κ-pool q-pool γ-pool b-pool o-pool n-pool zs-pool) ∷ ‵ (Mine u32 κ-work q-work γ-work b-work o-work n-work zs-work) ∷ [])) (Post (vint w64 res'))
-  exits' res' zs-numbers zs-deques zs-frames zs-memory zs-pool zs-work good' e' same_numbers same-deques same-frames same_memory same-pool same_work =
-      qed 𝓛 (‵ (Mine u32 κ-numbers q-numbers γ-numbers b-numbers o-numbers n-numbers zs-numbers) ∷ ‵ (Mine u32 κ-deques q-deques γ-deques b-deques o-deques n-deques zs-deques) ∷ ‵ (Mine R-Frame κ-frames q-frames γ-frames b-frames o-frames n-frames zs-frames) ∷ ‵ (Mine u32 κ-memory q-memory γ-memory b-memory o-memory n-memory zs-memory) ∷ ‵ (Mine u32 κ-pool q-pool γ-pool b-pool o-pool n-pool zs-pool) ∷ ‵ (Mine u32 κ-work q-work γ-work b-work o-work n-work zs-work) ∷ []) ∵
-      suffices ! _ (ends_at 𝓛 f'.ended stayed (f'.clauses 𝓛 mem run) bound' (vint w64 res') res' (zs-numbers, (zs-deques, (zs-frames, (zs-memory, (zs-pool, (zs-work, (tt, (tt, (tt, (tt, tt)))))))))) (same_numbers, (same-deques, (same-frames, (same_memory, (same-pool, (same_work, (tt, (tt, (tt, (tt, tt))))))))))) $ says ! e' $
-      fsplit ! $ move ! (2 ∷ []) $ fsplit ! $ move ! (4 ∷ []) $ fsplit ! $ move ! (6 ∷ []) $ fsplit ! $ move ! (8 ∷ []) $ fsplit ! $ move ! (10 ∷ []) $ fsplit ! $ nothing ! $ move ! (12 ∷ 10 ∷ 8 ∷ 6 ∷ 4 ∷ 2 ∷ 0 ∷ []) $ group ! 7 $ frame ! $
-      nothing ! $ owned ! u32 (Is u32) (uint_Makes 𝓛 w32) value _ (refl, value-fits) $ fjoin ! $ owned ! u32 (Is u32) (uint_Makes 𝓛 w32) field _ (refl, field_fits) $ fjoin ! $ owned ! u32 (Is u32) (uint_Makes 𝓛 w32) worker _ (refl, worker-fits) $ fjoin ! $ owned ! u32 (Is u32) (uint_Makes 𝓛 w32) kind _ (refl, kind_fits) $ fjoin ! $ move ! (1 ∷ 0 ∷ []) $ fjoin ! $ move ! (1 ∷ 0 ∷ []) $ fjoin ! $ move ! (1 ∷ 0 ∷ []) $ fjoin ! $ move ! (1 ∷ 0 ∷ []) $ fjoin ! $ move ! (1 ∷ 0 ∷ []) $ fjoin ! $ move ! (1 ∷ 0 ∷ []) $ fjoin ! $ frame ! $
+  exits' : (res' : ℕ) (zs-numbers : List ℕ) (zs-deques : List ℕ) (zs-frames : List Frame) (zs-pool : List ℕ) (zs-work : List ℕ) → res' < 2 ^ 64 → IsOutside (outside_on two_words (parts numbers deques frames) pool work (record_of kind worker field value)) zs-numbers zs-deques zs-frames zs-pool zs-work res' → length zs-numbers ≡ length numbers → length zs-deques ≡ length deques → length zs-frames ≡ length frames → length zs-pool ≡ length pool → length zs-work ≡ length work → ent 𝓤 (⋆ 𝓛 (‵ (Mine u32 κ-numbers q-numbers γ-numbers b-numbers o-numbers n-numbers zs-numbers) ∷ ‵ (Mine u32 κ-deques q-deques γ-deques b-deques o-deques n-deques zs-deques) ∷ ‵ (Mine R-Frame κ-frames q-frames γ-frames b-frames o-frames n-frames zs-frames) ∷ ‵ (Mine u32 κ-pool q-pool γ-pool b-pool o-pool n-pool zs-pool) ∷ ‵ (Mine u32 κ-work q-work γ-work b-work o-work n-work zs-work) ∷ [])) (Post (vint w64 res'))
+  exits' res' zs-numbers zs-deques zs-frames zs-pool zs-work good' e' same_numbers same-deques same-frames same-pool same_work =
+      qed 𝓛 (‵ (Mine u32 κ-numbers q-numbers γ-numbers b-numbers o-numbers n-numbers zs-numbers) ∷ ‵ (Mine u32 κ-deques q-deques γ-deques b-deques o-deques n-deques zs-deques) ∷ ‵ (Mine R-Frame κ-frames q-frames γ-frames b-frames o-frames n-frames zs-frames) ∷ ‵ (Mine u32 κ-pool q-pool γ-pool b-pool o-pool n-pool zs-pool) ∷ ‵ (Mine u32 κ-work q-work γ-work b-work o-work n-work zs-work) ∷ []) ∵
+      suffices ! _ (ends_at 𝓛 f'.ended stayed (f'.clauses 𝓛 mem run) bound' (vint w64 res') res' (zs-numbers, (zs-deques, (zs-frames, (zs-pool, (zs-work, (tt, (tt, (tt, (tt, tt))))))))) (same_numbers, (same-deques, (same-frames, (same-pool, (same_work, (tt, (tt, (tt, (tt, tt)))))))))) $ says ! e' $
+      fsplit ! $ move ! (2 ∷ []) $ fsplit ! $ move ! (4 ∷ []) $ fsplit ! $ move ! (6 ∷ []) $ fsplit ! $ move ! (8 ∷ []) $ fsplit ! $ nothing ! $ move ! (10 ∷ 8 ∷ 6 ∷ 4 ∷ 2 ∷ 0 ∷ []) $ group ! 6 $ frame ! $
+      nothing ! $ owned ! u32 (Is u32) (uint_Makes 𝓛 w32) value _ (refl, value-fits) $ fjoin ! $ owned ! u32 (Is u32) (uint_Makes 𝓛 w32) field _ (refl, field_fits) $ fjoin ! $ owned ! u32 (Is u32) (uint_Makes 𝓛 w32) worker _ (refl, worker-fits) $ fjoin ! $ owned ! u32 (Is u32) (uint_Makes 𝓛 w32) kind _ (refl, kind_fits) $ fjoin ! $ move ! (1 ∷ 0 ∷ []) $ fjoin ! $ move ! (1 ∷ 0 ∷ []) $ fjoin ! $ move ! (1 ∷ 0 ∷ []) $ fjoin ! $ move ! (1 ∷ 0 ∷ []) $ fjoin ! $ move ! (1 ∷ 0 ∷ []) $ fjoin ! $ frame ! $
       owned ! u64 (Is u64) (uint_Makes 𝓛 w64) res' _ (refl, good') $ done !
 
   module _ (𝓣 : Tables 𝓤 H) (known-record-of : Triple 𝓤 (𝓣.C #record-of) (S-record-of.Asked 𝓛 mem run)) (known-tape : Triple 𝓤 (𝓣.C #tape) (S-tape.Asked 𝓛 mem run)) (known-result-words : Triple 𝓤 (𝓣.C #result-words) (S-result-words.Asked 𝓛 mem run)) where
     abbrev fm : FmC 𝓤 H 𝓛.laws 𝓣.C
     fm = fm_of 𝓤 H 𝓛.laws 𝓣
 
-    walk : ent 𝓤 (on_entry 𝓛 f'.signature (κ-numbers, (κ-deques, (κ-frames, (κ-memory, (κ-pool, (κ-work, tt)))))) (q-numbers, (q-deques, (q-frames, (q-memory, (q-pool, (q-work, tt)))))) args' vals') (WpFn 𝓤 H 𝓣.C 𝓣.Λ code.function (slice_val (b-numbers, o-numbers) (length numbers) ∷ slice_val (b-deques, o-deques) (length deques) ∷ slice_val (b-frames, o-frames) (length frames) ∷ slice_val (b-memory, o-memory) (length memory) ∷ slice_val (b-pool, o-pool) (length pool) ∷ slice_val (b-work, o-work) (length work) ∷ vint w32 kind ∷ vint w32 worker ∷ vint w32 field ∷ vint w32 value ∷ []) Post)
+    walk : ent 𝓤 (on_entry 𝓛 f'.signature (κ-numbers, (κ-deques, (κ-frames, (κ-pool, (κ-work, tt))))) (q-numbers, (q-deques, (q-frames, (q-pool, (q-work, tt))))) args' vals') (WpFn 𝓤 H 𝓣.C 𝓣.Λ code.function (slice_val (b-numbers, o-numbers) (length numbers) ∷ slice_val (b-deques, o-deques) (length deques) ∷ slice_val (b-frames, o-frames) (length frames) ∷ slice_val (b-pool, o-pool) (length pool) ∷ slice_val (b-work, o-work) (length work) ∷ vint w32 kind ∷ vint w32 worker ∷ vint w32 field ∷ vint w32 value ∷ []) Post)
     walk =
-        qed 𝓛 ((‵ (flft κ-numbers q-numbers) ⊛ ‵ (flft κ-deques q-deques) ⊛ ‵ (flft κ-frames q-frames) ⊛ ‵ (flft κ-memory q-memory) ⊛ ‵ (flft κ-pool q-pool) ⊛ ‵ (flft κ-work q-work) ⊛ ‵ ftrue) ∷ ‵ (owns (MutSlice (named 0) κ-numbers u32 ∷ MutSlice (named 1) κ-deques u32 ∷ MutSlice (named 2) κ-frames R-Frame ∷ MutSlice (named 3) κ-memory u32 ∷ MutSlice (named 4) κ-pool u32 ∷ MutSlice (named 5) κ-work u32 ∷ u32 ∷ u32 ∷ u32 ∷ u32 ∷ []) args' vals') ∷ []) ∵ enter ! 𝓣.C 𝓣.Λ code.function (slice_val (b-numbers, o-numbers) (length numbers) ∷ slice_val (b-deques, o-deques) (length deques) ∷ slice_val (b-frames, o-frames) (length frames) ∷ slice_val (b-memory, o-memory) (length memory) ∷ slice_val (b-pool, o-pool) (length pool) ∷ slice_val (b-work, o-work) (length work) ∷ vint w32 kind ∷ vint w32 worker ∷ vint w32 field ∷ vint w32 value ∷ []) _ $
-        alloc1 ! (λ l₀. alloc1 ! (λ l₁. alloc1 ! (λ l₂. alloc1 ! (λ l₃. alloc1 ! (λ l₄. alloc1 ! (λ l₅. alloc1 ! (λ l₆. alloc1 ! (λ l₇. alloc1 ! (λ l₈. alloc1 ! (λ l₉. alloc1 ! (λ l₁₀. alloc1 ! (λ b-bytes. alloc1 ! (λ b-answers. alloc1 ! (λ l₁₃. alloc1 ! (λ l₁₄. alloc1 ! (λ l₁₅. alloc1 ! (λ l₁₆. alloc1 ! (λ l₁₇. alloc1 ! (λ l₁₈. alloc1 ! (λ l₁₉. alloc1 ! (λ l₂₀. alloc1 ! (λ l₂₁. alloc1 ! (λ l₂₂. alloc1 ! (λ l₂₃. alloc1 ! (λ l₂₄. alloc1 ! (λ l₂₅. alloc1 ! (λ l₂₆. alloc1 ! (λ l₂₇. alloc1 ! (λ l₂₈. alloc1 ! (λ l₂₉. alloc1 ! (λ l₃₀. alloc1 ! (λ l₃₁. alloc1 ! (λ l₃₂. alloc1 ! (λ l₃₃. alloc1 ! (λ l₃₄. alloc1 ! (λ l₃₅. alloc1 ! (λ l₃₆. alloc0 ! $ params1 ! $
-        pass1 ! (init ! 70 refl (tt, (tt, (record { fits = room-numbers.0 }, tt)))) $ pass1 ! (init ! 68 refl (tt, (tt, (record { fits = room-deques.0 }, tt)))) $ pass1 ! (init ! 66 refl (tt, (tt, (record { fits = room-frames.0 }, tt)))) $ pass1 ! (init ! 64 refl (tt, (tt, (record { fits = room-memory.0 }, tt)))) $ pass1 ! (init ! 62 refl (tt, (tt, (record { fits = room-pool.0 }, tt)))) $ pass1 ! (init ! 60 refl (tt, (tt, (record { fits = room-work.0 }, tt)))) $ pass1 ! (init ! 58 refl (tt, record { fits = kind_fits })) $ pass1 ! (init ! 56 refl (tt, record { fits = worker-fits })) $ pass1 ! (init ! 54 refl (tt, record { fits = field_fits })) $ pass1 ! (init ! 52 refl (tt, record { fits = value-fits })) $ pass0 ! $
-        move ! (75 ∷ []) $ fsplit ! $ move ! (1 ∷ []) $ fsplit ! $ move ! (1 ∷ []) $ fsplit ! $ move ! (1 ∷ []) $ fsplit ! $ move ! (1 ∷ []) $ fsplit ! $ move ! (1 ∷ []) $ fsplit ! $ move ! (1 ∷ []) $ fsplit ! $ drop ! $ fsplit ! $ drop ! $ fsplit ! $ drop ! $ fsplit ! $ drop ! $ drop ! $ move ! (80 ∷ []) $ split ! $ move ! (1 ∷ []) $ split ! $ move ! (1 ∷ []) $ split ! $ move ! (1 ∷ []) $ split ! $ move ! (1 ∷ []) $ split ! $ move ! (1 ∷ []) $ split ! $ move ! (1 ∷ []) $ drop ! $ move ! (6 ∷ 0 ∷ []) $ fjoin ! $ move ! (6 ∷ 1 ∷ []) $ fjoin ! $ move ! (6 ∷ 2 ∷ []) $ fjoin ! $ move ! (6 ∷ 3 ∷ []) $ fjoin ! $ move ! (6 ∷ 4 ∷ []) $ fjoin ! $ move ! (6 ∷ 5 ∷ []) $ fjoin ! $
-        -- [numbers; deques; frames; memory; pool; work; the locals]
-        -- _14 = splitter::calls::record_of(_7, _8, _9, _10)
+        qed 𝓛 ((‵ (flft κ-numbers q-numbers) ⊛ ‵ (flft κ-deques q-deques) ⊛ ‵ (flft κ-frames q-frames) ⊛ ‵ (flft κ-pool q-pool) ⊛ ‵ (flft κ-work q-work) ⊛ ‵ ftrue) ∷ ‵ (owns (MutSlice (named 0) κ-numbers u32 ∷ MutSlice (named 1) κ-deques u32 ∷ MutSlice (named 2) κ-frames R-Frame ∷ MutSlice (named 3) κ-pool u32 ∷ MutSlice (named 4) κ-work u32 ∷ u32 ∷ u32 ∷ u32 ∷ u32 ∷ []) args' vals') ∷ []) ∵ enter ! 𝓣.C 𝓣.Λ code.function (slice_val (b-numbers, o-numbers) (length numbers) ∷ slice_val (b-deques, o-deques) (length deques) ∷ slice_val (b-frames, o-frames) (length frames) ∷ slice_val (b-pool, o-pool) (length pool) ∷ slice_val (b-work, o-work) (length work) ∷ vint w32 kind ∷ vint w32 worker ∷ vint w32 field ∷ vint w32 value ∷ []) _ $
+        alloc1 ! (λ l₀. alloc1 ! (λ l₁. alloc1 ! (λ l₂. alloc1 ! (λ l₃. alloc1 ! (λ l₄. alloc1 ! (λ l₅. alloc1 ! (λ l₆. alloc1 ! (λ l₇. alloc1 ! (λ l₈. alloc1 ! (λ l₉. alloc1 ! (λ b-bytes. alloc1 ! (λ b-answers. alloc1 ! (λ l₁₂. alloc1 ! (λ l₁₃. alloc1 ! (λ l₁₄. alloc1 ! (λ l₁₅. alloc1 ! (λ l₁₆. alloc1 ! (λ l₁₇. alloc1 ! (λ l₁₈. alloc1 ! (λ l₁₉. alloc1 ! (λ l₂₀. alloc1 ! (λ l₂₁. alloc1 ! (λ l₂₂. alloc1 ! (λ l₂₃. alloc1 ! (λ l₂₄. alloc1 ! (λ l₂₅. alloc1 ! (λ l₂₆. alloc1 ! (λ l₂₇. alloc1 ! (λ l₂₈. alloc1 ! (λ l₂₉. alloc1 ! (λ l₃₀. alloc1 ! (λ l₃₁. alloc1 ! (λ l₃₂. alloc1 ! (λ l₃₃. alloc0 ! $ params1 ! $
+        pass1 ! (init ! 64 refl (tt, (tt, (record { fits = room-numbers.0 }, tt)))) $ pass1 ! (init ! 62 refl (tt, (tt, (record { fits = room-deques.0 }, tt)))) $ pass1 ! (init ! 60 refl (tt, (tt, (record { fits = room-frames.0 }, tt)))) $ pass1 ! (init ! 58 refl (tt, (tt, (record { fits = room-pool.0 }, tt)))) $ pass1 ! (init ! 56 refl (tt, (tt, (record { fits = room-work.0 }, tt)))) $ pass1 ! (init ! 54 refl (tt, record { fits = kind_fits })) $ pass1 ! (init ! 52 refl (tt, record { fits = worker-fits })) $ pass1 ! (init ! 50 refl (tt, record { fits = field_fits })) $ pass1 ! (init ! 48 refl (tt, record { fits = value-fits })) $ pass0 ! $
+        move ! (69 ∷ []) $ fsplit ! $ move ! (1 ∷ []) $ fsplit ! $ move ! (1 ∷ []) $ fsplit ! $ move ! (1 ∷ []) $ fsplit ! $ move ! (1 ∷ []) $ fsplit ! $ move ! (1 ∷ []) $ fsplit ! $ drop ! $ fsplit ! $ drop ! $ fsplit ! $ drop ! $ fsplit ! $ drop ! $ drop ! $ move ! (73 ∷ []) $ split ! $ move ! (1 ∷ []) $ split ! $ move ! (1 ∷ []) $ split ! $ move ! (1 ∷ []) $ split ! $ move ! (1 ∷ []) $ split ! $ move ! (1 ∷ []) $ drop ! $ move ! (5 ∷ 0 ∷ []) $ fjoin ! $ move ! (5 ∷ 1 ∷ []) $ fjoin ! $ move ! (5 ∷ 2 ∷ []) $ fjoin ! $ move ! (5 ∷ 3 ∷ []) $ fjoin ! $ move ! (5 ∷ 4 ∷ []) $ fjoin ! $
+        -- [numbers; deques; frames; pool; work; the locals]
+        -- _13 = splitter::calls::record_of(_6, _7, _8, _9)
         S-record-of.step mem run ! fm known-record-of kind worker field value kind_fits worker-fits field_fits value-fits
-        (and_then ! (load ! (from ! (stop !)) (look ! 65 refl)) (and_then ! (load ! (from ! (stop !)) (look ! 63 refl)) (and_then ! (load ! (from ! (stop !)) (look ! 61 refl)) (and_then ! (load ! (from ! (stop !)) (look ! 59 refl)) (no_more !))))) (λ r-1 r-1-good r-1-is.
-        land ! (from ! (stop !)) (init ! 50 refl (array_fits 𝓛 u8 (uint_Lawful 𝓛 w8) 8 r-1 _ r-1-good)) $
-        assigns ! (of_opd ! (load ! (from ! (stop !)) (look ! 50 refl))) (from ! (stop !)) (init ! 56 refl (array_fits 𝓛 u8 (uint_Lawful 𝓛 w8) 8 r-1 _ r-1-good)) $
-        assigns ! (rep ! 2 (const ! _ tt)) (from ! (stop !)) (init ! 54 refl (array_fits 𝓛 u32 (uint_Lawful 𝓛 w32) 2 (replicate 2 0) _ (array_is u32 2 0 (vint w32 0) (refl, (lit< tt))))) $
-        assigns ! (addr ! (from ! (fld ! refl (hop ! (look_in ! 76 (sub ! 0 refl (whole !))) (stop !))))) (from ! (stop !)) (init ! 48 refl (tt, tt)) $
-        assigns ! (agg ! (and_then ! (load ! (from ! (stop !)) (look ! 48 refl)) (and_then ! (load ! (from ! (fld ! refl (stop !))) (look_in ! 76 (sub ! 1 refl (whole !)))) (no_more !)))) (from ! (stop !)) (init ! 46 refl (tt, (tt, (record { fits = room-numbers.0 }, tt)))) $
-        assigns ! (addr ! (from ! (fld ! refl (hop ! (look_in ! 74 (sub ! 0 refl (whole !))) (stop !))))) (from ! (stop !)) (init ! 44 refl (tt, tt)) $
-        assigns ! (agg ! (and_then ! (load ! (from ! (stop !)) (look ! 44 refl)) (and_then ! (load ! (from ! (fld ! refl (stop !))) (look_in ! 74 (sub ! 1 refl (whole !)))) (no_more !)))) (from ! (stop !)) (init ! 42 refl (tt, (tt, (record { fits = room-deques.0 }, tt)))) $
-        assigns ! (addr ! (from ! (fld ! refl (hop ! (look_in ! 72 (sub ! 0 refl (whole !))) (stop !))))) (from ! (stop !)) (init ! 40 refl (tt, tt)) $
-        assigns ! (agg ! (and_then ! (load ! (from ! (stop !)) (look ! 40 refl)) (and_then ! (load ! (from ! (fld ! refl (stop !))) (look_in ! 72 (sub ! 1 refl (whole !)))) (no_more !)))) (from ! (stop !)) (init ! 38 refl (tt, (tt, (record { fits = room-frames.0 }, tt)))) $
-        assigns ! (addr ! (from ! (fld ! refl (hop ! (look_in ! 70 (sub ! 0 refl (whole !))) (stop !))))) (from ! (stop !)) (init ! 36 refl (tt, tt)) $
-        assigns ! (agg ! (and_then ! (load ! (from ! (stop !)) (look ! 36 refl)) (and_then ! (load ! (from ! (fld ! refl (stop !))) (look_in ! 70 (sub ! 1 refl (whole !)))) (no_more !)))) (from ! (stop !)) (init ! 34 refl (tt, (tt, (record { fits = room-memory.0 }, tt)))) $
-        assigns ! (addr ! (from ! (fld ! refl (hop ! (look_in ! 68 (sub ! 0 refl (whole !))) (stop !))))) (from ! (stop !)) (init ! 32 refl (tt, tt)) $
-        assigns ! (agg ! (and_then ! (load ! (from ! (stop !)) (look ! 32 refl)) (and_then ! (load ! (from ! (fld ! refl (stop !))) (look_in ! 68 (sub ! 1 refl (whole !)))) (no_more !)))) (from ! (stop !)) (init ! 30 refl (tt, (tt, (record { fits = room-pool.0 }, tt)))) $
-        assigns ! (addr ! (from ! (fld ! refl (hop ! (look_in ! 66 (sub ! 0 refl (whole !))) (stop !))))) (from ! (stop !)) (init ! 28 refl (tt, tt)) $
-        assigns ! (agg ! (and_then ! (load ! (from ! (stop !)) (look ! 28 refl)) (and_then ! (load ! (from ! (fld ! refl (stop !))) (look_in ! 66 (sub ! 1 refl (whole !)))) (no_more !)))) (from ! (stop !)) (init ! 26 refl (tt, (tt, (record { fits = room-work.0 }, tt)))) $
-        move ! (56 ∷ []) $
+        (and_then ! (load ! (from ! (stop !)) (look ! 60 refl)) (and_then ! (load ! (from ! (stop !)) (look ! 58 refl)) (and_then ! (load ! (from ! (stop !)) (look ! 56 refl)) (and_then ! (load ! (from ! (stop !)) (look ! 54 refl)) (no_more !))))) (λ r-1 r-1-good r-1-is.
+        land ! (from ! (stop !)) (init ! 45 refl (array_fits 𝓛 u8 (uint_Lawful 𝓛 w8) 8 r-1 _ r-1-good)) $
+        assigns ! (of_opd ! (load ! (from ! (stop !)) (look ! 45 refl))) (from ! (stop !)) (init ! 51 refl (array_fits 𝓛 u8 (uint_Lawful 𝓛 w8) 8 r-1 _ r-1-good)) $
+        assigns ! (rep ! 2 (const ! _ tt)) (from ! (stop !)) (init ! 49 refl (array_fits 𝓛 u32 (uint_Lawful 𝓛 w32) 2 (replicate 2 0) _ (array_is u32 2 0 (vint w32 0) (refl, (lit< tt))))) $
+        assigns ! (addr ! (from ! (fld ! refl (hop ! (look_in ! 69 (sub ! 0 refl (whole !))) (stop !))))) (from ! (stop !)) (init ! 43 refl (tt, tt)) $
+        assigns ! (agg ! (and_then ! (load ! (from ! (stop !)) (look ! 43 refl)) (and_then ! (load ! (from ! (fld ! refl (stop !))) (look_in ! 69 (sub ! 1 refl (whole !)))) (no_more !)))) (from ! (stop !)) (init ! 41 refl (tt, (tt, (record { fits = room-numbers.0 }, tt)))) $
+        assigns ! (addr ! (from ! (fld ! refl (hop ! (look_in ! 67 (sub ! 0 refl (whole !))) (stop !))))) (from ! (stop !)) (init ! 39 refl (tt, tt)) $
+        assigns ! (agg ! (and_then ! (load ! (from ! (stop !)) (look ! 39 refl)) (and_then ! (load ! (from ! (fld ! refl (stop !))) (look_in ! 67 (sub ! 1 refl (whole !)))) (no_more !)))) (from ! (stop !)) (init ! 37 refl (tt, (tt, (record { fits = room-deques.0 }, tt)))) $
+        assigns ! (addr ! (from ! (fld ! refl (hop ! (look_in ! 65 (sub ! 0 refl (whole !))) (stop !))))) (from ! (stop !)) (init ! 35 refl (tt, tt)) $
+        assigns ! (agg ! (and_then ! (load ! (from ! (stop !)) (look ! 35 refl)) (and_then ! (load ! (from ! (fld ! refl (stop !))) (look_in ! 65 (sub ! 1 refl (whole !)))) (no_more !)))) (from ! (stop !)) (init ! 33 refl (tt, (tt, (record { fits = room-frames.0 }, tt)))) $
+        assigns ! (addr ! (from ! (fld ! refl (hop ! (look_in ! 63 (sub ! 0 refl (whole !))) (stop !))))) (from ! (stop !)) (init ! 31 refl (tt, tt)) $
+        assigns ! (agg ! (and_then ! (load ! (from ! (stop !)) (look ! 31 refl)) (and_then ! (load ! (from ! (fld ! refl (stop !))) (look_in ! 63 (sub ! 1 refl (whole !)))) (no_more !)))) (from ! (stop !)) (init ! 29 refl (tt, (tt, (record { fits = room-pool.0 }, tt)))) $
+        assigns ! (addr ! (from ! (fld ! refl (hop ! (look_in ! 61 (sub ! 0 refl (whole !))) (stop !))))) (from ! (stop !)) (init ! 27 refl (tt, tt)) $
+        assigns ! (agg ! (and_then ! (load ! (from ! (stop !)) (look ! 27 refl)) (and_then ! (load ! (from ! (fld ! refl (stop !))) (look_in ! 61 (sub ! 1 refl (whole !)))) (no_more !)))) (from ! (stop !)) (init ! 25 refl (tt, (tt, (record { fits = room-work.0 }, tt)))) $
+        move ! (51 ∷ []) $
         open_local ! tt u8 tt (uint_Makes 𝓛 w8) n-bytes b-bytes r-1 (list_val (uint_vals w8) r-1) r-1-good room-bytes (λ ν-bytes γ-bytes bytes bytes-is bytes-length.
-        move ! (0 ∷ 2 ∷ 3 ∷ 4 ∷ 5 ∷ 6 ∷ 7 ∷ 8 ∷ 9 ∷ 10 ∷ 11 ∷ 12 ∷ 13 ∷ 14 ∷ 15 ∷ 16 ∷ 17 ∷ 18 ∷ 19 ∷ 20 ∷ 21 ∷ 22 ∷ 23 ∷ 24 ∷ 25 ∷ 26 ∷ 27 ∷ 28 ∷ 29 ∷ 30 ∷ 31 ∷ 32 ∷ 33 ∷ 34 ∷ 35 ∷ 36 ∷ 37 ∷ 38 ∷ 39 ∷ 40 ∷ 41 ∷ 42 ∷ 43 ∷ 44 ∷ 45 ∷ 46 ∷ 47 ∷ 48 ∷ 49 ∷ 50 ∷ 51 ∷ 52 ∷ 53 ∷ 54 ∷ 55 ∷ 56 ∷ 57 ∷ 1 ∷ []) $
-        assigns ! (addr ! (from ! (stop !))) (from ! (stop !)) (init ! 25 refl (tt, tt)) $
-        assigns ! (agg ! (and_then ! (load ! (from ! (stop !)) (look ! 25 refl)) (and_then ! (const ! _ tt) (no_more !)))) (from ! (stop !)) (init ! 23 refl (tt, (tt, (record { fits = room-bytes.0 }, tt)))) $
-        move ! (55 ∷ []) $
+        move ! (0 ∷ 2 ∷ 3 ∷ 4 ∷ 5 ∷ 6 ∷ 7 ∷ 8 ∷ 9 ∷ 10 ∷ 11 ∷ 12 ∷ 13 ∷ 14 ∷ 15 ∷ 16 ∷ 17 ∷ 18 ∷ 19 ∷ 20 ∷ 21 ∷ 22 ∷ 23 ∷ 24 ∷ 25 ∷ 26 ∷ 27 ∷ 28 ∷ 29 ∷ 30 ∷ 31 ∷ 32 ∷ 33 ∷ 34 ∷ 35 ∷ 36 ∷ 37 ∷ 38 ∷ 39 ∷ 40 ∷ 41 ∷ 42 ∷ 43 ∷ 44 ∷ 45 ∷ 46 ∷ 47 ∷ 48 ∷ 49 ∷ 50 ∷ 51 ∷ 52 ∷ 1 ∷ []) $
+        assigns ! (addr ! (from ! (stop !))) (from ! (stop !)) (init ! 24 refl (tt, tt)) $
+        assigns ! (agg ! (and_then ! (load ! (from ! (stop !)) (look ! 24 refl)) (and_then ! (const ! _ tt) (no_more !)))) (from ! (stop !)) (init ! 22 refl (tt, (tt, (record { fits = room-bytes.0 }, tt)))) $
+        move ! (50 ∷ []) $
         open_local ! tt u32 tt (uint_Makes 𝓛 w32) n-answers b-answers (replicate 2 0) ((array_val (replicate 2 (vint w32 0)))) (array_is u32 2 0 (vint w32 0) (refl, (lit< tt))) room-answers (λ ν-answers γ-answers answers answers-is answers-length.
-        move ! (0 ∷ 2 ∷ 3 ∷ 4 ∷ 5 ∷ 6 ∷ 7 ∷ 8 ∷ 9 ∷ 10 ∷ 11 ∷ 12 ∷ 13 ∷ 14 ∷ 15 ∷ 16 ∷ 17 ∷ 18 ∷ 19 ∷ 20 ∷ 21 ∷ 22 ∷ 23 ∷ 24 ∷ 25 ∷ 26 ∷ 27 ∷ 28 ∷ 29 ∷ 30 ∷ 31 ∷ 32 ∷ 33 ∷ 34 ∷ 35 ∷ 36 ∷ 37 ∷ 38 ∷ 39 ∷ 40 ∷ 41 ∷ 42 ∷ 43 ∷ 44 ∷ 45 ∷ 46 ∷ 47 ∷ 48 ∷ 49 ∷ 50 ∷ 51 ∷ 52 ∷ 53 ∷ 54 ∷ 55 ∷ 56 ∷ 1 ∷ []) $
-        assigns ! (addr ! (from ! (stop !))) (from ! (stop !)) (init ! 22 refl (tt, tt)) $
-        assigns ! (agg ! (and_then ! (load ! (from ! (stop !)) (look ! 22 refl)) (and_then ! (const ! _ tt) (no_more !)))) (from ! (stop !)) (init ! 20 refl (tt, (tt, (record { fits = room-answers.0 }, tt)))) $
-        -- _13 = engine::entries::tape(_16, _18, _20, _22, _24, _26, _28, _30)
-        move ! (2 ∷ 3 ∷ 4 ∷ 5 ∷ 6 ∷ 7 ∷ 1 ∷ 0 ∷ []) $
-        S-tape.step-s mem run ! fm known-tape b-numbers o-numbers n-numbers numbers b-deques o-deques n-deques deques b-frames o-frames n-frames frames b-memory o-memory n-memory memory b-pool o-pool n-pool pool b-work o-work n-work work b-bytes o-bytes n-bytes bytes b-answers o-answers n-answers answers (refl) room-numbers (refl) room-deques (refl) room-frames (refl) room-memory (refl) room-pool (refl) room-work (bytes-length) room-bytes (answers-length) room-answers
-        (λ ν-0 δ-0 ν-1 δ-1 ν-2 δ-2 ν-3 δ-3 ν-4 δ-4 ν-5 δ-5 ν-6 δ-6 ν-7 δ-7. and_then ! (load ! (from ! (stop !)) (look ! 49 refl)) (and_then ! (load ! (from ! (stop !)) (look ! 45 refl)) (and_then ! (load ! (from ! (stop !)) (look ! 41 refl)) (and_then ! (load ! (from ! (stop !)) (look ! 37 refl)) (and_then ! (load ! (from ! (stop !)) (look ! 33 refl)) (and_then ! (load ! (from ! (stop !)) (look ! 29 refl)) (and_then ! (load ! (from ! (stop !)) (look ! 25 refl)) (and_then ! (load ! (from ! (stop !)) (look ! 21 refl)) (no_more !))))))))) (λ taped numbers-2 deques-2 frames-2 memory-2 pool-2 work-2 answers-2 taped-good taped-is same-numbers-2 same-deques-2 same-frames-2 same-memory-2 same-pool-2 same-work-2 same-answers-2.
-        land ! (from ! (stop !)) (init ! 54 refl ((LL.lawful M-Taped.the_type L-Taped.the_laws 𝓛).typed taped _ taped-good).0) $
-        assigns ! (addr ! (from ! (stop !))) (from ! (stop !)) (init ! 18 refl (tt, tt)) $
-        assigns ! (bin ! (load ! (from ! (stop !)) (look ! 18 refl)) (const ! _ tt) tt) (from ! (stop !)) (init ! 16 refl (tt, tt)) $
-        rewrite ! 16 (λ (p' : ℕ). ‵ (fat full_share ty_ptr l₃₂ 0 (vptr b-answers p'))) (sym (place_is 4 o-answers 0)) refl $
-        move ! (7 ∷ []) $
+        move ! (0 ∷ 2 ∷ 3 ∷ 4 ∷ 5 ∷ 6 ∷ 7 ∷ 8 ∷ 9 ∷ 10 ∷ 11 ∷ 12 ∷ 13 ∷ 14 ∷ 15 ∷ 16 ∷ 17 ∷ 18 ∷ 19 ∷ 20 ∷ 21 ∷ 22 ∷ 23 ∷ 24 ∷ 25 ∷ 26 ∷ 27 ∷ 28 ∷ 29 ∷ 30 ∷ 31 ∷ 32 ∷ 33 ∷ 34 ∷ 35 ∷ 36 ∷ 37 ∷ 38 ∷ 39 ∷ 40 ∷ 41 ∷ 42 ∷ 43 ∷ 44 ∷ 45 ∷ 46 ∷ 47 ∷ 48 ∷ 49 ∷ 50 ∷ 51 ∷ 1 ∷ []) $
+        assigns ! (addr ! (from ! (stop !))) (from ! (stop !)) (init ! 21 refl (tt, tt)) $
+        assigns ! (agg ! (and_then ! (load ! (from ! (stop !)) (look ! 21 refl)) (and_then ! (const ! _ tt) (no_more !)))) (from ! (stop !)) (init ! 19 refl (tt, (tt, (record { fits = room-answers.0 }, tt)))) $
+        -- _12 = engine::entries::tape(_15, _17, _19, _21, _23, _25, _27)
+        move ! (2 ∷ 3 ∷ 4 ∷ 5 ∷ 6 ∷ 1 ∷ 0 ∷ []) $
+        S-tape.step-s mem run ! fm known-tape b-numbers o-numbers n-numbers numbers b-deques o-deques n-deques deques b-frames o-frames n-frames frames b-pool o-pool n-pool pool b-work o-work n-work work b-bytes o-bytes n-bytes bytes b-answers o-answers n-answers answers (refl) room-numbers (refl) room-deques (refl) room-frames (refl) room-pool (refl) room-work (bytes-length) room-bytes (answers-length) room-answers
+        (λ ν-0 δ-0 ν-1 δ-1 ν-2 δ-2 ν-3 δ-3 ν-4 δ-4 ν-5 δ-5 ν-6 δ-6. and_then ! (load ! (from ! (stop !)) (look ! 44 refl)) (and_then ! (load ! (from ! (stop !)) (look ! 40 refl)) (and_then ! (load ! (from ! (stop !)) (look ! 36 refl)) (and_then ! (load ! (from ! (stop !)) (look ! 32 refl)) (and_then ! (load ! (from ! (stop !)) (look ! 28 refl)) (and_then ! (load ! (from ! (stop !)) (look ! 24 refl)) (and_then ! (load ! (from ! (stop !)) (look ! 20 refl)) (no_more !)))))))) (λ refused numbers-2 deques-2 frames-2 pool-2 work-2 answers-2 refused-fits refused-is same-numbers-2 same-deques-2 same-frames-2 same-pool-2 same-work-2 same-answers-2.
+        land ! (from ! (stop !)) (init ! 49 refl (tt, record { fits = refused-fits })) $
+        assigns ! (addr ! (from ! (stop !))) (from ! (stop !)) (init ! 17 refl (tt, tt)) $
+        assigns ! (bin ! (load ! (from ! (stop !)) (look ! 17 refl)) (const ! _ tt) tt) (from ! (stop !)) (init ! 15 refl (tt, tt)) $
+        rewrite ! 15 (λ (p' : ℕ). ‵ (fat full_share ty_ptr l₂₉ 0 (vptr b-answers p'))) (sym (place_is 4 o-answers 0)) refl $
+        move ! (6 ∷ []) $
         take_out ! tt u32 (uint_vals w32) (uint_Tells w32) b-answers o-answers n-answers answers-2 0 0 (subst (λ (k' : ℕ). 0 < k') (sym (same-answers-2 ∙ answers-length)) (lit< tt)) (λ r-3 r-3-is r-3-good.
-        assigns ! (of_opd ! (load ! (from ! (hop ! (look ! 17 refl) (stop !))) (look_raw ! 0 refl))) (from ! (stop !)) (init ! 15 refl (tt, record { fits = r-3-good.1 })) $
+        assigns ! (of_opd ! (load ! (from ! (hop ! (look ! 16 refl) (stop !))) (look_raw ! 0 refl))) (from ! (stop !)) (init ! 14 refl (tt, record { fits = r-3-good.1 })) $
         put_back ! tt u32 (uint_Makes 𝓛 w32) b-answers o-answers n-answers answers-2 0 0 r-3 (vint w32 r-3 ∷ []) (same-answers-2 ∙ answers-length) room-answers (subst (λ (k' : ℕ). 0 < k') (sym (same-answers-2 ∙ answers-length)) (lit< tt)) r-3-is r-3-good $
-        assigns ! (addr ! (from ! (stop !))) (from ! (stop !)) (init ! 12 refl (tt, tt)) $
-        assigns ! (bin ! (load ! (from ! (stop !)) (look ! 12 refl)) (const ! _ tt) tt) (from ! (stop !)) (init ! 10 refl (tt, tt)) $
-        rewrite ! 10 (λ (p' : ℕ). ‵ (fat full_share ty_ptr l₃₅ 0 (vptr b-answers p'))) (sym (place_is 4 o-answers 1)) refl $
+        assigns ! (addr ! (from ! (stop !))) (from ! (stop !)) (init ! 11 refl (tt, tt)) $
+        assigns ! (bin ! (load ! (from ! (stop !)) (look ! 11 refl)) (const ! _ tt) tt) (from ! (stop !)) (init ! 9 refl (tt, tt)) $
+        rewrite ! 9 (λ (p' : ℕ). ‵ (fat full_share ty_ptr l₃₂ 0 (vptr b-answers p'))) (sym (place_is 4 o-answers 1)) refl $
         take_out ! tt u32 (uint_vals w32) (uint_Tells w32) b-answers o-answers n-answers answers-2 1 0 (subst (λ (k' : ℕ). 1 < k') (sym (same-answers-2 ∙ answers-length)) (lit< tt)) (λ r-4 r-4-is r-4-good.
-        assigns ! (of_opd ! (load ! (from ! (hop ! (look ! 11 refl) (stop !))) (look_raw ! 0 refl))) (from ! (stop !)) (init ! 9 refl (tt, record { fits = r-4-good.1 })) $
+        assigns ! (of_opd ! (load ! (from ! (hop ! (look ! 10 refl) (stop !))) (look_raw ! 0 refl))) (from ! (stop !)) (init ! 8 refl (tt, record { fits = r-4-good.1 })) $
         put_back ! tt u32 (uint_Makes 𝓛 w32) b-answers o-answers n-answers answers-2 1 0 r-4 (vint w32 r-4 ∷ []) (same-answers-2 ∙ answers-length) room-answers (subst (λ (k' : ℕ). 1 < k') (sym (same-answers-2 ∙ answers-length)) (lit< tt)) r-4-is r-4-good $
-        -- _0 = splitter::calls::result_words(_13.0, _33, _36)
-        S-result-words.step mem run ! fm known-result-words taped.result r-3 r-4 (LL.owed M-Taped.the_type L-Taped.the_laws taped _ taped-good).0.1 r-3-good.1 r-4-good.1
-        (and_then ! (load ! (from ! (fld ! refl (stop !))) (look_in ! 55 (sub ! 0 refl (whole !)))) (and_then ! (load ! (from ! (stop !)) (look ! 15 refl)) (and_then ! (load ! (from ! (stop !)) (look ! 9 refl)) (no_more !)))) (λ r-5 r-5-fits r-5-is.
-        land ! (from ! (stop !)) (init ! 80 refl (tt, record { fits = r-5-fits })) $
-        move ! (7 ∷ 58 ∷ []) $
+        -- _0 = splitter::calls::result_words(_12, _30, _33)
+        S-result-words.step mem run ! fm known-result-words refused r-3 r-4 refused-fits r-3-good.1 r-4-good.1
+        (and_then ! (load ! (from ! (stop !)) (look ! 50 refl)) (and_then ! (load ! (from ! (stop !)) (look ! 14 refl)) (and_then ! (load ! (from ! (stop !)) (look ! 8 refl)) (no_more !)))) (λ r-5 r-5-fits r-5-is.
+        land ! (from ! (stop !)) (init ! 73 refl (tt, record { fits = r-5-fits })) $
+        move ! (6 ∷ 53 ∷ []) $
         shut_local ! tt u8 n-bytes b-bytes bytes (λ v_bytes v-bytes-is.
-        move ! (1 ∷ 2 ∷ 3 ∷ 4 ∷ 5 ∷ 6 ∷ 7 ∷ 8 ∷ 9 ∷ 10 ∷ 11 ∷ 12 ∷ 13 ∷ 14 ∷ 15 ∷ 16 ∷ 17 ∷ 18 ∷ 19 ∷ 20 ∷ 21 ∷ 22 ∷ 23 ∷ 24 ∷ 25 ∷ 26 ∷ 27 ∷ 28 ∷ 29 ∷ 30 ∷ 31 ∷ 32 ∷ 33 ∷ 34 ∷ 35 ∷ 36 ∷ 37 ∷ 38 ∷ 39 ∷ 40 ∷ 41 ∷ 42 ∷ 43 ∷ 44 ∷ 45 ∷ 46 ∷ 47 ∷ 48 ∷ 49 ∷ 50 ∷ 51 ∷ 52 ∷ 53 ∷ 54 ∷ 55 ∷ 56 ∷ 57 ∷ 0 ∷ []) $
-        move ! (0 ∷ 55 ∷ []) $
+        move ! (1 ∷ 2 ∷ 3 ∷ 4 ∷ 5 ∷ 6 ∷ 7 ∷ 8 ∷ 9 ∷ 10 ∷ 11 ∷ 12 ∷ 13 ∷ 14 ∷ 15 ∷ 16 ∷ 17 ∷ 18 ∷ 19 ∷ 20 ∷ 21 ∷ 22 ∷ 23 ∷ 24 ∷ 25 ∷ 26 ∷ 27 ∷ 28 ∷ 29 ∷ 30 ∷ 31 ∷ 32 ∷ 33 ∷ 34 ∷ 35 ∷ 36 ∷ 37 ∷ 38 ∷ 39 ∷ 40 ∷ 41 ∷ 42 ∷ 43 ∷ 44 ∷ 45 ∷ 46 ∷ 47 ∷ 48 ∷ 49 ∷ 50 ∷ 51 ∷ 52 ∷ 0 ∷ []) $
+        move ! (0 ∷ 50 ∷ []) $
         shut_local ! tt u32 n-answers b-answers answers-2 (λ v-answers v-answers-is.
-        move ! (1 ∷ 2 ∷ 3 ∷ 4 ∷ 5 ∷ 6 ∷ 7 ∷ 8 ∷ 9 ∷ 10 ∷ 11 ∷ 12 ∷ 13 ∷ 14 ∷ 15 ∷ 16 ∷ 17 ∷ 18 ∷ 19 ∷ 20 ∷ 21 ∷ 22 ∷ 23 ∷ 24 ∷ 25 ∷ 26 ∷ 27 ∷ 28 ∷ 29 ∷ 30 ∷ 31 ∷ 32 ∷ 33 ∷ 34 ∷ 35 ∷ 36 ∷ 37 ∷ 38 ∷ 39 ∷ 40 ∷ 41 ∷ 42 ∷ 43 ∷ 44 ∷ 45 ∷ 46 ∷ 47 ∷ 48 ∷ 49 ∷ 50 ∷ 51 ∷ 52 ∷ 53 ∷ 54 ∷ 0 ∷ []) $
-        returns_within ! Post refl (look ! 78 refl) $ forget ! 6 refl $ forget ! 8 refl $ forget ! 10 refl $ forget ! 12 refl $ forget ! 14 refl $ forget ! 16 refl $ forget ! 18 refl $ forget ! 20 refl $ forget ! 22 refl $ forget ! 24 refl $ forget ! 26 refl $ forget ! 28 refl $ forget ! 30 refl $ forget ! 32 refl $ forget ! 34 refl $ forget ! 36 refl $ forget ! 38 refl $ forget ! 40 refl $ forget ! 42 refl $ forget ! 44 refl $ forget ! 46 refl $ forget ! 48 refl $ forget ! 50 refl $ forget ! 52 refl $ forget ! 54 refl $ forget ! 56 refl $ forget ! 58 refl $ forget ! 60 refl $ forget ! 62 refl $ forget ! 64 refl $ forget ! 66 refl $ forget ! 68 refl $ forget ! 70 refl $ forget ! 72 refl $ forget ! 74 refl $ forget ! 76 refl $ forget ! 78 refl $
-        free_all ! 6 refl $
-        by ! (exits' r-5 numbers-2 deques-2 frames-2 memory-2 pool-2 work-2 r-5-fits (F.out-6 numbers deques frames memory pool work kind worker field value room-numbers.0 room-deques.0 room-frames.0 room-memory.0 room-pool.0 room-work.0 kind_fits worker-fits field_fits value-fits r-1 r-1-is bytes bytes-is bytes-length answers answers-is answers-length taped numbers-2 deques-2 frames-2 memory-2 pool-2 work-2 answers-2 taped-is same-numbers-2 same-deques-2 same-frames-2 same-memory-2 same-pool-2 same-work-2 same-answers-2 r-3 r-3-good.1 r-3-is r-4 r-4-good.1 r-4-is r-5 r-5-fits r-5-is) (same-numbers-2) (same-deques-2) (same-frames-2) (same-memory-2) (same-pool-2) (same-work-2))))))))))))))))))))))))))))))))))))))))))))))))
+        move ! (1 ∷ 2 ∷ 3 ∷ 4 ∷ 5 ∷ 6 ∷ 7 ∷ 8 ∷ 9 ∷ 10 ∷ 11 ∷ 12 ∷ 13 ∷ 14 ∷ 15 ∷ 16 ∷ 17 ∷ 18 ∷ 19 ∷ 20 ∷ 21 ∷ 22 ∷ 23 ∷ 24 ∷ 25 ∷ 26 ∷ 27 ∷ 28 ∷ 29 ∷ 30 ∷ 31 ∷ 32 ∷ 33 ∷ 34 ∷ 35 ∷ 36 ∷ 37 ∷ 38 ∷ 39 ∷ 40 ∷ 41 ∷ 42 ∷ 43 ∷ 44 ∷ 45 ∷ 46 ∷ 47 ∷ 48 ∷ 49 ∷ 0 ∷ []) $
+        returns_within ! Post refl (look ! 71 refl) $ forget ! 5 refl $ forget ! 7 refl $ forget ! 9 refl $ forget ! 11 refl $ forget ! 13 refl $ forget ! 15 refl $ forget ! 17 refl $ forget ! 19 refl $ forget ! 21 refl $ forget ! 23 refl $ forget ! 25 refl $ forget ! 27 refl $ forget ! 29 refl $ forget ! 31 refl $ forget ! 33 refl $ forget ! 35 refl $ forget ! 37 refl $ forget ! 39 refl $ forget ! 41 refl $ forget ! 43 refl $ forget ! 45 refl $ forget ! 47 refl $ forget ! 49 refl $ forget ! 51 refl $ forget ! 53 refl $ forget ! 55 refl $ forget ! 57 refl $ forget ! 59 refl $ forget ! 61 refl $ forget ! 63 refl $ forget ! 65 refl $ forget ! 67 refl $ forget ! 69 refl $ forget ! 71 refl $
+        free_all ! 5 refl $
+        by ! (exits' r-5 numbers-2 deques-2 frames-2 pool-2 work-2 r-5-fits (F.out-6 numbers deques frames pool work kind worker field value room-numbers.0 room-deques.0 room-frames.0 room-pool.0 room-work.0 kind_fits worker-fits field_fits value-fits r-1 r-1-is bytes bytes-is bytes-length answers answers-is answers-length refused numbers-2 deques-2 frames-2 pool-2 work-2 answers-2 refused-fits refused-is same-numbers-2 same-deques-2 same-frames-2 same-pool-2 same-work-2 same-answers-2 r-3 r-3-good.1 r-3-is r-4 r-4-good.1 r-4-is r-5 r-5-fits r-5-is) (same-numbers-2) (same-deques-2) (same-frames-2) (same-pool-2) (same-work-2)))))))))))))))))))))))))))))))))))))))))))))
 
 module _ {M : Type 1} {𝓤 : Ura M} (𝓛 : Logic 𝓤) (mem : Memory → SProp 𝓤) (run : Routine → Fun 𝓤) (𝓣 : Tables 𝓤 𝓛.H) where
   open 𝓛 use {H}
 
   walks : Triple 𝓤 (𝓣.C #record-of) (S-record-of.Asked 𝓛 mem run) → Triple 𝓤 (𝓣.C #tape) (S-tape.Asked 𝓛 mem run) → Triple 𝓤 (𝓣.C #result-words) (S-result-words.Asked 𝓛 mem run) → Walks 𝓛 f'.ended stayed (WpFn 𝓤 H 𝓣.C 𝓣.Λ code.function) (f'.clauses 𝓛 mem run)
   walks known-record-of known-tape known-result-words = walked 𝓛 f'.ended stayed (f'.clauses 𝓛 mem run) (WpFn 𝓤 H 𝓣.C 𝓣.Λ code.function)
-      (λ κs. (mut_slice_vals, (mut_slice_vals, (mut_slice_vals, (mut_slice_vals, (mut_slice_vals, (mut_slice_vals, (uint_vals w32, (uint_vals w32, (uint_vals w32, (uint_vals w32, tt)))))))))))
-      (λ κs. (mut_slice_Tells (named 0) κs.0 u32, (mut_slice_Tells (named 1) κs.1.0 u32, (mut_slice_Tells (named 2) κs.1.1.0 R-Frame, (mut_slice_Tells (named 3) κs.1.1.1.0 u32, (mut_slice_Tells (named 4) κs.1.1.1.1.0 u32, (mut_slice_Tells (named 5) κs.1.1.1.1.1.0 u32, (uint_Tells w32, (uint_Tells w32, (uint_Tells w32, (uint_Tells w32, tt)))))))))))
+      (λ κs. (mut_slice_vals, (mut_slice_vals, (mut_slice_vals, (mut_slice_vals, (mut_slice_vals, (uint_vals w32, (uint_vals w32, (uint_vals w32, (uint_vals w32, tt))))))))))
+      (λ κs. (mut_slice_Tells (named 0) κs.0 u32, (mut_slice_Tells (named 1) κs.1.0 u32, (mut_slice_Tells (named 2) κs.1.1.0 R-Frame, (mut_slice_Tells (named 3) κs.1.1.1.0 u32, (mut_slice_Tells (named 4) κs.1.1.1.1.0 u32, (uint_Tells w32, (uint_Tells w32, (uint_Tells w32, (uint_Tells w32, tt))))))))))
       (λ κs qs bounds a g are. via 𝓤 _ (fst∗ 𝓤 _ (emp 𝓤))
-      (walk 𝓛 mem run κs.0 qs.0 a.0.ref_ptr.0 a.0.ref_ptr.1 a.0.ghost_name a.0.now κs.1.0 qs.1.0 a.1.0.ref_ptr.0 a.1.0.ref_ptr.1 a.1.0.ghost_name a.1.0.now κs.1.1.0 qs.1.1.0 a.1.1.0.ref_ptr.0 a.1.1.0.ref_ptr.1 a.1.1.0.ghost_name a.1.1.0.now κs.1.1.1.0 qs.1.1.1.0 a.1.1.1.0.ref_ptr.0 a.1.1.1.0.ref_ptr.1 a.1.1.1.0.ghost_name a.1.1.1.0.now κs.1.1.1.1.0 qs.1.1.1.1.0 a.1.1.1.1.0.ref_ptr.0 a.1.1.1.1.0.ref_ptr.1 a.1.1.1.1.0.ghost_name a.1.1.1.1.0.now κs.1.1.1.1.1.0 qs.1.1.1.1.1.0 a.1.1.1.1.1.0.ref_ptr.0 a.1.1.1.1.1.0.ref_ptr.1 a.1.1.1.1.1.0.ghost_name a.1.1.1.1.1.0.now a.1.1.1.1.1.1.0 are.1.1.1.1.1.1.0.1 a.1.1.1.1.1.1.1.0 are.1.1.1.1.1.1.1.0.1 a.1.1.1.1.1.1.1.1.0 are.1.1.1.1.1.1.1.1.0.1 a.1.1.1.1.1.1.1.1.1.0 are.1.1.1.1.1.1.1.1.1.0.1 are.0.0.1 are.1.0.0.1 are.1.1.0.0.1 are.1.1.1.0.0.1 are.1.1.1.1.0.0.1 are.1.1.1.1.1.0.0.1 𝓣 known-record-of known-tape known-result-words))
+      (walk 𝓛 mem run κs.0 qs.0 a.0.ref_ptr.0 a.0.ref_ptr.1 a.0.ghost_name a.0.now κs.1.0 qs.1.0 a.1.0.ref_ptr.0 a.1.0.ref_ptr.1 a.1.0.ghost_name a.1.0.now κs.1.1.0 qs.1.1.0 a.1.1.0.ref_ptr.0 a.1.1.0.ref_ptr.1 a.1.1.0.ghost_name a.1.1.0.now κs.1.1.1.0 qs.1.1.1.0 a.1.1.1.0.ref_ptr.0 a.1.1.1.0.ref_ptr.1 a.1.1.1.0.ghost_name a.1.1.1.0.now κs.1.1.1.1.0 qs.1.1.1.1.0 a.1.1.1.1.0.ref_ptr.0 a.1.1.1.1.0.ref_ptr.1 a.1.1.1.1.0.ghost_name a.1.1.1.1.0.now a.1.1.1.1.1.0 are.1.1.1.1.1.0.1 a.1.1.1.1.1.1.0 are.1.1.1.1.1.1.0.1 a.1.1.1.1.1.1.1.0 are.1.1.1.1.1.1.1.0.1 a.1.1.1.1.1.1.1.1.0 are.1.1.1.1.1.1.1.1.0.1 are.0.0.1 are.1.0.0.1 are.1.1.0.0.1 are.1.1.1.0.0.1 are.1.1.1.1.0.0.1 𝓣 known-record-of known-tape known-result-words))
 
   meets : Triple 𝓤 (𝓣.C #record-of) (S-record-of.Asked 𝓛 mem run) → Triple 𝓤 (𝓣.C #tape) (S-tape.Asked 𝓛 mem run) → Triple 𝓤 (𝓣.C #result-words) (S-result-words.Asked 𝓛 mem run) → Meets 𝓛 f'.signature (WpFn 𝓤 H 𝓣.C 𝓣.Λ code.function) (f'.spec 𝓛 mem run)
   meets known-record-of known-tape known-result-words = walk_Meets 𝓛 f'.ended stayed
-      (Goes-slice 𝓛 6 0 tt (plain (λ _. u32)), (Goes-slice 𝓛 6 1 tt (plain (λ _. u32)), (Goes-slice 𝓛 6 2 tt (plain (λ _. R-Frame)), (Goes-slice 𝓛 6 3 tt (plain (λ _. u32)), (Goes-slice 𝓛 6 4 tt (plain (λ _. u32)), (Goes-slice 𝓛 6 5 tt (plain (λ _. u32)), (Goes-none 𝓛 6 (λ _. u32) yes (λ κs x f. refl), (Goes-none 𝓛 6 (λ _. u32) yes (λ κs x f. refl), (Goes-none 𝓛 6 (λ _. u32) yes (λ κs x f. refl), (Goes-none 𝓛 6 (λ _. u32) yes (λ κs x f. refl), tt))))))))))
+      (Goes-slice 𝓛 5 0 tt (plain (λ _. u32)), (Goes-slice 𝓛 5 1 tt (plain (λ _. u32)), (Goes-slice 𝓛 5 2 tt (plain (λ _. R-Frame)), (Goes-slice 𝓛 5 3 tt (plain (λ _. u32)), (Goes-slice 𝓛 5 4 tt (plain (λ _. u32)), (Goes-none 𝓛 5 (λ _. u32) yes (λ κs x f. refl), (Goes-none 𝓛 5 (λ _. u32) yes (λ κs x f. refl), (Goes-none 𝓛 5 (λ _. u32) yes (λ κs x f. refl), (Goes-none 𝓛 5 (λ _. u32) yes (λ κs x f. refl), tt)))))))))
       (f'.clauses 𝓛 mem run) (WpFn 𝓤 H 𝓣.C 𝓣.Λ code.function) (WpFn-mono 𝓤 H 𝓛.laws 𝓣 code.function) (walks known-record-of known-tape known-result-words)
 
 pub splitter-step-spec : {M : Type 1} → stated.statement M

@@ -1,10 +1,16 @@
 -- The facts of the walk of `engine::begin::start_on`, for its author to prove. tools/walk wrote the statements, and never writes over this file.
 -- A module's binders are what is known at that point; a `?` is a goal (`rt dev engine --allow-holes` prints each).
-use Rattle.std.proofs.Common.{◌≡◌, ℕ, ◌+◌, ◌-◌, ◌*◌, ◌^◌, ◌<◌, ◌≤◌, Bool, true, false, List, length, get_or, set, replicate, sym, refl, ap, ◌∙◌, subst, arith}
+use mathlib.Core.Path.{◌≡◌, refl, sym, ◌∙◌, ap, subst}
+use Prim.Native.Nat.{ℕ, ◌+◌, ◌-◌, ◌*◌, ◌<◌, ◌≤◌, ◌^◌}
+use mathlib.Core.List.{List}
+use mathlib.Core.Bool.{Bool, true, false}
+use lib.ListN.{length, get_or, set}
+use native.Mathlib.Omega.{arith}
 use Rattle.semantics.specs.Entries.{start_with}
 use Rattle.semantics.specs.Promises.{parts, Fits, IsStart}
 use Rattle.semantics.specs.Entries.{whole_nodes}
 use Rattle.engine.specs.Promises.{refusal_by, start_tests}
+use lib.ListN.{replicate}
 use Rattle.packed.specs.Pool.{init_pool}
 use Rattle.frames.specs.Widths.{deque_words}
 use Rattle.frames.specs.Deques.{init_deques}

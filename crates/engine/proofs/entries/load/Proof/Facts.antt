@@ -1,39 +1,44 @@
 -- The facts of the walk of `engine::entries::load`, for its author to prove. tools/walk wrote the statements, and never writes over this file.
 -- A module's binders are what is known at that point; a `?` is a goal (`rt dev engine --allow-holes` prints each).
-use Rattle.std.proofs.Common.{◌≡◌, ℕ, ◌+◌, ◌-◌, ◌*◌, ◌^◌, ◌<◌, ◌≤◌, Bool, true, false, ◌&&◌, eqb, List, length, get_or, set, replicate, sym, refl, ap, ◌∙◌, subst, arith}
-use Rattle.semantics.specs.Images.{load_with}
-use Rattle.semantics.specs.Promises.{parts, IsLoad, Fits, IsLoadWith}
+use mathlib.Core.Path.{◌≡◌, refl, sym, ◌∙◌, ap, subst}
+use Prim.Native.Nat.{ℕ, ◌+◌, ◌-◌, ◌*◌, ◌<◌, ◌≤◌, ◌^◌}
+use mathlib.Core.List.{List}
+use mathlib.Core.Bool.{Bool, true, false}
+use lib.ListN.{length, get_or, set}
+use native.Mathlib.Omega.{arith}
+use Rattle.semantics.specs.Images.{load_on}
+use Rattle.semantics.specs.Promises.{parts, IsLoad}
+use mathlib.Core.Bool.{◌&&◌}
+use lib.Dec.{eqb}
 use Rattle.frames.specs.Widths.{deque_words}
 use Rattle.soundness.specs.Numbers.{number_count}
+use Rattle.semantics.specs.Images.{load_with}
+use Rattle.semantics.specs.Promises.{Fits}
 use Rattle.frames.specs.declared.Frame.{Frame}
 use Rattle.engine.proofs.Fitting.{fit, load_unfit, load_fit}
 use Rattle.soundness.specs.Layout.{two_words}
-use Rattle.semantics.specs.Remembering.{load_remembering}
-use Rattle.memory.specs.Memory.{memory_words}
 
 module _
-    (numbers : List ℕ) (deques : List ℕ) (frames : List Frame) (memory : List ℕ) (pool : List ℕ) (work : List ℕ) (image : List ℕ) (numbers-fits : length numbers < 2 ^ 64) (deques-fits : length deques < 2 ^ 64) (frames-fits : length frames < 2 ^ 64) (memory-fits : length memory < 2 ^ 64) (pool-fits : length pool < 2 ^ 64) (work-fits : length work < 2 ^ 64) (image-fits : length image < 2 ^ 64)
-    -- engine::entries::fit(numbers, deques, memory)
-    (r-1 : Bool) (r-1-is : r-1 ≡ (eqb (length numbers) number_count && eqb (length deques) deque_words) && eqb (length memory) memory_words) where
+    (numbers : List ℕ) (deques : List ℕ) (frames : List Frame) (pool : List ℕ) (work : List ℕ) (image : List ℕ) (numbers-fits : length numbers < 2 ^ 64) (deques-fits : length deques < 2 ^ 64) (frames-fits : length frames < 2 ^ 64) (pool-fits : length pool < 2 ^ 64) (work-fits : length work < 2 ^ 64) (image-fits : length image < 2 ^ 64)
+    -- engine::entries::fit(numbers, deques)
+    (r-1 : Bool) (r-1-is : r-1 ≡ eqb (length numbers) number_count && eqb (length deques) deque_words) where
   module _
       (test-2 : r-1 ≡ false)
       -- engine::entries::unfit()
       (r-3 : ℕ) (r-3-fits : r-3 < 2 ^ 32) (r-3-is : r-3 ≡ 99) where
     -- a way out: what the function ensures
-    pub out-4 : IsLoadWith (load_remembering two_words (parts numbers deques frames) memory pool work image) numbers deques frames memory pool work r-3
-    out-4 = load_unfit numbers deques frames memory r-1 r-1-is test-2 pool work image r-3 r-3-is
+    pub out-4 : IsLoad (load_on two_words (parts numbers deques frames) pool work image) numbers deques frames pool work r-3
+    out-4 = load_unfit numbers deques frames r-1 r-1-is test-2 pool work image r-3 r-3-is
 
   module _
-      (test-2 : r-1 ≡ true)
-      -- words::clear_all(memory)
-      (memory-5 : List ℕ) (done-5 : memory-5 ≡ replicate (length memory) 0) (same-memory-5 : length memory-5 ≡ length memory) where
+      (test-2 : r-1 ≡ true) where
     -- engine::images::load_on asks
-    pub needs-6 : Fits (parts numbers deques frames)
-    needs-6 = fit numbers deques frames memory r-1 r-1-is test-2
+    pub needs-5 : Fits (parts numbers deques frames)
+    needs-5 = fit numbers deques frames r-1 r-1-is test-2
 
     module _
         -- engine::images::load_on(numbers, deques, frames, pool, work, image)
-        (r-6 : ℕ) (numbers-6 : List ℕ) (deques-6 : List ℕ) (frames-6 : List Frame) (pool-6 : List ℕ) (work-6 : List ℕ) (r-6-fits : r-6 < 2 ^ 32) (r-6-is : IsLoad (load_with two_words frames pool work image) numbers-6 deques-6 frames-6 pool-6 work-6 r-6) (same-numbers-6 : length numbers-6 ≡ length numbers) (same-deques-6 : length deques-6 ≡ length deques) (same-frames-6 : length frames-6 ≡ length frames) (same-pool-6 : length pool-6 ≡ length pool) (same-work-6 : length work-6 ≡ length work) where
+        (r-5 : ℕ) (numbers-5 : List ℕ) (deques-5 : List ℕ) (frames-5 : List Frame) (pool-5 : List ℕ) (work-5 : List ℕ) (r-5-fits : r-5 < 2 ^ 32) (r-5-is : IsLoad (load_with two_words frames pool work image) numbers-5 deques-5 frames-5 pool-5 work-5 r-5) (same-numbers-5 : length numbers-5 ≡ length numbers) (same-deques-5 : length deques-5 ≡ length deques) (same-frames-5 : length frames-5 ≡ length frames) (same-pool-5 : length pool-5 ≡ length pool) (same-work-5 : length work-5 ≡ length work) where
       -- a way out: what the function ensures
-      pub out-7 : IsLoadWith (load_remembering two_words (parts numbers deques frames) memory pool work image) numbers-6 deques-6 frames-6 memory-5 pool-6 work-6 r-6
-      out-7 = load_fit numbers deques frames memory r-1 r-1-is test-2 memory-5 done-5 pool work image numbers-6 deques-6 frames-6 pool-6 work-6 r-6 r-6-is
+      pub out-6 : IsLoad (load_on two_words (parts numbers deques frames) pool work image) numbers-5 deques-5 frames-5 pool-5 work-5 r-5
+      out-6 = load_fit numbers deques frames r-1 r-1-is test-2 pool work image numbers-5 deques-5 frames-5 pool-5 work-5 r-5 r-5-is

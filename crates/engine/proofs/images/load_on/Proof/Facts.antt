@@ -1,9 +1,15 @@
 -- The facts of the walk of `engine::images::load_on`, for its author to prove. tools/walk wrote the statements, and never writes over this file.
 -- A module's binders are what is known at that point; a `?` is a goal (`rt dev engine --allow-holes` prints each).
-use Rattle.std.proofs.Common.{◌≡◌, ℕ, ◌+◌, ◌-◌, ◌*◌, ◌^◌, ◌<◌, ◌≤◌, Bool, true, false, List, length, get_or, set, replicate, sym, refl, ap, ◌∙◌, subst, arith}
+use mathlib.Core.Path.{◌≡◌, refl, sym, ◌∙◌, ap, subst}
+use Prim.Native.Nat.{ℕ, ◌+◌, ◌-◌, ◌*◌, ◌<◌, ◌≤◌, ◌^◌}
+use mathlib.Core.List.{List}
+use mathlib.Core.Bool.{Bool, true, false}
+use lib.ListN.{length, get_or, set}
+use native.Mathlib.Omega.{arith}
 use Rattle.semantics.specs.Images.{load_with}
 use Rattle.semantics.specs.Promises.{parts, Fits, IsLoad}
 use Rattle.engine.specs.Promises.{IsLoading}
+use lib.ListN.{replicate}
 use Rattle.frames.specs.declared.Frame.{Frame}
 use Rattle.engine.proofs.SaveLoad.{load_zeros, load_kept}
 use Rattle.soundness.specs.Layout.{two_words}

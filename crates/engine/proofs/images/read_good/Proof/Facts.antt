@@ -1,12 +1,19 @@
 -- The facts of the walk of `engine::images::read_good`, for its author to prove. tools/walk wrote the statements, and never writes over this file.
 -- A module's binders are what is known at that point; a `?` is a goal (`rt dev engine --allow-holes` prints each).
-use Rattle.std.proofs.Common.{◌≡◌, ℕ, ◌+◌, ◌-◌, ◌*◌, ◌^◌, ◌<◌, ◌≤◌, Bool, true, false, ◌&&◌, eqb, leb, List, length, get_or, set, sym, refl, ap, ◌∙◌, subst, arith}
+use mathlib.Core.Path.{◌≡◌, refl, sym, ◌∙◌, ap, subst}
+use Prim.Native.Nat.{ℕ, ◌+◌, ◌-◌, ◌*◌, ◌<◌, ◌≤◌, ◌^◌}
+use mathlib.Core.List.{List}
+use mathlib.Core.Bool.{Bool, true, false}
+use lib.ListN.{length, get_or, set}
+use native.Mathlib.Omega.{arith}
 use Rattle.soundness.specs.Soundness.{cleared}
 use Rattle.image.specs.declared.ImageCheck.TheVariants.{Good}
 use Rattle.image.specs.Image.{image_check, nodes_in}
 use Rattle.semantics.specs.Images.{load_read}
 use Rattle.semantics.specs.Promises.{parts, Fits}
 use Rattle.engine.specs.Promises.{IsLoading}
+use mathlib.Core.Bool.{◌&&◌}
+use lib.Dec.{eqb, leb}
 use Rattle.frames.specs.Widths.{max_places}
 use Rattle.image.specs.Widths.{block_bytes}
 use Rattle.image.specs.Image.{places_in}

@@ -1,6 +1,11 @@
 -- The facts of the walk of `engine::images::read_image`, for its author to prove. tools/walk wrote the statements, and never writes over this file.
 -- A module's binders are what is known at that point; a `?` is a goal (`rt dev engine --allow-holes` prints each).
-use Rattle.std.proofs.Common.{◌≡◌, ℕ, ◌+◌, ◌-◌, ◌*◌, ◌^◌, ◌<◌, ◌≤◌, Bool, true, false, cond, ltb, List, length, get_or, set, sym, refl, ap, ◌∙◌, subst, arith}
+use mathlib.Core.Path.{◌≡◌, refl, sym, ◌∙◌, ap, subst}
+use Prim.Native.Nat.{ℕ, ◌+◌, ◌-◌, ◌*◌, ◌<◌, ◌≤◌, ◌^◌}
+use mathlib.Core.List.{List}
+use mathlib.Core.Bool.{Bool, true, false}
+use lib.ListN.{length, get_or, set}
+use native.Mathlib.Omega.{arith}
 use Rattle.semantics.specs.Images.{load_with}
 use Rattle.semantics.specs.Promises.{parts, Fits}
 use Rattle.engine.specs.Promises.{IsLoading}
@@ -8,6 +13,8 @@ use Rattle.image.specs.Image.{image_check}
 use Rattle.engine.specs.Promises.{image_number}
 use Rattle.image.specs.Widths.{block_bytes}
 use Rattle.image.specs.Image.{nodes_in}
+use mathlib.Core.Bool.{cond}
+use lib.Dec.{ltb}
 use Rattle.semantics.specs.declared.Refusal.TheVariants.{Work}
 use Rattle.semantics.specs.Answers.{refusal_number}
 use Rattle.soundness.specs.Soundness.{cleared}

@@ -1,6 +1,12 @@
 -- The facts of the walk of `engine::kinds::step_return`, for its author to prove. tools/walk wrote the statements, and never writes over this file.
 -- A module's binders are what is known at that point; a `?` is a goal (`rt dev engine --allow-holes` prints each).
-use Rattle.std.proofs.Common.{◌≡◌, ℕ, ◌+◌, ◌-◌, ◌*◌, ◌^◌, ◌<◌, ◌≤◌, Bool, true, false, List, [], length, get_or, set, sym, refl, ap, ◌∙◌, subst, arith}
+use mathlib.Core.Path.{◌≡◌, refl, sym, ◌∙◌, ap, subst}
+use Prim.Native.Nat.{ℕ, ◌+◌, ◌-◌, ◌*◌, ◌<◌, ◌≤◌, ◌^◌}
+use mathlib.Core.List.{List}
+use mathlib.Core.Bool.{Bool, true, false}
+use lib.ListN.{length, get_or, set}
+use native.Mathlib.Omega.{arith}
+use mathlib.Core.List.{[]}
 use Rattle.soundness.specs.Numbers.{numbers_in, totals_in, number_count}
 use Rattle.model.specs.declared.Step.TheVariants.{Return}
 use Rattle.semantics.specs.Core.{step_on}

@@ -1,32 +1,36 @@
 -- The facts of the walk of `engine::records::step_record`, for its author to prove. tools/walk wrote the statements, and never writes over this file.
 -- A module's binders are what is known at that point; a `?` is a goal (`rt dev engine --allow-holes` prints each).
-use Rattle.std.proofs.Common.{◌≡◌, ℕ, ◌+◌, ◌-◌, ◌*◌, ◌^◌, ◌<◌, ◌≤◌, Bool, true, false, List, length, get_or, set, sym, refl, ap, ◌∙◌, subst, arith}
+use mathlib.Core.Path.{◌≡◌, refl, sym, ◌∙◌, ap, subst}
+use Prim.Native.Nat.{ℕ, ◌+◌, ◌-◌, ◌*◌, ◌<◌, ◌≤◌, ◌^◌}
+use mathlib.Core.List.{List}
+use mathlib.Core.Bool.{Bool, true, false}
+use lib.ListN.{length, get_or, set}
+use native.Mathlib.Omega.{arith}
+use mathlib.Core.Logic.{◌≢◌}
 use Rattle.soundness.specs.Numbers.{numbers_in, totals_in, number_count}
 use Rattle.model.specs.declared.Decoded.{Decoded}
 use Rattle.model.specs.Record.{decode_at}
 use Rattle.semantics.specs.Entries.{record_on}
 use Rattle.semantics.specs.Ranges.{Ready}
 use Rattle.engine.specs.Promises.{core, Leaves}
+use mathlib.Core.List.{[]}
+use Rattle.model.specs.declared.Step.TheVariants.{Read, Write}
 use Rattle.semantics.specs.Core.{step_on}
+use Rattle.engine.specs.Promises.{LeavesOthers}
 use Rattle.semantics.specs.declared.Head.{Head}
 use Rattle.frames.specs.declared.Frame.{Frame}
 use Rattle.engine.specs.declared.Out.{Out}
 use Rattle.engine.specs.declared.Fields.{Fields}
 use Rattle.engine.specs.Promises.{step_by, Answers}
 use Rattle.model.specs.declared.Step.{Step}
-use Rattle.engine.proofs.Steps.{record_refused}
+use Rattle.engine.proofs.Steps.{record_refused, record_steps}
 use Rattle.soundness.specs.Layout.{two_words}
-use Rattle.semantics.specs.Ranges.{Recalls}
-use Rattle.engine.specs.Promises.{RemembersRecord}
-use Rattle.model.specs.declared.Decoded.TheVariants.{Valid}
-use Rattle.engine.specs.declared.Visited.{Visited}
-use Rattle.engine.proofs.Remembering.{none_remembers}
 
 module _
-    (h : Head) (numbers : List ℕ) (deques : List ℕ) (frames : List Frame) (pool : List ℕ) (memory : List ℕ) (tape : List ℕ) (at : ℕ) (numbers-fits : length numbers < 2 ^ 64) (deques-fits : length deques < 2 ^ 64) (frames-fits : length frames < 2 ^ 64) (pool-fits : length pool < 2 ^ 64) (memory-fits : length memory < 2 ^ 64) (tape-fits : length tape < 2 ^ 64) (at-fits : at < 2 ^ 64) (ok : (length numbers ≡ number_count) × Ready (core h (totals_in numbers) deques frames pool) × Recalls (core h (totals_in numbers) deques frames pool) memory × (at + 8 ≤ length tape)) where
+    (h : Head) (numbers : List ℕ) (deques : List ℕ) (frames : List Frame) (pool : List ℕ) (tape : List ℕ) (at : ℕ) (numbers-fits : length numbers < 2 ^ 64) (deques-fits : length deques < 2 ^ 64) (frames-fits : length frames < 2 ^ 64) (pool-fits : length pool < 2 ^ 64) (tape-fits : length tape < 2 ^ 64) (at-fits : at < 2 ^ 64) (ok : (length numbers ≡ number_count) × Ready (core h (totals_in numbers) deques frames pool) × (at + 8 ≤ length tape)) where
   -- model::record::decode asks
   pub needs-1 : at + 8 ≤ length tape
-  needs-1 = ok.3
+  needs-1 = ok.2
 
   module _
       -- model::record::decode(tape, at)
@@ -36,22 +40,20 @@ module _
         -- engine::records::fields_of(step)
         (r-3 : Fields) (r-3-is : step_by r-3 ≡ step) where
       -- engine::records::take_step asks
-      pub needs-4 : (length numbers ≡ number_count) × Ready (core h (totals_in numbers) deques frames pool) × Recalls (core h (totals_in numbers) deques frames pool) memory
-      needs-4 = (ok.0, ok.1, ok.2)
+      pub needs-4 : (length numbers ≡ number_count) × Ready (core h (totals_in numbers) deques frames pool)
+      needs-4 = (ok.0, ok.1)
 
       module _
-          -- engine::records::take_step(h, numbers, deques, frames, pool, memory, r-3)
-          (r-4 : Visited) (numbers-4 : List ℕ) (deques-4 : List ℕ) (frames-4 : List Frame) (pool-4 : List ℕ) (memory-4 : List ℕ) (r-4-is : (numbers_in numbers-4 ≡ numbers_in numbers) × Leaves h r-4.out (totals_in numbers-4) deques-4 frames-4 pool-4 (step_on two_words (core h (totals_in numbers) deques frames pool) (step_by r-3)) × RemembersRecord (core h (totals_in numbers) deques frames pool) memory (Valid (step_by r-3)) memory-4 r-4.visits) (same-numbers-4 : length numbers-4 ≡ length numbers) (same-deques-4 : length deques-4 ≡ length deques) (same-frames-4 : length frames-4 ≡ length frames) (same-pool-4 : length pool-4 ≡ length pool) (same-memory-4 : length memory-4 ≡ length memory) where
+          -- engine::records::take_step(h, numbers, deques, frames, pool, r-3)
+          (r-4 : Out) (numbers-4 : List ℕ) (deques-4 : List ℕ) (frames-4 : List Frame) (pool-4 : List ℕ) (r-4-is : (numbers_in numbers-4 ≡ numbers_in numbers) × Leaves h r-4 (totals_in numbers-4) deques-4 frames-4 pool-4 (step_on two_words (core h (totals_in numbers) deques frames pool) (step_by r-3))) (same-numbers-4 : length numbers-4 ≡ length numbers) (same-deques-4 : length deques-4 ≡ length deques) (same-frames-4 : length frames-4 ≡ length frames) (same-pool-4 : length pool-4 ≡ length pool) where
         -- a way out: what the function ensures
-        pub out-5 : (numbers_in numbers-4 ≡ numbers_in numbers) × Leaves h r-4.out (totals_in numbers-4) deques-4 frames-4 pool-4 (record_on two_words (core h (totals_in numbers) deques frames pool) (decode_at tape at)) × RemembersRecord (core h (totals_in numbers) deques frames pool) memory (decode_at tape at) memory-4 r-4.visits
-        out-5 = let e' : Decoded.Valid (step_by r-3) ≡ decode_at tape at = ap Decoded.Valid r-3-is ∙ sym (sym decoded-is ∙ case-2) in (r-4-is.0, subst (λ (k' : Decoded). Leaves h r-4.out (totals_in numbers-4) deques-4 frames-4 pool-4 (record_on two_words (core h (totals_in numbers) deques frames pool) k')) e' r-4-is.1, subst (λ (k' : Decoded). RemembersRecord (core h (totals_in numbers) deques frames pool) memory k' memory-4 r-4.visits) e' r-4-is.2)
+        pub out-5 : (numbers_in numbers-4 ≡ numbers_in numbers) × Leaves h r-4 (totals_in numbers-4) deques-4 frames-4 pool-4 (record_on two_words (core h (totals_in numbers) deques frames pool) (decode_at tape at))
+        out-5 = (r-4-is.0, record_steps h r-4 (totals_in numbers) deques frames pool (totals_in numbers-4) deques-4 frames-4 pool-4 (decode_at tape at) step (sym decoded-is ∙ case-2) (subst (λ (k' : Step). Leaves h r-4 (totals_in numbers-4) deques-4 frames-4 pool-4 (step_on two_words (core h (totals_in numbers) deques frames pool) k')) r-3-is r-4-is.1))
 
     module _
         (case-2 : decoded ≡ Decoded.Invalid)
         -- engine::kinds::no_record(h)
-        (r-6 : Out) (r-6-is : Answers h r-6 7 0)
-        -- engine::kinds::visited(r-6, 0)
-        (r-7 : Visited) (r-7-is : (r-7.out ≡ r-6) × (r-7.visits ≡ 0)) where
+        (r-6 : Out) (r-6-is : Answers h r-6 7 0) where
       -- a way out: what the function ensures
-      pub out-8 : (numbers_in numbers ≡ numbers_in numbers) × Leaves h r-7.out (totals_in numbers) deques frames pool (record_on two_words (core h (totals_in numbers) deques frames pool) (decode_at tape at)) × RemembersRecord (core h (totals_in numbers) deques frames pool) memory (decode_at tape at) memory r-7.visits
-      out-8 = (refl, subst (λ (k' : Out). Leaves h k' (totals_in numbers) deques frames pool (record_on two_words (core h (totals_in numbers) deques frames pool) (decode_at tape at))) (sym r-7-is.0) (record_refused h r-6 (totals_in numbers) deques frames pool (decode_at tape at) (sym decoded-is ∙ case-2) r-6-is), none_remembers (core h (totals_in numbers) deques frames pool) memory (decode_at tape at) r-7.visits (sym decoded-is ∙ case-2) r-7-is.1)
+      pub out-7 : (numbers_in numbers ≡ numbers_in numbers) × Leaves h r-6 (totals_in numbers) deques frames pool (record_on two_words (core h (totals_in numbers) deques frames pool) (decode_at tape at))
+      out-7 = (refl, record_refused h r-6 (totals_in numbers) deques frames pool (decode_at tape at) (sym decoded-is ∙ case-2) r-6-is)

@@ -1,12 +1,19 @@
 -- The facts of the walk of `engine::returns::end_upward`, for its author to prove. tools/walk wrote the statements, and never writes over this file.
 -- A module's binders are what is known at that point; a `?` is a goal (`rt dev engine --allow-holes` prints each).
-use Rattle.std.proofs.Common.{◌≡◌, ℕ, ◌+◌, ◌-◌, ◌*◌, ◌^◌, ◌<◌, ◌≤◌, Bool, true, false, cond, eqb, List, length, get_or, set, sym, refl, ap, ◌∙◌, subst, arith}
+use mathlib.Core.Path.{◌≡◌, refl, sym, ◌∙◌, ap, subst}
+use Prim.Native.Nat.{ℕ, ◌+◌, ◌-◌, ◌*◌, ◌<◌, ◌≤◌, ◌^◌}
+use mathlib.Core.List.{List}
+use mathlib.Core.Bool.{Bool, true, false}
+use lib.ListN.{length, get_or, set}
+use native.Mathlib.Omega.{arith}
 use Rattle.soundness.specs.Numbers.{numbers_in, totals_in, number_count}
 use Rattle.frames.specs.declared.Returned.TheVariants.{Finished}
 use Rattle.engine.specs.Promises.{core, renewed, Leaves, LeavesEnded, EndsFrom, ends_from}
 use Rattle.frames.specs.Frames.{frame_at}
 use Rattle.pool.specs.Links.{Link}
 use Rattle.packed.specs.Pool.{release}
+use mathlib.Core.Bool.{cond}
+use lib.Dec.{eqb}
 use Rattle.words.specs.Basics.{none}
 use Rattle.reducers.specs.Reducers.{view_words}
 use Rattle.frames.specs.declared.Frame.{Frame}

@@ -6,34 +6,35 @@ use mathlib.Core.List.{List}
 use mathlib.Core.Bool.{Bool, true, false}
 use lib.ListN.{length, get_or, set}
 use native.Mathlib.Omega.{arith}
+use Rattle.semantics.specs.Entries.{tape_on}
 use Rattle.semantics.specs.Promises.{parts}
 use Rattle.lines.specs.Lines.{refused_line, tape_lines, run_lines}
 use Rattle.lines.specs.Output.{StoresUpTo}
+use Rattle.semantics.specs.Entries.{start_on}
+use Rattle.semantics.specs.Promises.{IsStart}
 use Rattle.frames.specs.declared.Frame.{Frame}
 use Rattle.lines.specs.Theory.{more_room}
 use Rattle.lines.proofs.Calls.{run_refused, run-accepted}
 use Rattle.soundness.specs.Layout.{two_words}
-use Rattle.semantics.specs.Promises.{IsStartWith}
-use Rattle.semantics.specs.Remembering.{start_remembering, tape_remembering}
 
 module _
-    (numbers : List ℕ) (deques : List ℕ) (frames : List Frame) (memory : List ℕ) (workers : ℕ) (values : List ℕ) (pool : List ℕ) (work : List ℕ) (records : List ℕ) (answers : List ℕ) (out : List ℕ) (at : ℕ) (numbers-fits : length numbers < 2 ^ 64) (deques-fits : length deques < 2 ^ 64) (frames-fits : length frames < 2 ^ 64) (memory-fits : length memory < 2 ^ 64) (workers-fits : workers < 2 ^ 32) (values-fits : length values < 2 ^ 64) (pool-fits : length pool < 2 ^ 64) (work-fits : length work < 2 ^ 64) (records-fits : length records < 2 ^ 64) (answers-fits : length answers < 2 ^ 64) (out-fits : length out < 2 ^ 64) (at-fits : at < 2 ^ 64)
-    -- lines::calls::splitter_start(numbers, deques, frames, memory, workers, values, pool)
-    (refused : ℕ) (numbers-1 : List ℕ) (deques-1 : List ℕ) (frames-1 : List Frame) (memory-1 : List ℕ) (pool-1 : List ℕ) (refused-fits : refused < 2 ^ 32) (refused-is : IsStartWith (start_remembering two_words (parts numbers deques frames) memory workers values pool) numbers-1 deques-1 frames-1 memory-1 pool-1 refused) (same-numbers-1 : length numbers-1 ≡ length numbers) (same-deques-1 : length deques-1 ≡ length deques) (same-frames-1 : length frames-1 ≡ length frames) (same-memory-1 : length memory-1 ≡ length memory) (same-pool-1 : length pool-1 ≡ length pool) where
+    (numbers : List ℕ) (deques : List ℕ) (frames : List Frame) (workers : ℕ) (values : List ℕ) (pool : List ℕ) (work : List ℕ) (records : List ℕ) (answers : List ℕ) (out : List ℕ) (at : ℕ) (numbers-fits : length numbers < 2 ^ 64) (deques-fits : length deques < 2 ^ 64) (frames-fits : length frames < 2 ^ 64) (workers-fits : workers < 2 ^ 32) (values-fits : length values < 2 ^ 64) (pool-fits : length pool < 2 ^ 64) (work-fits : length work < 2 ^ 64) (records-fits : length records < 2 ^ 64) (answers-fits : length answers < 2 ^ 64) (out-fits : length out < 2 ^ 64) (at-fits : at < 2 ^ 64)
+    -- splitter::calls::splitter_start(numbers, deques, frames, workers, values, pool)
+    (refused : ℕ) (numbers-1 : List ℕ) (deques-1 : List ℕ) (frames-1 : List Frame) (pool-1 : List ℕ) (refused-fits : refused < 2 ^ 32) (refused-is : IsStart (start_on two_words (parts numbers deques frames) workers values pool) numbers-1 deques-1 frames-1 pool-1 refused) (same-numbers-1 : length numbers-1 ≡ length numbers) (same-deques-1 : length deques-1 ≡ length deques) (same-frames-1 : length frames-1 ≡ length frames) (same-pool-1 : length pool-1 ≡ length pool) where
   module _
       (test-2 : refused ≡ 0 → ⊥)
       -- lines::run::put_refused(out, at, refused)
       (r-3 : ℕ) (out-3 : List ℕ) (r-3-fits : r-3 < 2 ^ 64) (r-3-is : StoresUpTo 19 out at (refused_line refused) out-3 r-3) (same-out-3 : length out-3 ≡ length out) where
     -- a way out: what the function ensures
-    pub out-4 : StoresUpTo (11 * length answers + 99) out at (run_lines (parts numbers deques frames) memory workers values pool work records answers) out-3 r-3
-    out-4 = run_refused out at refused (parts numbers deques frames) memory workers values pool work records answers refused-is.call.result test-2 (more_room out at (refused_line refused) (omega arith) r-3-is)
+    pub out-4 : StoresUpTo (11 * length answers + 71) out at (run_lines (parts numbers deques frames) workers values pool work records answers) out-3 r-3
+    out-4 = run_refused out at refused (parts numbers deques frames) workers values pool work records answers refused-is.result test-2 (more_room out at (refused_line refused) (omega arith) r-3-is)
 
   module _
       (test-2 : refused ≡ 0)
-      -- lines::run::run_tape(numbers, deques, frames, memory, pool, work, records, answers, out, at)
-      (r-5 : ℕ) (numbers-5 : List ℕ) (deques-5 : List ℕ) (frames-5 : List Frame) (memory-5 : List ℕ) (pool-5 : List ℕ) (work-5 : List ℕ) (answers-5 : List ℕ) (out-5 : List ℕ) (r-5-fits : r-5 < 2 ^ 64) (r-5-is : StoresUpTo (11 * length answers + 99) out at (tape_lines (tape_remembering two_words (parts numbers-1 deques-1 frames-1) memory-1 pool-1 work records answers)) out-5 r-5) (same-numbers-5 : length numbers-5 ≡ length numbers-1) (same-deques-5 : length deques-5 ≡ length deques-1) (same-frames-5 : length frames-5 ≡ length frames-1) (same-memory-5 : length memory-5 ≡ length memory-1) (same-pool-5 : length pool-5 ≡ length pool-1) (same-work-5 : length work-5 ≡ length work) (same-answers-5 : length answers-5 ≡ length answers) (same-out-5 : length out-5 ≡ length out) where
+      -- lines::run::run_tape(numbers, deques, frames, pool, work, records, answers, out, at)
+      (r-5 : ℕ) (numbers-5 : List ℕ) (deques-5 : List ℕ) (frames-5 : List Frame) (pool-5 : List ℕ) (work-5 : List ℕ) (answers-5 : List ℕ) (out-5 : List ℕ) (r-5-fits : r-5 < 2 ^ 64) (r-5-is : StoresUpTo (11 * length answers + 71) out at (tape_lines (tape_on two_words (parts numbers-1 deques-1 frames-1) pool-1 work records answers)) out-5 r-5) (same-numbers-5 : length numbers-5 ≡ length numbers-1) (same-deques-5 : length deques-5 ≡ length deques-1) (same-frames-5 : length frames-5 ≡ length frames-1) (same-pool-5 : length pool-5 ≡ length pool-1) (same-work-5 : length work-5 ≡ length work) (same-answers-5 : length answers-5 ≡ length answers) (same-out-5 : length out-5 ≡ length out) where
     -- a way out: what the function ensures
-    pub out-6 : StoresUpTo (11 * length answers + 99) out at (run_lines (parts numbers deques frames) memory workers values pool work records answers) out-5 r-5
+    pub out-6 : StoresUpTo (11 * length answers + 71) out at (run_lines (parts numbers deques frames) workers values pool work records answers) out-5 r-5
     out-6 =
-        run-accepted out at refused (parts numbers deques frames) memory workers values pool work records answers refused-is.call.result (parts numbers-1 deques-1 frames-1) memory-1 pool-1
-        test-2 refused-is.call.state refused-is.memory refused-is.call.pool r-5-is
+        run-accepted out at refused (parts numbers deques frames) workers values pool work records answers refused-is.result (parts numbers-1 deques-1 frames-1) pool-1
+        test-2 refused-is.state refused-is.pool r-5-is

@@ -1,18 +1,20 @@
 -- The facts of the walk of `splitter::calls::splitter_start`, for its author to prove. tools/walk wrote the statements, and never writes over this file.
 -- A module's binders are what is known at that point; a `?` is a goal (`rt dev splitter --allow-holes` prints each).
-use mathlib.Core.Path.{◌≡◌}
-use Prim.Native.Nat.{ℕ, ◌<◌, ◌^◌}
+use mathlib.Core.Path.{◌≡◌, refl, sym, ◌∙◌, ap, subst}
+use Prim.Native.Nat.{ℕ, ◌+◌, ◌-◌, ◌*◌, ◌<◌, ◌≤◌, ◌^◌}
 use mathlib.Core.List.{List}
-use lib.ListN.{length}
-use Rattle.semantics.specs.Promises.{parts, IsStartWith}
+use mathlib.Core.Bool.{Bool, true, false}
+use lib.ListN.{length, get_or, set}
+use native.Mathlib.Omega.{arith}
+use Rattle.semantics.specs.Entries.{start_on}
+use Rattle.semantics.specs.Promises.{parts, IsStart}
 use Rattle.frames.specs.declared.Frame.{Frame}
 use Rattle.soundness.specs.Layout.{two_words}
-use Rattle.semantics.specs.Remembering.{start_remembering}
 
 module _
-    (numbers : List ℕ) (deques : List ℕ) (frames : List Frame) (memory : List ℕ) (workers : ℕ) (values : List ℕ) (pool : List ℕ) (numbers-fits : length numbers < 2 ^ 64) (deques-fits : length deques < 2 ^ 64) (frames-fits : length frames < 2 ^ 64) (memory-fits : length memory < 2 ^ 64) (workers-fits : workers < 2 ^ 32) (values-fits : length values < 2 ^ 64) (pool-fits : length pool < 2 ^ 64)
-    -- engine::entries::start(numbers, deques, frames, memory, workers, values, pool)
-    (r-1 : ℕ) (numbers-1 : List ℕ) (deques-1 : List ℕ) (frames-1 : List Frame) (memory-1 : List ℕ) (pool-1 : List ℕ) (r-1-fits : r-1 < 2 ^ 32) (r-1-is : IsStartWith (start_remembering two_words (parts numbers deques frames) memory workers values pool) numbers-1 deques-1 frames-1 memory-1 pool-1 r-1) (same-numbers-1 : length numbers-1 ≡ length numbers) (same-deques-1 : length deques-1 ≡ length deques) (same-frames-1 : length frames-1 ≡ length frames) (same-memory-1 : length memory-1 ≡ length memory) (same-pool-1 : length pool-1 ≡ length pool) where
+    (numbers : List ℕ) (deques : List ℕ) (frames : List Frame) (workers : ℕ) (values : List ℕ) (pool : List ℕ) (numbers-fits : length numbers < 2 ^ 64) (deques-fits : length deques < 2 ^ 64) (frames-fits : length frames < 2 ^ 64) (workers-fits : workers < 2 ^ 32) (values-fits : length values < 2 ^ 64) (pool-fits : length pool < 2 ^ 64)
+    -- engine::entries::start(numbers, deques, frames, workers, values, pool)
+    (r-1 : ℕ) (numbers-1 : List ℕ) (deques-1 : List ℕ) (frames-1 : List Frame) (pool-1 : List ℕ) (r-1-fits : r-1 < 2 ^ 32) (r-1-is : IsStart (start_on two_words (parts numbers deques frames) workers values pool) numbers-1 deques-1 frames-1 pool-1 r-1) (same-numbers-1 : length numbers-1 ≡ length numbers) (same-deques-1 : length deques-1 ≡ length deques) (same-frames-1 : length frames-1 ≡ length frames) (same-pool-1 : length pool-1 ≡ length pool) where
   -- a way out: what the function ensures
-  pub out-2 : IsStartWith (start_remembering two_words (parts numbers deques frames) memory workers values pool) numbers-1 deques-1 frames-1 memory-1 pool-1 r-1
+  pub out-2 : IsStart (start_on two_words (parts numbers deques frames) workers values pool) numbers-1 deques-1 frames-1 pool-1 r-1
   out-2 = r-1-is

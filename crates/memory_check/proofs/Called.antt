@@ -1,4 +1,0 @@
-pub mod size_at
-pub mod bottom_at
-pub mod frame_or_zero
-pub mod row_right
