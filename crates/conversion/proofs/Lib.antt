@@ -2,4 +2,3 @@
 mod Laws
 mod Checks
 mod Ways
-pub mod Called

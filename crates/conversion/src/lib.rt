@@ -1,3 +1,4 @@
+#![tactic(auto)]
 // R-9: the change-over of a sound state in the middle of a search, from a pool of four-word nodes to one of two-word nodes in the front of the same words.
 // It asks nothing of its caller; its contract is an equation with a definition of the crate semantics.
 ghost use Rattle.semantics.specs.Convert.{convert_on, convert_with};

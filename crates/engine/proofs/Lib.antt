@@ -5,7 +5,6 @@ pub mod Steps
 pub mod Ending
 pub mod Turns
 pub mod Passing
-pub mod Called
 pub mod Checks
 pub mod Taping
 pub mod Timing

@@ -1,3 +1,4 @@
+#![tactic(auto)]
 // The engine: a start, a tape, a report, a save and a reading over the state's lent parts, which ask nothing of their callers, and below them the check, a step and a
 // record over lent words. Each contract is an equation with a definition of the crate semantics. What is below the test of the lengths
 // requires them, and what is below the check a sound core, which the check shows.
@@ -23,7 +24,7 @@ pub use numbers::numbers_in;
 pub use tapes::check_number;
 
 // What a step leaves of the numbers that change, and its two answer words.
-#[derive(Drop)]
+#[derive(Clone, Copy)]
 pub struct Out {
     // the first free node
     pub free_node: u32,
@@ -36,7 +37,7 @@ pub struct Out {
 }
 
 // What a turn of a report leaves of the numbers that change, and the work and the span after it.
-#[derive(Drop)]
+#[derive(Clone, Copy)]
 pub struct Turn {
     pub free_node: u32,
     pub free_place: u32,
@@ -46,7 +47,7 @@ pub struct Turn {
 }
 
 // The place of the frame that a worker executes and how many frames the worker has, or the number of the refusal of its step.
-#[derive(Drop)]
+#[derive(Clone, Copy)]
 pub struct Acting {
     pub refused: bool,
     pub refusal: u32,
@@ -55,7 +56,7 @@ pub struct Acting {
 }
 
 // A step's kind, by its number, and what it holds; fields that it has not are 0.
-#[derive(Drop)]
+#[derive(Clone, Copy)]
 pub struct Fields {
     pub kind: u32,
     pub w: u32,

@@ -1,3 +1,4 @@
+#![tactic(auto)]
 // The frames and deques of document 01's soundness, decided on any records and words in time linear in the places.
 mod deques;
 mod links;
@@ -16,7 +17,7 @@ use places::{follow_free, places_sound};
 use tallies::tally_children;
 
 // How many frames live, how many of them have depth 0, and one more than the last place where a frame lives, or 0.
-#[derive(Drop)]
+#[derive(Clone, Copy)]
 pub struct Census {
     pub mains: u32,
     pub live: u32,
@@ -24,7 +25,7 @@ pub struct Census {
 }
 
 // What the check of frames and deques finds.
-#[derive(Drop)]
+#[derive(Clone, Copy)]
 pub enum FramesChecked {
     Bad,
     // sound, with one more than the last place where a frame lives, or 0

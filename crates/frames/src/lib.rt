@@ -1,3 +1,4 @@
+#![tactic(auto)]
 // The frame records and the workers' deques, in lent words; what the steps do to them. The lent words have their exact lengths, so no function tests an
 // index.
 mod deques;
@@ -35,7 +36,7 @@ pub const DEQUE_WORDS: usize = MAX_WORKERS as usize * DEQUE_STRIDE;
 // A frame record. live, suspended and returning are 0 or 1, and a frame that waits in its return is both suspended and returning;
 // parent is the parent's place, none for Main, and for a free place the next free place or none.
 #[repr(C)]
-#[derive(Drop)]
+#[derive(Clone, Copy)]
 pub struct Frame {
     pub live: u32,
     pub parent: u32,
@@ -51,7 +52,7 @@ pub struct Frame {
 }
 
 // How a return went on (document 01's outcomes 0 to 3, and R-3's 4).
-#[derive(Drop)]
+#[derive(Clone, Copy)]
 pub enum Returned {
     // the parent is the bottom now
     Continued,
@@ -66,7 +67,7 @@ pub enum Returned {
 }
 
 // How a sync went on (outcomes 0 and 1).
-#[derive(Drop)]
+#[derive(Clone, Copy)]
 pub enum Synced {
     Passed,
     Suspended,

@@ -4,4 +4,3 @@ pub mod Parts
 pub mod Ends
 pub mod Workers
 pub mod Table
-pub mod Called

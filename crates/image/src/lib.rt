@@ -1,3 +1,4 @@
+#![tactic(auto)]
 // A state and a pool as blocks of bytes, and back: document 02, R-1 and R-3 to R-6. The state's parts are lent and have their exact lengths, so no
 // function tests an index.
 mod accept;
@@ -29,7 +30,7 @@ pub const VERSION_STEP: u32 = 256;
 pub const VERSION: u32 = 4 * VERSION_STEP;
 
 // What an image is found to be.
-#[derive(Drop)]
+#[derive(Clone, Copy)]
 pub enum ImageCheck {
     // 17, "the image is not just as many whole blocks as its first block calls for, or has no whole block"; "A first word of no
     // readable form gives 17."

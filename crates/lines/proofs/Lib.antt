@@ -4,4 +4,3 @@ pub mod Whole
 pub mod Calls
 pub mod Sizes
 pub mod LastLines
-pub mod Called

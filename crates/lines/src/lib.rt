@@ -1,3 +1,4 @@
+#![tactic(auto)]
 // From the bytes of splitrun's input to the bytes of its output (document 01, "The program splitrun and its lines").
 mod input;
 mod run;

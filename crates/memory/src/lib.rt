@@ -1,3 +1,4 @@
+#![tactic(auto)]
 // What each worker remembers (R-10), in lent words: for each worker an entry for each splitter, then a base for each worker. An entry above its worker's base is
 // the base, a leaf's number and one; another remembers none. The lent words have their exact length, so no function tests an index.
 ghost use Rattle.std.specs.Prelude.{◌≡◌, ◌*◌, ◌<◌, length};

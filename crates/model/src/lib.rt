@@ -1,7 +1,8 @@
+#![tactic(auto)]
 pub mod record; // record.rt: a record's bytes to its step
 
 // A step of a worker: one of seven kinds, each with only its own fields (document 01, R-5).
-#[derive(Drop)]
+#[derive(Clone, Copy)]
 pub enum Step {
     Spawn(u32),
     Return(u32),
@@ -13,7 +14,7 @@ pub enum Step {
 }
 
 // What the bytes of a record are: a step, or nothing valid (refusal 7).
-#[derive(Drop)]
+#[derive(Clone, Copy)]
 pub enum Decoded {
     Valid(Step),
     Invalid,

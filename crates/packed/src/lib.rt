@@ -1,3 +1,4 @@
+#![tactic(auto)]
 // The pool of nodes of two words (R-8), in a lent slice of words. Each contract is an equation with a definition of
 // specs/Pool.antt. A node's words, and the start, are total: what is past the end reads as 0 and is not stored. The operations
 // ask that the nodes on the way are nodes (specs/Links.antt), so that no index is tested.

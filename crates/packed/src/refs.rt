@@ -64,7 +64,7 @@ fn free_tree(pool: &mut [u32], nodes: u32, spare: &mut u32, free: u32, i: u32, l
 }
 
 // What a release leaves: the free list.
-#[derive(Drop)]
+#[derive(Clone, Copy)]
 pub struct Freed {
     pub first: u32,
     pub count: u32,

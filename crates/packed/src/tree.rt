@@ -145,7 +145,7 @@ fn holders_in(pool: &[u32], nodes: u32, i: usize) -> u32
 }
 
 // The first node with more than one holder on the way to a splitter, its level and the node above it. If none is shared, the leaf.
-#[derive(Drop)]
+#[derive(Clone, Copy)]
 pub struct FirstShared {
     pub shared: bool,
     pub level: u32,
@@ -190,7 +190,7 @@ pub fn first_shared(pool: &[u32], nodes: u32, height: u32, root: u32, x: u32) ->
 }
 
 // What a write leaves: the free list, and the frame's root.
-#[derive(Drop)]
+#[derive(Clone, Copy)]
 pub struct Written {
     pub first: u32,
     pub count: u32,

@@ -1,3 +1,2 @@
 -- Laws: the definitions of specs/Algorithm.antt as the code runs them.
 mod Laws
-pub mod Called

@@ -1,3 +1,4 @@
+#![tactic(auto)]
 // The pool part of document 01's soundness, decided in linear time on any words: cycles, wild links, huge counts.
 // A contract is an equation with a definition of specs/, on all inputs; only the functions that walk the trees require room for the
 // nodes, which in_bounds tests first.
@@ -18,7 +19,7 @@ use trees::visit_places;
 pub use work::clear;
 
 // What the check of the pool finds.
-#[derive(Drop)]
+#[derive(Clone, Copy)]
 pub enum PoolChecked {
     Bad,
     // sound, with this many free nodes

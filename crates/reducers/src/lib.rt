@@ -1,3 +1,4 @@
+#![tactic(auto)]
 // The reducers of document 02's R-5, each a type with its identity and the join of two views; a frame's view has one of each. Joined, the
 // earlier one stands on the left.
 ghost use Rattle.std.specs.Prelude.{◌≡◌};
@@ -5,21 +6,21 @@ ghost use Rattle.reducers.specs.Reducers.{join_sum, join_min, join_affine, ident
 
 // 0, the sum modulo 4,294,967,296.
 #[repr(C)]
-#[derive(Drop)]
+#[derive(Clone, Copy)]
 pub struct Sum {
     pub value: u32,
 }
 
 // 1, the minimum.
 #[repr(C)]
-#[derive(Drop)]
+#[derive(Clone, Copy)]
 pub struct Min {
     pub value: u32,
 }
 
 // 2, the affine map, multiply then add, modulo 4,294,967,296.
 #[repr(C)]
-#[derive(Drop)]
+#[derive(Clone, Copy)]
 pub struct Affine {
     pub multiplier: u32,
     pub addend: u32,
@@ -27,7 +28,7 @@ pub struct Affine {
 
 // What a frame has folded, of each reducer.
 #[repr(C)]
-#[derive(Drop)]
+#[derive(Clone, Copy)]
 pub struct View {
     pub sum: Sum,
     pub min: Min,

@@ -1,9 +1,10 @@
+#![tactic(auto)]
 // The types of answers and refusals, and the numbers that steps work on.
 use frames::{Returned, Synced};
 use soundness::Numbers;
 
 // The state's numbers while steps run, with the tree's height and the number of free nodes.
-#[derive(Drop)]
+#[derive(Clone, Copy)]
 pub struct Head {
     pub numbers: Numbers,
     pub height: u32,
@@ -11,7 +12,7 @@ pub struct Head {
 }
 
 // What an accepted step answers.
-#[derive(Drop)]
+#[derive(Clone, Copy)]
 pub enum Done {
     // the child's depth
     Spawned(u32),
@@ -27,7 +28,7 @@ pub enum Done {
 }
 
 // Document 01's refusals, 1 to 16 without 14, which no longer occurs (R-3), document 02's, 17 to 22, and the entries' own, 99.
-#[derive(Drop)]
+#[derive(Clone, Copy)]
 pub enum Refusal {
     Values,
     Workers,
@@ -59,7 +60,7 @@ pub enum Refusal {
 }
 
 // The answer to one step or record.
-#[derive(Drop)]
+#[derive(Clone, Copy)]
 pub enum Answer {
     Accepted(Done),
     Refused(Refusal),
@@ -67,7 +68,7 @@ pub enum Answer {
 
 // R-7: the ends that a return begins: when the last of them is, where the parent of the frame that ended last is (none: it was Main), and whether that parent
 // passes its sync.
-#[derive(Drop)]
+#[derive(Clone, Copy)]
 pub struct Rise {
     pub place: u32,
     pub passes: bool,

@@ -84,15 +84,13 @@ module _ (n H : ℕ) where
       e = omega arith
 
   level_go : (c l g : ℕ) → H - c ≤ l → c ≤ H → l ≤ H → g < width n l → level_of n H c (first n H l + g) ≡ l
-  unfolding level_of
+  unfolding level_of level_at
   level_go zero l g h hc hl b = omega arith
   level_go (suc c) l g h hc hl b = go (dec_le (first n H (H - suc c)) (first n H l + g)) (λ q. level_go c l g q (omega arith) hl b)
     where
       go : (d : Dec (first n H (H - suc c) ≤ first n H l + g)) → (H - c ≤ l → level_of n H c (first n H l + g) ≡ l) → level_at d (H - suc c) (level_of n H c (first n H l + g)) ≡ l
-      go d = unfold level_at in elim d [
-        | yes p ↦ (λ r. elim (ℕ_discrete (H - suc c) l) [ yes e ↦ e | no e ↦ absurd (omega (arith, first_lt (H - suc c) l (omega arith) hl)) ])
-        | no p ↦ (λ r. r (elim (ℕ_discrete (H - suc c) l) [ yes e ↦ absurd (omega (arith, ap (first n H) e)) | no e ↦ omega arith ]))
-      ]
+      go (yes p) r = elim (ℕ_discrete (H - suc c) l) [ yes e ↦ e | no e ↦ absurd (omega (arith, first_lt (H - suc c) l (omega arith) hl)) ]
+      go (no p) r = r (elim (ℕ_discrete (H - suc c) l) [ yes e ↦ absurd (omega (arith, ap (first n H) e)) | no e ↦ omega arith ])
 
   pub level_is : (l g : ℕ) → l ≤ H → g < width n l → level_of n H H (first n H l + g) ≡ l
   level_is l g hl b = level_go H l g (omega arith) (omega arith) hl b

@@ -1,3 +1,4 @@
+#![tactic(auto)]
 // The split tree's measures for n splitters: its height, the nodes of a level, all its nodes.
 ghost use Rattle.std.specs.Prelude.{◌≡◌};
 ghost use Rattle.sizes.specs.Sizes.{height, width, tree_nodes};

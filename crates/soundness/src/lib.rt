@@ -1,7 +1,8 @@
+#![tactic(auto)]
 // The types that the soundness of a state and a pool is said with: the state's numbers, and what a check finds.
 
 // The state's numbers, in the order of document 02's image.
-#[derive(Drop)]
+#[derive(Clone, Copy)]
 pub struct Numbers {
     pub workers: u32,
     pub splitters: u32,
@@ -15,7 +16,7 @@ pub struct Numbers {
 }
 
 // What the check finds.
-#[derive(Drop)]
+#[derive(Clone, Copy)]
 pub enum Checked {
     // the work slice has fewer words than the recorded nodes
     NoRoom,

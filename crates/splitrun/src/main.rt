@@ -1,3 +1,4 @@
+#![tactic(auto)]
 // Reads splitrun's input (document 01) from standard input, and writes its lines to standard output. An input of more than
 // 17,416 bytes is unfit, so the bytes past the buffer do not matter.
 use libc::{STDIN_FILENO, STDOUT_FILENO};

@@ -1,3 +1,4 @@
+#![tactic(auto)]
 // The entries of a host in C, Rust (host/include/splitter.h, host/rust) or Rattle: numbers, and lent slices of words, bytes
 // and frame records. Nothing is kept between calls, and no function asks anything of its caller.
 mod calls;

@@ -1,3 +1,4 @@
+#![tactic(auto)]
 // R-7: the clocks of a run, two 64-bit words for each place of the frame table, in a lent slice: what a step does to them, and the report's words. Each contract is an
 // equation with a definition of the crate semantics (Timing, Report).
 mod clocks;
@@ -9,7 +10,7 @@ pub use ends::rise_of;
 pub use turns::{bottom_of, time_data, time_first, turn_end};
 
 // Work and span.
-#[derive(Drop)]
+#[derive(Clone, Copy)]
 pub struct Tally {
     pub work: u64,
     pub span: u64,

@@ -1,3 +1,4 @@
+#![tactic(auto)]
 // Total reads and stores of lent words and bytes: what is past the end reads as 0 and is not stored.
 ghost use Rattle.std.specs.Prelude.{◌≡◌, ◌-◌, ◌≤◌, ◌++◌, length, drop, replicate, slice_index, slice_set};
 ghost use Rattle.words.specs.Basics.{plus, minus, times};

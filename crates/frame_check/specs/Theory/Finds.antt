@@ -103,6 +103,6 @@ module _ (workers first : ℕ) (ds : List ℕ) (fs : List Frame) (few : length f
         within = λ w b. (s.fits w b).0;
         zeros = λ w b k l c. (s.fits w b).1.1 k c l;
         child_of_above = λ w b k c. (inner w b k c).0;
-        only_below_lem = only_below_lem;
+        only_below = only_below_lem;
         places = places_of fs first (s.chained.within, each_place);
       }

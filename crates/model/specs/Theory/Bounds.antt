@@ -42,6 +42,12 @@ sized_successor n nodes places q R sync ok k f (here e) = rw e k
 sized_successor n nodes places q R (read x) ok k f (here e) = rw e k
 sized_successor n nodes places q R (fold x y) ok k f (here e) = rw e k
 sized_successor n nodes places q R (write x v) ok k f (here e) = rw e (sized_written n q x v ok.0 k)
+sized_successor n nodes places q R spawn ok k f (there (there x11)) = elim x11 [ ]
+sized_successor n nodes places q R return ok k f (there x8) = elim x8 [ ]
+sized_successor n nodes places q R sync ok k f (there x9) = elim x9 [ ]
+sized_successor n nodes places q R (read x) ok k f (there x11) = elim x11 [ ]
+sized_successor n nodes places q R (write x v) ok k f (there x12) = elim x12 [ ]
+sized_successor n nodes places q R (fold x y) ok k f (there x13) = elim x13 [ ]
 
 few_acted : (n nodes places : ℕ) (q : Frame) (a : Action) (R : List Frame) → Allowed n nodes places q R a → length (q ∷ R) ≤ places → length (successors q a ++ R) ≤ places
 few_acted n nodes places q spawn R ok h = ok

@@ -161,3 +161,10 @@ became q sync false c u (here e) = record { whose = inl (ap (λ z. z.name) e); w
 became q (read x) busy c u (here e) = became_as q (read x) busy c u (ticked c) e refl refl
 became q (write x v) busy c u (here e) = became_as q (write x v) busy c u (ticked c) e refl refl
 became q (fold x v) busy c u (here e) = became_as q (fold x v) busy c u (ticked c) e refl refl
+became q spawn busy c u (there (there x9)) = elim x9 [ ]
+became q return busy c u (there x6) = elim x6 [ ]
+became q sync false c u (there x8) = elim x8 [ ]
+became q sync true c u (there x9) = elim x9 [ ]
+became q (read x) busy c u (there x9) = elim x9 [ ]
+became q (write x v) busy c u (there x10) = elim x10 [ ]
+became q (fold x v) busy c u (there x11) = elim x11 [ ]

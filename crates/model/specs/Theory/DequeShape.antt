@@ -180,6 +180,12 @@ successors-names q sync c (here e) = inl (ap (λ z. z.name) e)
 successors-names q (read x) c (here e) = inl (ap (λ z. z.name) e)
 successors-names q (fold x y) c (here e) = inl (ap (λ z. z.name) e)
 successors-names q (write x v) c (here e) = inl (ap (λ z. z.name) e)
+successors-names q spawn c (there (there x9)) = elim x9 [ ]
+successors-names q return c (there x6) = elim x6 [ ]
+successors-names q sync c (there x7) = elim x7 [ ]
+successors-names q (read x) c (there x9) = elim x9 [ ]
+successors-names q (write x v) c (there x10) = elim x10 [ ]
+successors-names q (fold x y) c (there x11) = elim x11 [ ]
 
 pub only_spawn : (L L' : List Frame) (q : Frame) (d : List Frame) → ((c : Frame) → In c L' → ((b : Frame) × In b L × (b.name ≡ c.name)) ⊎ (c.name ≡ suc q.spawned ∷ q.name))
     → ((x : Frame) → In x d → x.name ≢ q.name) → OnlyChild L nothing (q ∷ d) → OnlyChild L' (λ r. r ≡ suc q.spawned ∷ q.name) (after_spawn q ∷ d)

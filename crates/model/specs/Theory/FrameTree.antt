@@ -51,6 +51,12 @@ new_parent q sync R f (here d) k p e = inr (ap (λ z. z.name) (sym d) ∙ e)
 new_parent q (read x) R f (here d) k p e = inr (ap (λ z. z.name) (sym d) ∙ e)
 new_parent q (fold x y) R f (here d) k p e = inr (ap (λ z. z.name) (sym d) ∙ e)
 new_parent q (write x v) R f (here d) k p e = inr (ap (λ z. z.name) (sym d) ∙ e)
+new_parent q spawn R f (there (there x11)) k p e = elim x11 [ ]
+new_parent q return R f (there x7) k p e = elim x7 [ ]
+new_parent q sync R f (there x8) k p e = elim x8 [ ]
+new_parent q (read x) R f (there x10) k p e = elim x10 [ ]
+new_parent q (write x v) R f (there x11) k p e = elim x11 [ ]
+new_parent q (fold x y) R f (there x12) k p e = elim x12 [ ]
 
 rooted_acted : (q : Frame) (a : Action) (R : List Frame) → Rooted (q ∷ R) → Rooted (successors q a ++ R)
 rooted_acted q a R r f m k p e =

@@ -47,6 +47,12 @@ past_successor q sync v k g (here e) = rw e k
 past_successor q (read x) v k g (here e) = rw e k
 past_successor q (fold x y) v k g (here e) = rw e k
 past_successor q (write x y) v k g (here e) = rw e (record { own = λ i d. omega (arith, k.own i d); others = k.others })
+past_successor q spawn v k g (there (there x10)) = elim x10 [ ]
+past_successor q return v k g (there x7) = elim x7 [ ]
+past_successor q sync v k g (there x8) = elim x8 [ ]
+past_successor q (read x) v k g (there x10) = elim x10 [ ]
+past_successor q (write x y) v k g (there x11) = elim x11 [ ]
+past_successor q (fold x y) v k g (there x12) = elim x12 [ ]
 
 -- ---- a new write
 
@@ -71,6 +77,12 @@ old_or_new q sync v f (here e) m = inl (subst (λ z. In v z.history) e m)
 old_or_new q (read x) v f (here e) m = inl (subst (λ z. In v z.history) e m)
 old_or_new q (fold x y) v f (here e) m = inl (subst (λ z. In v z.history) e m)
 old_or_new q (write x y) v f (here e) m = elim (In-cons (subst (λ z. In v z.history) e m)) [ inl d ↦ inr (x, y, refl, d) | inr i ↦ inl i ]
+old_or_new q spawn v f (there (there x11)) m = elim x11 [ ]
+old_or_new q return v f (there x7) m = elim x7 [ ]
+old_or_new q sync v f (there x8) m = elim x8 [ ]
+old_or_new q (read x) v f (there x10) m = elim x10 [ ]
+old_or_new q (write x y) v f (there x11) m = elim x11 [ ]
+old_or_new q (fold x y) v f (there x12) m = elim x12 [ ]
 
 marks_acted : (q : Frame) (a : Action) (R : List Frame) → Disjoint (q ∷ R) → MarkInvariant (q ∷ R) → MarkInvariant (successors q a ++ R)
 marks_acted q a R c k f m v mv g n = elim (In-cases (successors q a) m) [

@@ -111,6 +111,12 @@ successors_owned q sync g r (here e) o = rw e at o
 successors_owned q (read x) g r (here e) o = rw e at o
 successors_owned q (fold x y) g r (here e) o = rw e at o
 successors_owned q (write x v) g r (here e) o = rw e at o
+successors_owned q spawn g r (there (there x11)) o = elim x11 [ ]
+successors_owned q return g r (there x7) o = elim x7 [ ]
+successors_owned q sync g r (there x8) o = elim x8 [ ]
+successors_owned q (read x) g r (there x10) o = elim x10 [ ]
+successors_owned q (write x v) g r (there x11) o = elim x11 [ ]
+successors_owned q (fold x y) g r (there x12) o = elim x12 [ ]
 
 pub disjoint_acted : (q : Frame) (a : Action) (R : List Frame) → Disjoint (q ∷ R) → Disjoint (successors q a ++ R)
 disjoint_acted q spawn R c = (

@@ -47,6 +47,7 @@ between c n r (x ∷ xs) ys o d i u =
 
 -- before a child of p stands none, if all there are below it
 first-child : (j : ℕ) (p : Name) (ns : List Name) → UnderUntil (j ∷ p) ns → (js : List Name) × (children_of p ns ≡ (j ∷ p) ∷ js)
+first-child j p [] u = elim u [ ]
 first-child j p (n ∷ ns) u =
     elim (decided (is_child p n)) [
       | inl t ↦ (children_of p ns, children_cons p n ns t ∙ ap (λ z. z ∷ children_of p ns) (it (of_child p n t)))

@@ -46,6 +46,7 @@ PostOrder (n ∷ ns) = Placed n ns × PostOrder ns
 pub until_in : (p : Name) (ns : List Name) → UnderUntil p ns → In p ns
 until_in p (n ∷ ns) (inl e) = here (sym e)
 until_in p (n ∷ ns) (inr u) = there (until_in p ns u.1)
+until_in p [] x' = elim x' [ ]
 
 pub until_head : (p n : Name) (ns : List Name) → UnderUntil p (n ∷ ns) → Under n p
 until_head p n ns (inl e) = subst (Under n) e (under_same n)
@@ -108,6 +109,7 @@ post_main xs (y ∷ ys) o = absurd ((post_suffix xs ([] ∷ y ∷ ys) o).0.after
 until_filter : (s : Name → Bool) (p : Name) (ns : List Name) → s p ≡ true → UnderUntil p ns → UnderUntil p (filter s ns)
 until_filter s p (n ∷ ns) h (inl e) = rw (ap s e ∙ h) (inl e)
 until_filter s p (n ∷ ns) h (inr u) = elim (decided (s n)) [ inl t ↦ rw t (inr (u.0, until_filter s p ns h u.1)) | inr t ↦ rw t (until_filter s p ns h u.1) ]
+until_filter s p [] h x'' = elim x'' [ ]
 
 pub post_filter : (s : Name → Bool) (ns : List Name) → ((k : ℕ) (p : Name) → In (k ∷ p) ns → s (k ∷ p) ≡ true → s p ≡ true) → PostOrder ns → PostOrder (filter s ns)
 post_filter s [] h o = tt
@@ -161,6 +163,7 @@ module _ (q : Frame) where
         | inl t ↦ rw t (inr (inr (subst (λ z. Under z p) (same_eq n q.name t) u.0), inr u))
         | inr t ↦ rw t (inr (u.0, until_spawn p ns u.1))
       ]
+  until_spawn p [] x' = elim x' [ ]
 
   -- the child, new, just before its parent
   post_spawn : (ns : List Name) → (In c ns → ⊥) → PostOrder ns → PostOrder (names_acted q spawn ns)

@@ -184,6 +184,12 @@ counts_acted q a R s c k f m = elim (In-cases (successors q a) m) [ inl i ↦ ne
     new (read x) (here e) = rw e own
     new (write x y) (here e) = rw e own
     new (fold x y) (here e) = rw e own
+    new spawn (there (there x9)) = elim x9 [ ]
+    new return (there x6) = elim x6 [ ]
+    new sync (there x7) = elim x7 [ ]
+    new (read x) (there x9) = elim x9 [ ]
+    new (write x y) (there x10) = elim x10 [ ]
+    new (fold x y) (there x11) = elim x11 [ ]
 
 -- ---- a run
 

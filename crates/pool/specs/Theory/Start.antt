@@ -269,7 +269,7 @@ module _ (N H n : ℕ) (small : N ≤ none) (some : 0 < n) (cover : n ≤ 2 ^ H)
   -- ---- the walk to a splitter meets the node of its group
 
   child-start : (l y : ℕ) → l < H → y < n → child ws (node n H (suc l) (y / 2 ^ suc l)) (bit l y) ≡ node n H l (y / 2 ^ l)
-  unfolding child bit
+  unfolding child bit side
   child-start l y h b = go (y / 2 ^ l % 2) refl
     where
       g : ℕ
@@ -279,11 +279,10 @@ module _ (N H n : ℕ) (small : N ≤ none) (some : 0 < n) (cover : n ≤ 2 ^ H)
       in_g = div_in n (suc l) y b
 
       go : (t : ℕ) → y / 2 ^ l % 2 ≡ t → side t (left ws (node n H (suc l) (y / 2 ^ suc l))) (right ws (node n H (suc l) (y / 2 ^ suc l))) ≡ node n H l (y / 2 ^ l)
-      go t = unfold side in elim t [
-        | zero ↦ (λ e. (S.inner l g h in_g).left_is ∙ omega (arith, half l y))
-        | suc t' ↦ (λ e. (let q : 2 * g + 1 ≡ y / 2 ^ l = omega (arith, half l y) in
-            to_right l g h in_g (subst (λ c. c * 2 ^ l < n) (sym q) (div_in n l y b)) ∙ ap (node n H l) q))
-      ]
+      go zero e = (S.inner l g h in_g).left_is ∙ ap (node n H l) (omega (arith, half l y))
+      go (suc t') e =
+          let q : 2 * g + 1 ≡ y / 2 ^ l = omega (arith, half l y) in
+          to_right l g h in_g (subst (λ c. c * 2 ^ l < n) (sym q) (div_in n l y b)) ∙ ap (node n H l) q
 
   walk_from : (k l y : ℕ) → k ≤ l → l ≤ H → y < n → walk k l ws (node n H l (y / 2 ^ l)) y ≡ node n H k (y / 2 ^ k)
   walk_from k zero y h hl b = walk_here k 0 ws (node n H 0 (y / 2 ^ 0)) y (omega arith) ∙ (let e : 0 ≡ k = omega arith in ap (λ q. node n H q (y / 2 ^ q)) e)

@@ -21,18 +21,20 @@ unfoldable pub update : (ℕ → ℕ) → ℕ → ℕ → ℕ → ℕ
 update f k x j = update_at f k x j (ℕ_discrete j k)
 
 pub update_same : (f : ℕ → ℕ) (k x : ℕ) → update f k x k ≡ x
-unfolding update
+unfolding update update_at
 update_same f k x = go (ℕ_discrete k k)
   where
     go : (d : Dec (k ≡ k)) → update_at f k x k d ≡ x
-    go d = unfold update_at in elim d [ yes e ↦ refl | no e ↦ absurd (e refl) ]
+    go (yes e) = refl
+    go (no e) = absurd (e refl)
 
 pub update_other : (f : ℕ → ℕ) (k x j : ℕ) → j ≢ k → update f k x j ≡ f j
-unfolding update
+unfolding update update_at
 update_other f k x j o = go (ℕ_discrete j k)
   where
     go : (d : Dec (j ≡ k)) → update_at f k x j d ≡ f j
-    go d = unfold update_at in elim d [ yes e ↦ absurd (o e) | no e ↦ refl ]
+    go (yes e) = absurd (o e)
+    go (no e) = refl
 
 -- a free node that nothing links to may have any labels
 pub inv_relabel : {N H : ℕ} {level size : ℕ → ℕ} {ws : List ℕ} {free : ℕ} {fs : List ℕ} {c : ℕ} {E : List ℕ} → Invariant N H level size ws free fs c E

@@ -152,6 +152,6 @@ module _ (layout : Layout) where
       within = deque_short;
       zeros = R.formed.shaped.zeros;
       child_of_above = child_of_above;
-      only_below_lem = only_below_lem;
+      only_below = only_below_lem;
       places = free_places_lem layout R;
     }

@@ -102,7 +102,7 @@ pub record FramesFacts (workers first : ℕ) (ds : List ℕ) (fs : List Frame) :
   pub within : (w : ℕ) → w < max_workers → size ds w ≤ length fs
   pub zeros : (w : ℕ) → w < max_workers → (k : ℕ) → size ds w ≤ k → k < deque_places → place ds w k ≡ 0
   pub child_of_above : (w : ℕ) → w < max_workers → (k : ℕ) → suc k < size ds w → (frame_at fs (place ds w (suc k))).parent ≡ place ds w k
-  pub only_below_lem : (w : ℕ) → w < max_workers → (k : ℕ) → suc k < size ds w → (c : ℕ) → c < length fs → Lives fs c → (frame_at fs c).parent ≡ place ds w (suc k)
+  pub only_below : (w : ℕ) → w < max_workers → (k : ℕ) → suc k < size ds w → (c : ℕ) → c < length fs → Lives fs c → (frame_at fs c).parent ≡ place ds w (suc k)
       → (suc (suc k) < size ds w) × (c ≡ place ds w (suc (suc k)))
   pub places : PlacesFree fs first
 
