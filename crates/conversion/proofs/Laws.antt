@@ -8,7 +8,7 @@ use lib.Seq.{take-add, drop-drop, get_or-drop, sets, sets-eq, set_at, append_sno
 use Rattle.pool.specs.Pool as Four
 use Rattle.packed.specs.Pool as Two
 use Rattle.packed.specs.Pack.{packed_content, packed_from, converted}
-use Rattle.packed.specs.Theory.Pack.{length_from, front-converted, converted_remaining, converted_beyond, length-converted}
+use Rattle.packed.proofs.Theory.Pack.{length_from, front-converted, converted_remaining, converted_beyond, length-converted}
 use Rattle.conversion.specs.Promises.{node_packed}
 
 -- one node more

@@ -18,8 +18,8 @@ use Rattle.packed.specs.Pack.{converted}
 use Rattle.semantics.specs.Entries.{State, fits, numbers_of, is_sound, chain_free}
 use Rattle.semantics.specs.Convert.{ConvertResult, convert_checked, convert_with, convert_on}
 use Rattle.semantics.specs.Promises.{parts, IsConvert}
-use Rattle.semantics.specs.Theory.Images.{sound_room}
-use Rattle.semantics.specs.Theory.WorkSlice.{no_room_keeps}
+use Rattle.semantics.proofs.Theory.Images.{sound_room}
+use Rattle.semantics.proofs.Theory.WorkSlice.{no_room_keeps}
 use Rattle.engine.specs.Promises.{check_number}
 use Rattle.conversion.specs.Promises.{IsOldCheck}
 

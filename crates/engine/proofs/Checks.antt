@@ -26,7 +26,7 @@ use Rattle.packed_check.specs.declared.PoolChecked.TheVariants.{Bad, Good}
 use Rattle.pool_check.specs.Algorithm.{DeadFrom}
 use Rattle.semantics.specs.Entries.{checked_state}
 use Rattle.semantics.specs.Promises.{parts}
-use Rattle.semantics.specs.Theory.WorkSlice.{checked_room}
+use Rattle.semantics.proofs.Theory.WorkSlice.{checked_room}
 
 -- of the four parts of soundness the first and the third fail, or the second
 unsound_tables : (a b c d : Bool) → a && c ≡ false → a && (b && (c && d)) ≡ false

@@ -18,7 +18,7 @@ use Rattle.frames.specs.declared.Returned.TheVariants.{Continued, Finished, Wait
 use Rattle.frames.specs.Frames.{frame_at}
 use Rattle.frames.specs.Deques.{size, bottom, pop}
 use Rattle.frames.specs.Steps.{Table, end_frame, ends_too}
-use Rattle.frames.specs.Theory.Ends.{length_end}
+use Rattle.frames.proofs.Theory.Ends.{length_end}
 use Rattle.frames.specs.Ranges.{EndsIn}
 use Rattle.frames.specs.Promises.{Waits, GoesOn}
 use Rattle.model.specs.declared.Step.TheVariants.{Return}

@@ -17,7 +17,7 @@ use Rattle.frames.specs.Widths.{max_workers, max_places, deque_places, deque_wor
 use Rattle.frames.specs.declared.Frame.{Frame}
 use Rattle.frames.specs.Frames.{frame_at}
 use Rattle.frames.specs.Deques.{size, bottom, top, pop}
-use Rattle.frames.specs.Theory.Sizes.{length-pop, size-pop}
+use Rattle.frames.proofs.Theory.Sizes.{length-pop, size-pop}
 use Rattle.frames.specs.Ranges.{Acts, ParentOf, ParentCounts}
 use Rattle.semantics.specs.declared.Head.{Head}
 use Rattle.semantics.specs.declared.Refusal.{Refusal}

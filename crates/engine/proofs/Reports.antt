@@ -21,14 +21,14 @@ use Rattle.semantics.specs.Promises.{parts, lent, Fits, IsStart, IsTape, IsRepor
 use Rattle.semantics.specs.Ranges.{Kept}
 use Rattle.semantics.specs.Report.{ReportResult, report_words, report_refused, report_done, report_started, timing_of, report_with, report_on}
 use Rattle.semantics.specs.Timing.{Timing, timing_at_start, timed_over}
-use Rattle.semantics.specs.Theory.TimedWords.{started_checked, started_fits, at_most_start}
+use Rattle.semantics.proofs.Theory.TimedWords.{started_checked, started_fits, at_most_start}
 use Rattle.timing.specs.Turns.{timing}
 use Rattle.engine.specs.Promises.{IsCheck, IsRun, check_number, free_in, refusal_by, start_tests, report_tests}
 use Rattle.engine.proofs.Steps.{refusal-some}
 use Rattle.engine.proofs.Starts.{start_refused_lem, start_taken}
 use Rattle.engine.proofs.Taping.{found_sound, fit_answers, tape_done_lem}
 use Rattle.soundness.specs.Layout.{two_words}
-use Rattle.semantics.specs.Theory.TwoPools.{two_pools}
+use Rattle.semantics.proofs.Theory.TwoPools.{two_pools}
 
 -- ---- the refusals before anything changes
 

@@ -18,21 +18,21 @@ use Rattle.soundness.specs.declared.Checked.{Checked}
 use Rattle.soundness.specs.declared.Checked.TheVariants.{NoRoom, Sound}
 use Rattle.soundness.specs.Numbers.{numbers_in, totals_in, number_count}
 use Rattle.soundness.specs.Soundness.{sound, count_of_free, checked, cleared}
-use Rattle.soundness.specs.Theory.Sentences.{few_places}
+use Rattle.soundness.proofs.Theory.Sentences.{few_places}
 use Rattle.image.specs.declared.ImageCheck.{ImageCheck}
 use Rattle.image.specs.declared.ImageCheck.TheVariants.{WrongLength, WrongCheck}
 use Rattle.image.specs.Image.{Lengths, IsRead, image_of, image_bytes, image_check, node_count, nodes_in, places_in, number_words_in, pool_in, stored}
-use Rattle.image.specs.Theory.Promises.{parts_lengths, same_nodes, same_places, pool_length}
+use Rattle.image.proofs.Theory.Promises.{parts_lengths, same_nodes, same_places, pool_length}
 use Rattle.semantics.specs.declared.Refusal.TheVariants.{Work, Target}
 use Rattle.semantics.specs.Answers.{refusal_number}
 use Rattle.semantics.specs.Entries.{State, zeros, is_sound, whole_nodes}
 use Rattle.semantics.specs.Images.{SaveResult, saved_bytes, save_checked, save_with, LoadResult, state_in, pool_with, records_zero, nodes_zero, load_refused, load_read, load_checked, load_with}
 use Rattle.semantics.specs.Promises.{parts, Fits, IsSave, IsLoad}
-use Rattle.semantics.specs.Theory.WorkSlice.{checked_room, no_room_keeps}
-use Rattle.semantics.specs.Theory.Images.{sound_numbers}
+use Rattle.semantics.proofs.Theory.WorkSlice.{checked_room, no_room_keeps}
+use Rattle.semantics.proofs.Theory.Images.{sound_numbers}
 use Rattle.engine.specs.Promises.{IsCheck, check_number, image_number, IsRechecked, IsLoading}
 use Rattle.soundness.specs.Layout.{two_words}
-use Rattle.image.specs.Theory.Version.{two_version}
+use Rattle.image.proofs.Theory.Version.{two_version}
 
 -- ---- the number of a test's refusal, or 0
 

@@ -12,7 +12,7 @@ use Rattle.words.specs.Tests.{decided}
 use Rattle.packed.specs.Pool.{read_at, retain, set_value, first_shared, rest, write_from, write}
 use Rattle.packed.specs.Links.{IsShared, Wrote}
 use Rattle.reducers.specs.Reducers.{fold_view}
-use Rattle.frames.specs.Theory.Records.{root_kept}
+use Rattle.frames.proofs.Theory.Records.{root_kept}
 use Rattle.frames.specs.declared.Frame.{Frame}
 use Rattle.frames.specs.declared.Synced.{Synced}
 use Rattle.frames.specs.Frames.{frame_at, set_frame, with_root, with_view}

@@ -19,9 +19,9 @@ use Rattle.semantics.specs.Answers.{refusal_number}
 use Rattle.semantics.specs.Entries.{State, state_of, head_of, core_of, TapeResult, tape_checked, tape_with, unfit_tape, RecordsResult, records_result, records_from, run_on, records_of}
 use Rattle.semantics.specs.Promises.{parts, Fits, IsTape}
 use Rattle.semantics.specs.Ranges.{Kept}
-use Rattle.semantics.specs.Theory.Fitting.{state_back, totals_long}
-use Rattle.semantics.specs.Theory.WorkSlice.{no_room_keeps}
-use Rattle.semantics.specs.Theory.Kept.{kept_start}
+use Rattle.semantics.proofs.Theory.Fitting.{state_back, totals_long}
+use Rattle.semantics.proofs.Theory.WorkSlice.{no_room_keeps}
+use Rattle.semantics.proofs.Theory.Kept.{kept_start}
 use Rattle.engine.specs.Promises.{core, renewed, IsCheck, IsRun, check_number, free_in}
 use Rattle.engine.proofs.NumberWords.{words-after}
 use Rattle.engine.proofs.Turns.{kept_head}

@@ -28,17 +28,17 @@ use Rattle.semantics.specs.Core.{Core, StepResult, idle, no_worker, all_idle, ju
 use Rattle.semantics.specs.Entries.{RecordsResult, records_result, records_from, records_of, record_on, put_answer, run_on}
 use Rattle.semantics.specs.Ranges.{Kept, Ready}
 use Rattle.semantics.specs.Timing.{latest, rise, Timing, costing, ticked, rise_from, timed_with, worker_of, timed_record, timed_over}
-use Rattle.semantics.specs.Theory.Kept.{kept_record}
-use Rattle.semantics.specs.Theory.Ready.{kept_ready}
-use Rattle.semantics.specs.Theory.Refusals.{number_range}
-use Rattle.semantics.specs.Theory.TapeWords.{length_records, put_long, put_before, put_first, put_second}
-use Rattle.semantics.specs.Theory.TimedWords.{AtMost, timed_most, timed_over_most, rise_most, moves_no_deque, deques_kept, timed_ticks, run-core, timed_append}
+use Rattle.semantics.proofs.Theory.Kept.{kept_record}
+use Rattle.semantics.proofs.Theory.Ready.{kept_ready}
+use Rattle.semantics.proofs.Theory.Refusals.{number_range}
+use Rattle.semantics.proofs.Theory.TapeWords.{length_records, put_long, put_before, put_first, put_second}
+use Rattle.semantics.proofs.Theory.TimedWords.{AtMost, timed_most, timed_over_most, rise_most, moves_no_deque, deques_kept, timed_ticks, run-core, timed_append}
 use Rattle.timing.specs.Turns.{timing, kind_at, worker_at, first_at, ticks_over, AllClocked}
 use Rattle.engine.specs.Promises.{core, renewed}
 use Rattle.engine.proofs.Turns.{finish}
 use Rattle.engine.proofs.Taping.{all_records}
 use Rattle.soundness.specs.Layout.{two_words}
-use Rattle.semantics.specs.Theory.TwoPools.{two_pools}
+use Rattle.semantics.proofs.Theory.TwoPools.{two_pools}
 
 -- ---- records in two parts
 

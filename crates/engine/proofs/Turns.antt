@@ -11,12 +11,12 @@ use Rattle.frames.specs.declared.Frame.{Frame}
 use Rattle.semantics.specs.Core.{Core, StepResult}
 use Rattle.semantics.specs.Entries.{RecordsResult, records_result, run_on, record_on, records_from, put_answer}
 use Rattle.semantics.specs.Ranges.{Kept, Ready}
-use Rattle.semantics.specs.Theory.Kept.{kept_record}
-use Rattle.semantics.specs.Theory.Ready.{kept_ready}
+use Rattle.semantics.proofs.Theory.Kept.{kept_record}
+use Rattle.semantics.proofs.Theory.Ready.{kept_ready}
 use Rattle.engine.specs.declared.Out.{Out}
 use Rattle.engine.specs.Promises.{core, renewed, head_after, Leaves}
 use Rattle.soundness.specs.Layout.{two_words}
-use Rattle.semantics.specs.Theory.TwoPools.{two_pools}
+use Rattle.semantics.proofs.Theory.TwoPools.{two_pools}
 
 -- where the loop begins, what is left when a record has been run, and when none is left
 module _ (tape : List ℕ) (n : ℕ) where

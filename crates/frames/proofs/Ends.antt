@@ -8,7 +8,7 @@ use lib.Seq.{get_or-drop, drop-set-add, take-set-le}
 use Rattle.words.specs.Basics.{plus}
 use Rattle.frames.specs.Widths.{deque_stride}
 use Rattle.frames.specs.Deques.{size, set_size, place, set_place, push, pop, shift_up, drop_top}
-use Rattle.frames.specs.Theory.Sizes.{rest_is, rest_ends, sets_past}
+use Rattle.frames.proofs.Theory.Sizes.{rest_is, rest_ends, sets_past}
 
 -- ---- one worker's places move up
 

@@ -1,3 +1,4 @@
+pub mod Theory
 pub mod Loops
 pub mod Ends
 pub mod Ways

@@ -7,7 +7,7 @@ use lib.ListN.{get_or, set}
 use lib.Seq.{set-set, set_comm}
 use Rattle.frames.specs.Widths.{deque_places, deque_stride}
 use Rattle.frames.specs.Deques.{place, set_place, shift_up}
-use Rattle.frames.specs.Theory.Cells.{place-set_place_other, shift_suc}
+use Rattle.frames.proofs.Theory.Cells.{place-set_place_other, shift_suc}
 
 -- ---- the top frame sinks to the bottom
 

@@ -25,11 +25,11 @@ use Rattle.frames.specs.Deques.{bottom, push, pop}
 use Rattle.frames.specs.Steps.{link_child, add_child, spawn, remove_frame, end_frame, waits_no_more, go_on, went_on, sync, synced}
 use Rattle.frames.specs.Ranges.{ParentOf, EndsIn}
 use Rattle.frames.specs.Promises.{table, Waits, GoesOn, IsSync}
-use Rattle.frames.specs.Theory.Records.{frame-set_other, frame-set_again, frame-set_swap, frame_past}
-use Rattle.frames.specs.Theory.Links.{link_alike, link_view}
-use Rattle.frames.specs.Theory.Ends.{end_last, end_joins, only_unlink, only_next, sibling-unlink, sibling-next}
-use Rattle.frames.specs.Theory.EndRecords.{removed_is, removed_parent}
-use Rattle.frames.specs.Theory.Order.{first_step}
+use Rattle.frames.proofs.Theory.Records.{frame-set_other, frame-set_again, frame-set_swap, frame_past}
+use Rattle.frames.proofs.Theory.Links.{link_alike, link_view}
+use Rattle.frames.proofs.Theory.Ends.{end_last, end_joins, only_unlink, only_next, sibling-unlink, sibling-next}
+use Rattle.frames.proofs.Theory.EndRecords.{removed_is, removed_parent}
+use Rattle.frames.proofs.Theory.Order.{first_step}
 
 -- ---- ends
 

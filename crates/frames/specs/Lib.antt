@@ -7,4 +7,3 @@ pub mod Deques
 pub mod Steps
 pub mod Promises
 pub mod Ranges
-pub mod Theory

@@ -18,17 +18,17 @@ use Rattle.image.specs.declared.ImageCheck.TheVariants.{WrongLength, WrongCheck,
 use Rattle.image.specs.Widths.{node_words, deques_words, state_words, words_for, version, version_step}
 use Rattle.image.specs.Image.{node_count, place_count, versioned, deques_for, table_words, image_words, word_bytes, bytes_of, words_of, word_at, check, blocks_for, filled, image_of, image_blocks, image_bytes, first_in, nodes_in, places_in, words_called, blocks_called, wrong_length, data_of, checks_hold, all_zero, rest_of, wrong_check, image_check, words_in, unversioned, number_words_in, pool_in, Lengths, stored}
 use Rattle.image.specs.Inner.{place_of, sum_before, with_check, put_words, last_words, read_words}
-use Rattle.image.specs.Theory.Version.{Readable}
-use Rattle.image.specs.Theory.Bytes.{bytes-zeros, length-words, at_words}
-use Rattle.image.specs.Theory.Blocks.{word_drop, word_take, word_front, length_data}
-use Rattle.image.specs.Theory.Parts.{length-table}
-use Rattle.image.specs.Theory.Check.{check_word, check-zeros}
-use Rattle.image.specs.Theory.Refused.{right-length, when_17}
-use Rattle.image.specs.Theory.Round.{length-filled, blocks_enough, blocks_needed, good_length, part_length, length_pool}
-use Rattle.image.specs.Theory.Written.{length_state, length_image_words, length_image, image_blocks_lem}
+use Rattle.image.proofs.Theory.Version.{Readable}
+use Rattle.image.proofs.Theory.Bytes.{bytes-zeros, length-words, at_words}
+use Rattle.image.proofs.Theory.Blocks.{word_drop, word_take, word_front, length_data}
+use Rattle.image.proofs.Theory.Parts.{length-table}
+use Rattle.image.proofs.Theory.Check.{check_word, check-zeros}
+use Rattle.image.proofs.Theory.Refused.{right-length, when_17}
+use Rattle.image.proofs.Theory.Round.{length-filled, blocks_enough, blocks_needed, good_length, part_length, length_pool}
+use Rattle.image.proofs.Theory.Written.{length_state, length_image_words, length_image, image_blocks_lem}
 use Rattle.image.proofs.Stores.{put_append, put_next, put_run, put_last, put_blocks, sum-after, sum-block, sum_word, sum-none}
 use Rattle.soundness.specs.Layout.{two_words}
-use Rattle.image.specs.Theory.Version.{two_version}
+use Rattle.image.proofs.Theory.Version.{two_version}
 
 -- ---- saving
 

@@ -1,3 +1,4 @@
+pub mod Theory
 pub mod Stores
 pub mod Loops
 pub mod Parts

@@ -15,9 +15,9 @@ use Rattle.words.specs.Counting.{sum_cong}
 use Rattle.model.specs.Record.{little}
 use Rattle.image.specs.Image.{word_bytes, bytes_of, word_at, check, checks_hold, all_zero}
 use Rattle.image.specs.Inner.{place_of, put_words, words_at, read_words}
-use Rattle.image.specs.Theory.Bytes.{length-bytes, bytes-append}
-use Rattle.image.specs.Theory.Blocks.{word_drop, word_take}
-use Rattle.image.specs.Theory.Check.{check-none, check-next, block_by_words}
+use Rattle.image.proofs.Theory.Bytes.{length-bytes, bytes-append}
+use Rattle.image.proofs.Theory.Blocks.{word_drop, word_take}
+use Rattle.image.proofs.Theory.Check.{check-none, check-next, block_by_words}
 use Rattle.image.proofs.Stores.{put_append}
 
 -- at the end all of it is done

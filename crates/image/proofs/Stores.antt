@@ -10,8 +10,8 @@ use borrow.Author.Tests.{eq-eqb, ne_eqb}
 use Rattle.words.specs.Basics.{plus}
 use Rattle.image.specs.Image.{word_bytes, bytes_of, check, block, blocks_of}
 use Rattle.image.specs.Inner.{place_of, sum_before, with_check, after_word, put_words}
-use Rattle.image.specs.Theory.Bytes.{length-bytes, bytes-append}
-use Rattle.image.specs.Theory.Check.{check-append, check-none}
+use Rattle.image.proofs.Theory.Bytes.{length-bytes, bytes-append}
+use Rattle.image.proofs.Theory.Check.{check-append, check-none}
 
 -- ---- words
 

@@ -14,7 +14,7 @@ use Rattle.image.specs.declared.ImageCheck.TheVariants.{Good}
 use Rattle.image.specs.Widths.{block_bytes, deques_words}
 use Rattle.image.specs.Image.{table_words, blocks_for, places_in, image_check, words_in, records_in, frames_in}
 use Rattle.image.specs.Inner.{put_words, read_words}
-use Rattle.image.specs.Theory.Parts.{length-table, length_records}
+use Rattle.image.proofs.Theory.Parts.{length-table, length_records}
 use Rattle.image.proofs.Stores.{put_next}
 use Rattle.image.proofs.Ends.{fits, these}
 use Rattle.soundness.specs.Layout.{two_words}

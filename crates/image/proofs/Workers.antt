@@ -8,19 +8,19 @@ use native.Mathlib.Omega.{arith}
 use lib.ListN.{length, take, drop, replicate, length-append, length-drop, length-replicate, replicate-append-replicate}
 use lib.Seq.{sets, sets-eq, take_at, drop_at, drop-drop}
 use Rattle.frames.specs.Widths.{max_workers, deque_places, deque_stride, deque_words}
-use Rattle.frames.specs.Theory.Sizes.{rest_is}
+use Rattle.frames.proofs.Theory.Sizes.{rest_is}
 use Rattle.soundness.specs.Numbers.{number_count}
 use Rattle.image.specs.declared.ImageCheck.TheVariants.{Good}
 use Rattle.image.specs.Widths.{block_bytes, deques_words}
 use Rattle.image.specs.Image.{blocks_for, deques_of, places_in, image_check, words_in, lent_deques, deques_in}
 use Rattle.image.specs.Inner.{put_words, read_words}
-use Rattle.image.specs.Theory.Parts.{length-deques_of, deques_snoc, length-lent, lent_snoc}
-use Rattle.image.specs.Theory.Round.{after_numbers}
+use Rattle.image.proofs.Theory.Parts.{length-deques_of, deques_snoc, length-lent, lent_snoc}
+use Rattle.image.proofs.Theory.Round.{after_numbers}
 use Rattle.image.proofs.Stores.{put_next}
 use Rattle.image.proofs.Loops.{length_data_words}
 use Rattle.image.proofs.Ends.{fits, these}
 use Rattle.soundness.specs.Layout.{two_words}
-use Rattle.image.specs.Theory.Version.{two_version}
+use Rattle.image.proofs.Theory.Version.{two_version}
 
 -- worker w's words are among those of all workers
 pub one_more : (w k : ℕ) → w < max_workers → w * (1 + k) + (1 + k) ≤ deques_words k

@@ -3,5 +3,4 @@
 pub mod Widths
 pub mod Image
 pub mod Inner
-pub mod Theory
 pub mod Examples

@@ -12,7 +12,7 @@ use Rattle.soundness.specs.Soundness.{count_of_free}
 use Rattle.soundness.specs.PackedTrees.{free_nodes}
 use Rattle.lines.specs.Lines.{decimal, line, free_line, reduced_word, reduced_line}
 use Rattle.lines.specs.Output.{store_all, Stores, StoresUpTo}
-use Rattle.lines.specs.Theory.{up_to_then}
+use Rattle.lines.proofs.Theory.{up_to_then}
 use Rattle.lines.proofs.Calls.{same}
 use Rattle.lines.proofs.Sizes.{free_short}
 use Rattle.soundness.specs.Layout.{two_words}

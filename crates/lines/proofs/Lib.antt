@@ -1,3 +1,4 @@
+pub mod Theory
 pub mod Numbers
 pub mod Loops
 pub mod Whole

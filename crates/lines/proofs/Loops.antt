@@ -12,7 +12,7 @@ use borrow.Author.Tests.{eq-eqb, ne_eqb}
 use Rattle.words.specs.Basics.{none, follow}
 use Rattle.words.specs.Tests.{decided, lt_of, ge_of}
 use Rattle.lines.specs.Lines.{decimal, line, number32_at, numbers_at, answer_lines}
-use Rattle.lines.specs.Theory.Returned.{drop_more, drop_two}
+use Rattle.lines.proofs.Theory.Returned.{drop_more, drop_two}
 
 -- ---- the values
 

@@ -10,7 +10,7 @@ use Rattle.words.specs.Tests.{neither, ge_of}
 use Rattle.semantics.specs.Entries.{zeros}
 use mathlib.Core.Bool.{true, false, ◌||◌}
 use Rattle.lines.specs.Output.{store_all, Stores, StoresUpTo, IsOutput}
-use Rattle.lines.specs.Theory.{up_to_then, is_output}
+use Rattle.lines.proofs.Theory.{up_to_then, is_output}
 use Rattle.lines.specs.Lines.{decimal, line, unfit_word, workers_in, splitters_in, nodes_in, numbers_at, records_start, records_in, unfit, run_lines, lent_table, fit_lines, lines_of}
 
 lines_unfit : (input : List ℕ) (n nodes : ℕ) → n ≡ splitters_in input → nodes ≡ nodes_in input → unfit (length input) n nodes ≡ true → lines_of input ≡ line (unfit_word ∷ [])

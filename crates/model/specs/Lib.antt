@@ -10,6 +10,5 @@ pub mod Views
 pub mod Clocks
 pub mod Record
 -- What is proved about them.
-pub mod Theory
 -- Their values on document 01's examples and on others, computed.
 pub mod Examples

@@ -13,7 +13,7 @@ use lib.ListN.{get_or}
 use Rattle.words.specs.Basics.{none, plus}
 use Rattle.sizes.specs.Sizes.{bit, width}
 use Rattle.packed.specs.Pool.{refcount, link_in, links, left, right, next_free, child, sibling, set_node, set_refcount, leaf_of, freed, release, path_node, copy_path, init_level, init_inner, init_leaves, init_free}
-use Rattle.packed.specs.Theory.Halves.{link_in-node}
+use Rattle.packed.proofs.Theory.Halves.{link_in-node}
 
 -- the two parts of an equation of pairs
 pub parts : {p q : List ℕ × ℕ} → p ≡ q → (p.0 ≡ q.0) × (p.1 ≡ q.1)

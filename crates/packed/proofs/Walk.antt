@@ -7,7 +7,7 @@ use native.Mathlib.Numerals.{sub-one}
 use Rattle.sizes.specs.Sizes.{bit}
 use Rattle.packed.specs.Pool.{content, link_in, child, leaf_of, read_at}
 use Rattle.packed.specs.Links.{PathIn}
-use Rattle.packed.specs.Theory.Halves.{link_in_is}
+use Rattle.packed.proofs.Theory.Halves.{link_in_is}
 use Rattle.packed.proofs.Laws.{leaf_step, leaf_end}
 
 pub path_here : (N : ℕ) (ws : List ℕ) (l i x : ℕ) → PathIn N ws l i x → i < N

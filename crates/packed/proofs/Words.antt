@@ -14,7 +14,7 @@ use Rattle.pool.specs.Pool.{side}
 use Rattle.pool.specs.Links.{Link}
 use Rattle.pool.specs.Theory.Links.{link_in_lem}
 use Rattle.packed.specs.Pool.{refcount, content, half, link_in, links, left, right, child, sibling, set_node, set_refcount, retain, path_node}
-use Rattle.packed.specs.Theory.Halves.{half-node, half-link_in, link_in-node, links-sum}
+use Rattle.packed.proofs.Theory.Halves.{half-node, half-link_in, link_in-node, links-sum}
 
 -- ---- the halves
 

@@ -13,7 +13,7 @@ use Rattle.sizes.specs.Sizes.{bit}
 use Rattle.pool.specs.Links.{Link}
 use Rattle.packed.specs.Pool.{refcount, link_in, next_free, child, sibling, set_node, set_refcount, set_link, path_node, copy_path, renew, first_shared, write_from, write}
 use Rattle.packed.specs.Links.{PathIn, CopyIn, IsShared, WriteIn, Wrote}
-use Rattle.packed.specs.Theory.Halves.{link_in_is}
+use Rattle.packed.proofs.Theory.Halves.{link_in_is}
 use Rattle.packed.proofs.Laws.{parts, path_step, path_end}
 use Rattle.packed.proofs.Walk.{next_is, next_path}
 

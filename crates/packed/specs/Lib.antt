@@ -2,4 +2,3 @@
 pub mod Pool
 pub mod Links
 pub mod Pack
-pub mod Theory

@@ -17,4 +17,3 @@ pub mod Matching
 -- R-9
 pub mod Convert
 pub mod ConvertDemands
-pub mod Theory

@@ -7,4 +7,3 @@ pub mod Unpacked
 pub mod Layout
 pub mod Soundness
 pub mod Example
-pub mod Theory

@@ -25,11 +25,11 @@ use Rattle.semantics.specs.Core.{spawn_on, end_at, upward, end_bottom, return_on
 use Rattle.semantics.specs.Entries.{totals_of, start_on, start_with, records_of, records_from, run_on, TapeResult}
 use Rattle.semantics.specs.Calls.{Start, start_result, tape, Exchange, Call, call, exchanges_from, answers_in, trace_from}
 use Rattle.semantics.specs.Demands.{plain_start, run_from, trace_of, MainReturned, one_worker_calls, alone_start, total_words, Demand3}
-use Rattle.semantics.specs.Theory.StartedRuns.{demand3}
+use Rattle.semantics.proofs.Theory.StartedRuns.{demand3}
 use Rattle.starred.specs.Tapes.{spawns, returns, steals, syncs, reads, writes, folds, folds_map, parts_with, any_parts, any_pool, five}
 use Rattle.starred.specs.Quick.{quick_tape, tape_quick}
 use Rattle.soundness.specs.Layout.{two_words}
-use Rattle.semantics.specs.Theory.TwoPools.{two_pools}
+use Rattle.semantics.proofs.Theory.TwoPools.{two_pools}
 
 -- "2 workers, 5 splitters, 20 nodes, values 10 20 30 40 50"
 abbrev pub example : Start

@@ -8,7 +8,7 @@ use Rattle.soundness.specs.declared.Checked.TheVariants.{NoRoom, Sound}
 use Rattle.soundness.specs.Soundness.{checked, cleared}
 use Rattle.soundness.specs.Sentence.{all_of}
 use Rattle.soundness.specs.Example.{rest_quick, rest_quick_lem, free_quick, free_quick_lem, sentences_by}
-use Rattle.soundness.specs.Theory.Sentences.{sound_is_all}
+use Rattle.soundness.proofs.Theory.Sentences.{sound_is_all}
 use Rattle.model.specs.declared.Decoded.{Decoded}
 use Rattle.model.specs.declared.Decoded.TheVariants.{Invalid}
 use Rattle.model.specs.Record.{little, record_of, decode_at}
@@ -17,13 +17,13 @@ use Rattle.semantics.specs.declared.Refusal.TheVariants.{Tape, Work, Lengths}
 use Rattle.semantics.specs.Entries.{State, fits, numbers_of, totals_of, core_of, is_sound, chain_free, OutsideResult, outside_refused, outside_checked, outside_with, outside_on, records_from, records_result, run_on, TapeResult, tape_done, tape_refused, tape_checked, unfit_tape, tape_with, tape_on}
 use Rattle.semantics.specs.Calls.{Start, start_result, HostCall, outside, tape, StateAndPool, after_start, outside_result, tape_result, after_call, Run, call, begun, run_after, run_of}
 use Rattle.semantics.specs.Promises.{Fits}
-use Rattle.semantics.specs.Theory.Fitting.{fits_true}
-use Rattle.semantics.specs.Theory.Lengths.{start_fits, call_fits}
-use Rattle.semantics.specs.Theory.Starts.{started_fit}
-use Rattle.semantics.specs.Theory.SoundRuns.{sound_call}
-use Rattle.semantics.specs.Theory.StartedRuns.{plain_sound}
+use Rattle.semantics.proofs.Theory.Fitting.{fits_true}
+use Rattle.semantics.proofs.Theory.Lengths.{start_fits, call_fits}
+use Rattle.semantics.proofs.Theory.Starts.{started_fit}
+use Rattle.semantics.proofs.Theory.SoundRuns.{sound_call}
+use Rattle.semantics.proofs.Theory.StartedRuns.{plain_sound}
 use Rattle.soundness.specs.Layout.{two_words}
-use Rattle.semantics.specs.Theory.TwoPools.{two_pools}
+use Rattle.semantics.proofs.Theory.TwoPools.{two_pools}
 
 -- ---- the records of a tape, each decoded at the end of the one before it
 

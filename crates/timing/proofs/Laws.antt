@@ -16,7 +16,7 @@ use Rattle.frames.specs.Widths.{deque_stride}
 use Rattle.frames.specs.declared.Frame.{Frame}
 use Rattle.frames.specs.Frames.{frame_at}
 use Rattle.frames.specs.Deques.{size, place, bottom}
-use Rattle.frames.specs.Theory.Sizes.{rest_is, bottom_is}
+use Rattle.frames.proofs.Theory.Sizes.{rest_is, bottom_is}
 use Rattle.semantics.specs.declared.Rise.{Rise}
 use Rattle.semantics.specs.Timing.{own_clock, child_clock, latest, ticked, passed, heard, begun, waits_for_one, rise, Timing, costing, ended, timed_with}
 use Rattle.timing.specs.Turns.{RoomFor, timing, worker_at, first_at, ticks_over}

@@ -11,7 +11,7 @@ use Rattle.frames.specs.Frames.{frame_at}
 use Rattle.frames.specs.Widths.{max_workers, max_places}
 use Rattle.frames.specs.Deques.{size, place}
 use Rattle.soundness.specs.Soundness.{is_child, children, free_places}
-use Rattle.soundness.specs.Theory.Sentences.{Lives, NoFrame, OnlyMain, FramesFacts, EachPlace, at_child, main_is, only_main, places_of}
+use Rattle.soundness.proofs.Theory.Sentences.{Lives, NoFrame, OnlyMain, FramesFacts, EachPlace, at_child, main_is, only_main, places_of}
 use Rattle.frame_check.specs.Algorithm.{main_at, mains}
 use Rattle.frame_check.specs.Theory.Passes.{Younger, LiveAt, Passes}
 use Rattle.frame_check.specs.Theory.Links.{to_siblings, to_main-link}

@@ -12,8 +12,8 @@ use Rattle.frames.specs.declared.Frame.{Frame}
 use Rattle.frames.specs.Frames.{frame_at}
 use Rattle.frames.specs.Widths.{max_places}
 use Rattle.soundness.specs.Soundness.{free_places}
-use Rattle.soundness.specs.Theory.Is.{Is}
-use Rattle.soundness.specs.Theory.Sentences.{Lives, FreeAt, free_is}
+use Rattle.soundness.proofs.Theory.Is.{Is}
+use Rattle.soundness.proofs.Theory.Sentences.{Lives, FreeAt, free_is}
 use Rattle.frame_check.specs.Algorithm.{live_at, lives, next, free_sound, chain_from}
 
 -- ---- sums

@@ -12,10 +12,10 @@ use Rattle.frames.specs.Widths.{max_places}
 use Rattle.frames.specs.declared.Frame.{Frame}
 use Rattle.frames.specs.Frames.{frame_at}
 use Rattle.frames.specs.Siblings.{head_or, younger, chained, Children}
-use Rattle.frames.specs.Theory.Siblings.{children_in, children-chained, chained-children, eldest_is, children_empty, children_only, children-next}
+use Rattle.frames.proofs.Theory.Siblings.{children_in, children-chained, chained-children, eldest_is, children_empty, children_only, children-next}
 use Rattle.soundness.specs.Soundness.{is_child, children}
-use Rattle.soundness.specs.Theory.FreeLists.{the_one}
-use Rattle.soundness.specs.Theory.Sentences.{Lives, HasParent, Siblings, child_is, at_child}
+use Rattle.soundness.proofs.Theory.FreeLists.{the_one}
+use Rattle.soundness.proofs.Theory.Sentences.{Lives, HasParent, Siblings, child_is, at_child}
 use Rattle.frame_check.specs.Algorithm.{link_span}
 use Rattle.frame_check.specs.Theory.Passes.{Younger, Chained, eldest_found}
 

@@ -10,7 +10,7 @@ use Rattle.frames.specs.Frames.{frame_at}
 use Rattle.frames.specs.Widths.{max_workers, max_places}
 use Rattle.frames.specs.Deques.{size, place}
 use Rattle.soundness.specs.Soundness.{is_child, children, free_places}
-use Rattle.soundness.specs.Theory.Sentences.{Lives, FramesFacts, child_is, at_child, main_is, main_only, of_places}
+use Rattle.soundness.proofs.Theory.Sentences.{Lives, FramesFacts, child_is, at_child, main_is, main_only, of_places}
 use Rattle.frame_check.specs.Algorithm.{main_at, mains}
 use Rattle.frame_check.specs.Theory.FreeChain.{FreeChain, free_dead}
 use Rattle.frame_check.specs.Theory.Passes.{OnDeque, Passes}

@@ -12,8 +12,8 @@ use Rattle.frames.specs.Siblings.{younger, chained, eldest}
 use Rattle.frames.specs.Widths.{max_workers, max_places, deque_places}
 use Rattle.frames.specs.Deques.{size, place}
 use Rattle.soundness.specs.Soundness.{is_child, children, in_deques, free_places}
-use Rattle.soundness.specs.Theory.Is.{Is, true_is, eq_is, lt_is, le_is, and_is, or_is, not_is, implies_is, cond_is, all_is}
-use Rattle.soundness.specs.Theory.Sentences.{Lives, HasParent, Placed, Returning, lives_is, parent_is, placed_is, returning_is, hold_is, absent_is, zeros_is}
+use Rattle.soundness.proofs.Theory.Is.{Is, true_is, eq_is, lt_is, le_is, and_is, or_is, not_is, implies_is, cond_is, all_is}
+use Rattle.soundness.proofs.Theory.Sentences.{Lives, HasParent, Placed, Returning, lives_is, parent_is, placed_is, returning_is, hold_is, absent_is, zeros_is}
 use Rattle.frame_check.specs.Algorithm.{deque_step, deque_span, link_step, link_span, child_count, deque_count, link_sum, child_in, step_in, tally_children}
 use Rattle.frame_check.specs.Algorithm.{deque_fits, on_deque, mains, younger_sound, siblings_sound, place_sound, word_sound, place_checked, zeros, tallies, check_frames}
 use Rattle.frame_check.specs.Theory.Tallied.{in_word, length-tally, tally_deques_at, children_at}

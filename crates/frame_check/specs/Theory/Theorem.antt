@@ -4,7 +4,7 @@ use Rattle.words.specs.Tallies.{same_tests}
 use Rattle.frames.specs.declared.Frame.{Frame}
 use Rattle.frames.specs.Widths.{max_places}
 use Rattle.soundness.specs.Soundness.{frames_sound}
-use Rattle.soundness.specs.Theory.Sentences.{frames_facts, facts_frames}
+use Rattle.soundness.proofs.Theory.Sentences.{frames_facts, facts_frames}
 use Rattle.frame_check.specs.Algorithm.{check_frames}
 use Rattle.frame_check.specs.Theory.Passes.{passes_at, passes_of}
 use Rattle.frame_check.specs.Theory.Finds.{finds}

@@ -11,8 +11,7 @@ use Rattle.model.specs.Steps.{refusal, step, answer}
 use Rattle.model.specs.Run.{run, answers, Returned}
 use Rattle.model.specs.Views.{totals_of}
 use Rattle.model.specs.Clocks.{pair_of}
-use Rattle.model.specs.Demand3.{one_worker_of, Demand3}
-use Rattle.model.specs.Theory.Demand3Proof.{demand3}
+use Rattle.model.specs.Demand3.{one_worker_of}
 
 -- "worker 0 spawns; 1 steals from 0; 1 writes 99 to splitter 4; 0 reads 4; 1 syncs; 1 reads 4; 0 returns; 0 reads 4; 0
 -- returns"
@@ -40,12 +39,9 @@ alone_answered : answers (start 1 values 20 64) (one_worker_of 2 values 20 64 ta
 unfolding refusal answer step nodes_in_use height width
 alone_answered = refl
 
-returned : Returned (start 2 values 20 64) tape
+pub returned : Returned (start 2 values 20 64) tape
 unfolding refusal answer step nodes_in_use height width
 returned = there (there (there (there (there (there (there (there (here refl))))))))
-
-demanded : Demand3 2 values 20 64 tape
-demanded = demand3 2 values 20 64 tape returned
 
 -- R-5: "document 01's example gains `reduced 0 4294967295 1 0`": nothing is folded
 none_folded : totals_of 2 values 20 64 tape ≡ []

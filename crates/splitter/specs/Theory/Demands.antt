@@ -12,19 +12,19 @@ use Rattle.semantics.specs.ReportDemands.{report_result, AloneFits, AloneReport,
 use Rattle.semantics.specs.Convert.{convert_on, change_over}
 use Rattle.semantics.specs.ConvertDemands.{ConvertChecks, RefusedConvert, WorkAfterConvert, AcceptedConvert, SameTwice, RefusedTwice, OldImageRefused, ChangedDemand2, ChangedReturned, ChangedDemand3, SameMachine, SameCalls, in_pool, AsIfBegunSo}
 use Rattle.semantics.specs.Matching.{AsManyNodes}
-use Rattle.semantics.specs.Theory.TwoPools.{two_pools}
-use Rattle.semantics.specs.Theory.RefusedCalls as calls
-use Rattle.semantics.specs.Theory.Images as images
-use Rattle.semantics.specs.Theory.StartedRuns as started
-use Rattle.semantics.specs.Theory.SoundRuns as runs
-use Rattle.semantics.specs.Theory.Reports as reports
-use Rattle.semantics.specs.Theory.SameReports as pairs
-use Rattle.semantics.specs.Theory.Converts as converts
-use Rattle.semantics.specs.Theory.ConvertTwice as twice
-use Rattle.semantics.specs.Theory.ChangedRuns as changed
-use Rattle.semantics.specs.Theory.SameMachine as machine
-use Rattle.semantics.specs.Theory.AsIfBegun as begun-so
-use Rattle.semantics.specs.Theory.OldImages as old
+use Rattle.semantics.proofs.Theory.TwoPools.{two_pools}
+use Rattle.semantics.proofs.Theory.RefusedCalls as calls
+use Rattle.semantics.proofs.Theory.Images as images
+use Rattle.semantics.proofs.Theory.StartedRuns as started
+use Rattle.semantics.proofs.Theory.SoundRuns as runs
+use Rattle.semantics.proofs.Theory.Reports as reports
+use Rattle.semantics.proofs.Theory.SameReports as pairs
+use Rattle.semantics.proofs.Theory.Converts as converts
+use Rattle.semantics.proofs.Theory.ConvertTwice as twice
+use Rattle.semantics.proofs.Theory.ChangedRuns as changed
+use Rattle.semantics.proofs.Theory.SameMachine as machine
+use Rattle.semantics.proofs.Theory.AsIfBegun as begun-so
+use Rattle.semantics.proofs.Theory.OldImages as old
 
 -- ---- demand 1
 

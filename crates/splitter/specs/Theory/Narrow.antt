@@ -21,8 +21,8 @@ use Rattle.model.specs.Record.{valid_if, record_of}
 use Rattle.semantics.specs.declared.Refusal.TheVariants.{NoWorker, MainReturned, ThiefBusy, NoVictim, NoSplitter, NoReducer, Lengths}
 use Rattle.semantics.specs.Core.{Core, StepResult, no_worker, all_idle, idle, judged, acting_tests, step_on}
 use Rattle.semantics.specs.Entries.{State, numbers_of, totals_of, core_of, checked_state, fits, record_on, OutsideResult, outside_done, outside_refused, outside_checked, outside_with, outside_on}
-use Rattle.semantics.specs.Theory.Refusals.{refused_by}
-use Rattle.soundness.specs.Theory.Sentences.{sound_facts}
+use Rattle.semantics.proofs.Theory.Refusals.{refused_by}
+use Rattle.soundness.proofs.Theory.Sentences.{sound_facts}
 use Rattle.soundness.specs.Layout.{two_words}
 
 -- ---- numbers

@@ -5,7 +5,7 @@ use Rattle.model.specs.Machine.{free_nodes as plainFree}
 use Rattle.semantics.specs.Entries.{State, numbers_of, totals_of, is_sound, chain_free, whole_nodes}
 use Rattle.semantics.specs.Calls.{Start, Call}
 use Rattle.semantics.specs.Demands.{Demand2, run_from, plain_now}
-use Rattle.soundness.specs.Theory.Sentences.{sound_facts}
+use Rattle.soundness.proofs.Theory.Sentences.{sound_facts}
 use Rattle.soundness.specs.Numbers.{number_count}
 use Rattle.splitter.specs.Queries.{free_on}
 use Rattle.soundness.specs.Layout.{two_words}
