@@ -57,6 +57,7 @@ pub record Alike (N : ℕ) (tail : List ℕ) (d₂ d₄ : StepResult) : Type 0 w
 front : {A : Type 0} {x : A} (l : List A) → In x l → (l' : List A) × Permᴰ l (x ∷ l')
 front (y ∷ l) (here e) = (l, Permᴰ.cons (sym e) (Permᴰ.refl l))
 front (y ∷ l) (there m) = (let r = front l m in (y ∷ r.0, Permᴰ.trans (Permᴰ.cons refl r.1) (Permᴰ.swap refl refl)))
+front {A = A} [] x'' = elim x'' [ ]
 
 module _ (N n : ℕ) (most : N ≤ 16384) (some : 1 ≤ n) where
   abbrev P : Trees

@@ -94,6 +94,8 @@ judged_passes (t ∷ ts) (u ∷ us) c d a e = elim (decided u.0) [
   | inl s ↦ absurd (omega (arith, (number_range t.1).0, a.1, rw s at e))
   | inr s ↦ rw (a.0 ∙ s) (judged_passes ts us c d (a.2 s) (rw s at e))
 ]
+judged_passes [] (u ∷ us) c d a e = elim a [ ]
+judged_passes (t ∷ ts) [] c d a e = elim a [ ]
 
 judged_refuses : (ts : List (Bool × Refusal)) (us : List (Bool × ℕ)) (c : Core) (d : StepResult) → Alike ts us → (k : ℕ) → first_true 0 us ≡ suc k
     → (r : Refusal) × (judged ts c d ≡ refused_by c r) × (refusal_number r ≡ suc k)
@@ -102,6 +104,8 @@ judged_refuses (t ∷ ts) (u ∷ us) c d a k e = elim (decided u.0) [
   | inl s ↦ (t.1, rw (a.0 ∙ s), a.1 ∙ (rw s at e))
   | inr s ↦ rw (a.0 ∙ s) (judged_refuses ts us c d (a.2 s) k (rw s at e))
 ]
+judged_refuses [] (u ∷ us) c d a k e = elim a [ ]
+judged_refuses (t ∷ ts) [] c d a k e = elim a [ ]
 
 -- ---- lists and tests
 
