@@ -9,7 +9,7 @@ use Rattle.pool.specs.Theory.Invariant.{Invariant}
 use Rattle.pool.specs.Theory.Operations.{Live, root_covers}
 use Rattle.pool.specs.Theory.Walk.{Covers, covers_child}
 use Rattle.packed.specs.Links.{PathIn, CopyIn, WriteIn}
-use Rattle.packed.specs.Pool.{child, path_node, first_shared}
+use Rattle.packed.specs.Pool.{path_node, first_shared}
 use Rattle.packed.proofs.Theory.Reads.{covers_same, unpacks_first}
 use Rattle.packed.proofs.Theory.Unpacks.{Unpacks}
 use Rattle.packed.proofs.Theory.Writes.{Copying, Ends, at_head, next-same, old_sibling, old_child, kept_link, step_copying, step_unpacks, ends, start_copying}

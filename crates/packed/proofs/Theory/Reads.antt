@@ -13,7 +13,7 @@ use Rattle.pool.specs.Theory.Invariant.{Invariant, links_at, links-left, links-r
 use Rattle.pool.specs.Theory.Operations.{Live, root_covers}
 use Rattle.pool.specs.Theory.Walk.{Covers, covers_child}
 use Rattle.pool.specs.Theory.Write as FourWrite
-use Rattle.packed.specs.Pool.{refcount, value, left, right, child, sibling, leaf_of, read_at, first_shared, rest}
+use Rattle.packed.specs.Pool.{refcount, value, child, sibling, leaf_of, read_at, first_shared, rest}
 use Rattle.packed.proofs.Theory.Unpacks.{Unpacks}
 
 -- ---- the branches of the definitions

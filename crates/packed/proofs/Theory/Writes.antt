@@ -19,7 +19,7 @@ use Rattle.pool.specs.Theory.Operations.{Live, root_covers}
 use Rattle.pool.specs.Theory.PathNode.{path_node_other, path_node-refcount}
 use Rattle.pool.specs.Theory.Walk.{Covers, covers_child}
 use Rattle.pool.specs.Theory.Write as FourWrite
-use Rattle.packed.specs.Pool.{refcount, left, right, content, next_free, child, sibling, set_refcount, set_link, path_node, copy_path, renew, first_shared, write_from, write}
+use Rattle.packed.specs.Pool.{next_free, child, sibling, set_link, path_node, copy_path, renew, write_from, write}
 use Rattle.packed.proofs.Theory.Reads.{child-same, sibling-same, inner-links, leaf_links, unpacks_first}
 use Rattle.packed.proofs.Theory.Retain.{unpacks_retain_by}
 use Rattle.packed.proofs.Theory.Unpacks.{Unpacks, unpacks_inner, unpacks_leaf, unpacks_refcount, unpacks_value, unpacks_link}
