@@ -22,12 +22,6 @@ fill_turn z i fs gs hs f l ef eg eh =
     let e : suc i ≡ i + 1 = omega arith in
     eh ∙ ap (λ (g : Frame). set gs i g) ef ∙ ap (λ (ks : List Frame). set ks i z) eg ∙ fill_step z i fs l ∙ ap (λ (k : ℕ). replicate k z ++ drop k fs) e
 
-pub fill_end : (z : Frame) (i : ℕ) (fs : List Frame) → i ≤ length fs → length fs ≤ i → replicate i z ++ drop i fs ≡ replicate (length fs) z
-fill_end z zero [] a b = refl
-fill_end z zero (x ∷ fs) a b = absurd (omega arith)
-fill_end z (suc i) [] a b = absurd (omega arith)
-fill_end z (suc i) (x ∷ fs) a b = ap (λ (gs : List Frame). z ∷ gs) (fill_end z i fs (omega arith) (omega arith))
-
 -- ---- the start
 
 pub places_turn : (fs gs : List Frame) (p more next r : ℕ) (f : Frame) → 0 < more → next ≡ plus p 1 → r ≡ cond (eqb (more - 1) 0) none next → f ≡ free_record r → gs ≡ set_frame fs p f

@@ -19,12 +19,12 @@ use Rattle.frames.specs.declared.Synced.{Synced}
 use Rattle.frames.specs.declared.Returned.TheVariants.{Idle, Resumed}
 use Rattle.frames.specs.declared.Synced.TheVariants.{Passed, Suspended}
 use Rattle.frames.specs.Widths.{max_places}
-use Rattle.frames.specs.Frames.{frame_at, set_frame, without_child, with_suspended, with_view, with_younger, as_returning, after_spawn, child_of, free_record}
+use Rattle.frames.specs.Frames.{frame_at, set_frame, without_child, with_suspended, with_view, with_younger, after_spawn, child_of, free_record}
 use Rattle.frames.specs.Siblings.{names, relink_from, relink, eldest_to, eldest, first_from, only_child, next_after, join_at}
 use Rattle.frames.specs.Deques.{bottom, push, pop}
 use Rattle.frames.specs.Steps.{link_child, add_child, spawn, remove_frame, end_frame, waits_no_more, go_on, went_on, sync, synced}
 use Rattle.frames.specs.Ranges.{ParentOf, EndsIn}
-use Rattle.frames.specs.Promises.{table, Waits, GoesOn, IsSync}
+use Rattle.frames.specs.Promises.{table, GoesOn, IsSync}
 use Rattle.frames.proofs.Theory.Records.{frame-set_other, frame-set_again, frame-set_swap, frame_past}
 use Rattle.frames.proofs.Theory.Links.{link_alike, link_view}
 use Rattle.frames.proofs.Theory.Ends.{end_last, end_joins, only_unlink, only_next, sibling-unlink, sibling-next}
@@ -111,9 +111,6 @@ module _ (ds : List ℕ) (fs : List Frame) (w q : ℕ) (g : Frame) (eg : g ≡ f
 -- ---- a return that waits, and a sync
 
 module _ (ds : List ℕ) (fs : List Frame) (w p : ℕ) (ep : p ≡ bottom ds w) (f : Frame) (ef : f ≡ frame_at fs p) where
-  pub waits_returning : (h : Frame) (fs₁ : List Frame) (ds₁ : List ℕ) → h ≡ as_returning f → fs₁ ≡ set_frame fs p h → ds₁ ≡ pop ds w → Waits ds fs w ds₁ fs₁
-  waits_returning h fs₁ ds₁ eh e₁ e₂ free = rw (e₂, e₁, eh, ef, ep)
-
   pub passes : (o : Synced) → o ≡ Passed → f.outstanding ≡ 0 → IsSync ds fs w ds fs o
   unfolding sync synced
   passes o eo z = record { after = λ free. rw (← ep, ← ef, eq-eqb f.outstanding 0 z); outcome = λ free. eo ∙ rw (← ep, ← ef, eq-eqb f.outstanding 0 z) }
@@ -128,9 +125,6 @@ module _ (ds : List ℕ) (fs : List Frame) (w p : ℕ) (ep : p ≡ bottom ds w) 
 
 pub linked : (fs gs : List Frame) (p g c : ℕ) → c ≡ (frame_at fs p).outstanding → c ≢ 0 → gs ≡ relink fs p none g → gs ≡ link_child fs p g
 linked fs gs p g c ec n e = rw (e, ← ec, ne_eqb c 0 n)
-
-pub no_link : (fs : List Frame) (p g c : ℕ) → c ≡ (frame_at fs p).outstanding → c ≡ 0 → fs ≡ link_child fs p g
-no_link fs p g c ec z = rw (← ec, eq-eqb c 0 z)
 
 table_eq : {ds ds' : List ℕ} {fs fs' : List Frame} {free free' : ℕ} → ds ≡ ds' → fs ≡ fs' → free ≡ free' → table ds fs free ≡ table ds' fs' free'
 table_eq a b c = rw (a, b, c)
@@ -189,12 +183,6 @@ summed_begin fs es e q b = ap (λ (ws : List ℕ). get_or ws q 0) e ∙ get_or-r
 abbrev added : List ℕ → ℕ → Frame → List ℕ
 added es c f = cond (eqb f.live 1) (set es f.parent (minus (plus (get_or es f.parent 0) c) f.younger)) es
 
-pub not_added : (es : List ℕ) (c : ℕ) (f : Frame) → f.live ≢ 1 → es ≡ added es c f
-not_added es c f d = rw (ne_eqb f.live 1 d)
-
-pub is_added : (es : List ℕ) (c : ℕ) (f : Frame) → f.live ≡ 1 → {e s r : ℕ} {gs : List ℕ} → e ≡ get_or es f.parent 0 → s ≡ plus e c → r ≡ minus s f.younger → gs ≡ set es f.parent r → gs ≡ added es c f
-is_added es c f t a b d k = k ∙ rw (d, b, a, eq-eqb f.live 1 t)
-
 added_at : (es : List ℕ) (c : ℕ) (f : Frame) (q e : ℕ) → q < length es → get_or es q 0 ≡ e → get_or (added es c f) q 0 ≡ cond (eqb f.live 1 && eqb f.parent q) (minus (plus e c) f.younger) e
 added_at es c f q e b d = elim (decided (eqb f.live 1)) [
   | inl t ↦ elim (ℕ_discrete q f.parent) [
@@ -209,9 +197,6 @@ unfolding eldest_to
 summed_turn fs es gs c f ef long k s q b =
     let one : c + 1 ≡ suc c = omega arith in
     rw one (ap (λ (ws : List ℕ). get_or ws q 0) (k ∙ ap (added es c) ef) ∙ added_at es c (frame_at fs c) q (eldest_to c fs q) (omega arith) (s q b))
-
-pub summed_end : (fs : List Frame) (es : List ℕ) (c : ℕ) → c ≤ length fs → length fs ≤ c → Summed fs c es → (q : ℕ) → q < max_places → get_or es q 0 ≡ eldest fs q
-summed_end fs es c a b s q h = let z : c ≡ length fs = omega arith in s q h ∙ ap (λ (n : ℕ). eldest_to n fs q) z
 
 -- past the table there are no children
 pub has_children : (fs : List Frame) (p : ℕ) (f : Frame) → f ≡ frame_at fs p → f.outstanding ≢ 0 → p < length fs

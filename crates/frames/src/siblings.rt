@@ -70,7 +70,7 @@ pub fn first_by(frames: &[Frame], eldests: &[u32], q: u32) -> u32
     p
 }
 
-// The same by itself: one pass over the table, then the way down, so that it is linear in the places. 256 is MAX_PLACES, as a number for tools/walk.
+// The same by itself: one pass over the table, then the way down, so that it is linear in the places. 256 is MAX_PLACES.
 pub fn first_from(frames: &[Frame], q: u32) -> u32
     requires { length frames.now ≤ max_places }
     ensures { result ≡ first_from (length frames.now) frames.now q }

@@ -1,6 +1,6 @@
 // The lent frame table: the record at a place, read and stored word by word, and a record's count of live children by itself. (A record that is copied
-// whole has no alignment in the compiled module: where loads must be aligned each byte of it is loaded alone, and kept alone on the stack.) What holds
-// the table is walked by hand (proofs, tools/walk); what works on single records is in records.rt.
+// whole has no alignment in the compiled module: where loads must be aligned each byte of it is loaded alone, and kept alone on the stack.) What
+// works on single records is in records.rt.
 ghost use Rattle.std.specs.Prelude.{◌≡◌, ◌<◌, length};
 ghost use Rattle.frames.specs.Frames.{frame_at, set_frame, without_child};
 

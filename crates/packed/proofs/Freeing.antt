@@ -1,23 +1,14 @@
--- A release as the code runs it: a node that lost a holder is freed, or kept. What each call is handed, over plain variables.
+-- A release as the code runs it: a node that lost a holder is freed, or kept. Over plain variables.
 use mathlib.Core.Path.{◌≡◌, sym, subst}
 use mathlib.Core.Bool.{Bool, true, false}
 use mathlib.Core.List.{List}
-use Prim.Native.Nat.{ℕ, ◌*◌, ◌≤◌, ◌<◌}
-use lib.ListN.{length}
+use Prim.Native.Nat.{ℕ}
 use Rattle.words.specs.Tests.{true≢false}
-use Rattle.packed.specs.Pool.{refcount, release}
+use Rattle.packed.specs.Pool.{release}
 use Rattle.packed.specs.Links.{LetGo}
 use Rattle.packed.proofs.Laws.{parts₃, Released}
 
--- what free_tree asks
-abbrev pub Ready : ℕ → List ℕ → ℕ → Type 0
-Ready N ws i = (2 * N ≤ length ws) × (N ≤ 16384) × (i < N) × (refcount ws i ≤ 1)
-
 -- its last holder let go: it is to be freed
-pub to_free : (N : ℕ) (w w' : List ℕ) (a : ℕ) (r : Bool) → 2 * N ≤ length w' → N ≤ 16384 → r ≡ true → LetGo r N w w' a → Ready N w' a
-to_free N w w' a true L n e g = (L, n, g.1, subst (λ q. refcount q a ≤ 1) (sym g.0) g.2)
-to_free N w w' a false L n e g = absurd (true≢false (sym e))
-
 pub freed_now : (N l : ℕ) (w w' : List ℕ) (f k a : ℕ) {w₁ : List ℕ} {f₁ k₁ : ℕ} (r : Bool) → r ≡ true → LetGo r N w w' a → Released (release N l w' f k a) w₁ f₁ k₁ → Released (release N l w f k a) w₁ f₁ k₁
 freed_now N l w w' f k a {w₁} {f₁} {k₁} true e g R = subst (λ q. Released (release N l q f k a) w₁ f₁ k₁) g.0 R
 freed_now N l w w' f k a false e g R = absurd (true≢false (sym e))

@@ -1,5 +1,5 @@
 -- The half that a bit chooses is the child, the other one the sibling: what the walk and the path read and store.
-use mathlib.Core.Path.{◌≡◌, sym, ap, ap₂, ◌∙◌, subst}
+use mathlib.Core.Path.{◌≡◌, sym, ap, ap₂, ◌∙◌}
 use mathlib.Core.Logic.{◌≢◌}
 use mathlib.Core.List.{List}
 use Prim.Native.Nat.{ℕ, zero, suc, ◌+◌, ◌*◌, ◌/◌, ◌%◌, ◌^◌, ◌<◌}
@@ -11,8 +11,6 @@ use Rattle.words.specs.Basics.{none, plus}
 use Rattle.sizes.specs.Bits.{bit_mask, bit_lt}
 use Rattle.sizes.specs.Sizes.{bit}
 use Rattle.pool.specs.Pool.{side}
-use Rattle.pool.specs.Links.{Link}
-use Rattle.pool.specs.Theory.Links.{link_in_lem}
 use Rattle.packed.specs.Pool.{refcount, content, half, link_in, links, left, right, child, sibling, set_node, set_refcount, retain, path_node}
 use Rattle.packed.proofs.Theory.Halves.{half-node, half-link_in, link_in-node, links-sum}
 
@@ -105,9 +103,6 @@ packed_links l r a b w ea eb e =
     e ∙ ap (λ k. (a + k) % 4294967296) t ∙ ap₂ (λ (j k : ℕ). (j + 65536 * k % 4294967296) % 4294967296) ea eb
 
 -- ---- a holder more for the link in a half
-
-pub half_in : (N h : ℕ) → h < 65536 → h ≢ 65535 → Link N (link_in h) → h < N
-half_in N h b o L = link_in_lem (subst (Link N) (link_in-node h o) L) (λ e. omega arith)
 
 pub retained_half : (ws : List ℕ) (h c : ℕ) → h < 65536 → h ≢ 65535 → c ≡ plus (get_or ws (2 * h) 0) 1 → set ws (2 * h) c ≡ retain ws (link_in h)
 unfolding retain set_refcount refcount

@@ -10,7 +10,7 @@ use Rattle.reducers.specs.Reducers.{identity_view, view_words}
 use Rattle.reducers.specs.Law.{ViewWord}
 use Rattle.reducers.proofs.Theory.Laws.{view_law}
 use Rattle.frames.specs.declared.Frame.{Frame}
-use Rattle.frames.specs.Frames.{frame_at, words_of, set_frame, with_outstanding, with_suspended, with_root, with_returning, with_view, with_younger, with_child, after_spawn, child_of, free_record, main_frame}
+use Rattle.frames.specs.Frames.{words_of, set_frame, with_outstanding, with_suspended, with_root, with_returning, with_view, with_younger, with_child, after_spawn, child_of, free_record, main_frame}
 pub use Rattle.frames.specs.Frames.{FrameWords, RecordWords}
 use Rattle.frames.proofs.Theory.Records.{frame-set-same, frame-set_other, set_past}
 

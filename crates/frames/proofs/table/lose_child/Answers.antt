@@ -1,5 +1,4 @@
 -- One word of one record.
-use Rattle.std.proofs.Common.{refl}
 use Rattle.frames.specs.Frames.{frame_at, set_frame}
 use Rattle.frames.proofs.table.lose_child.Goals as goal
 
