@@ -16,8 +16,7 @@ use conversion::convert;
 use engine::{load, save, start, tape};
 use frames::Frame;
 
-#[unsafe(no_mangle)]
-pub extern "C" fn splitter_start(
+pub fn splitter_start(
     numbers: &mut [u32],
     deques: &mut [u32],
     frames: &mut [Frame],
@@ -84,8 +83,7 @@ pub fn result_words(refused: u32, first: u32, second: u32) -> u64
 }
 
 // A step runs as a tape of one record.
-#[unsafe(no_mangle)]
-pub extern "C" fn splitter_step(
+pub fn splitter_step(
     numbers: &mut [u32],
     deques: &mut [u32],
     frames: &mut [Frame],
@@ -105,8 +103,7 @@ pub extern "C" fn splitter_step(
     result_words(refused, answers[0], answers[1])
 }
 
-#[unsafe(no_mangle)]
-pub extern "C" fn splitter_tape(
+pub fn splitter_tape(
     numbers: &mut [u32],
     deques: &mut [u32],
     frames: &mut [Frame],
@@ -122,8 +119,7 @@ pub extern "C" fn splitter_tape(
 }
 
 // R-7: a start, a tape and the report of its work and span.
-#[unsafe(no_mangle)]
-pub extern "C" fn splitter_report(
+pub fn splitter_report(
     numbers: &mut [u32],
     deques: &mut [u32],
     frames: &mut [Frame],
@@ -146,8 +142,7 @@ pub extern "C" fn splitter_report(
 }
 
 // R-1: the state and its pool as an image in the front of the target.
-#[unsafe(no_mangle)]
-pub extern "C" fn splitter_save(
+pub fn splitter_save(
     numbers: &[u32],
     deques: &[u32],
     frames: &[Frame],
@@ -162,8 +157,7 @@ pub extern "C" fn splitter_save(
 }
 
 // R-1: an image back into a state and a pool.
-#[unsafe(no_mangle)]
-pub extern "C" fn splitter_load(
+pub fn splitter_load(
     numbers: &mut [u32],
     deques: &mut [u32],
     frames: &mut [Frame],
@@ -178,8 +172,7 @@ pub extern "C" fn splitter_load(
 }
 
 // R-9: a pool of nodes of four words becomes one of nodes of two words, in the middle of a search.
-#[unsafe(no_mangle)]
-pub extern "C" fn splitter_convert(
+pub fn splitter_convert(
     numbers: &[u32],
     deques: &[u32],
     frames: &[Frame],
@@ -193,16 +186,14 @@ pub extern "C" fn splitter_convert(
 }
 
 // The bytes of an image of so many places and nodes.
-#[unsafe(no_mangle)]
-pub extern "C" fn splitter_image_bytes(places: u32, nodes: u32) -> u64
+pub fn splitter_image_bytes(places: u32, nodes: u32) -> u64
     ensures { result ≡ image_bytes two_words places nodes }
 {
     image::image_bytes(places, nodes)
 }
 
 // T(n).
-#[unsafe(no_mangle)]
-pub extern "C" fn splitter_tree_nodes(n: u32) -> u64
+pub fn splitter_tree_nodes(n: u32) -> u64
     ensures { result ≡ tree_nodes n }
 {
     sizes::tree_nodes(n)

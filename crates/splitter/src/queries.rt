@@ -25,8 +25,7 @@ fn chain_length(pool: &[u32], first: u32, most: u64) -> u64
 }
 
 // The free nodes of a sound state, without a write.
-#[unsafe(no_mangle)]
-pub extern "C" fn splitter_free_nodes(numbers: &[u32], pool: &[u32]) -> u64
+pub fn splitter_free_nodes(numbers: &[u32], pool: &[u32]) -> u64
     ensures { result ≡ free_on numbers.now pool.now }
 {
     if numbers.len() != NUMBER_COUNT {
