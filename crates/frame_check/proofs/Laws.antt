@@ -1,14 +1,14 @@
--- The laws of the functions of src/, and those of the functions that hold the table, whose loops are walked: how a loop begins, a turn of it, and its end.
+-- The laws of the functions of src/, and of the loops over the deques and the table: how a loop begins, a turn of it, and its end.
 use mathlib.Core.Path.{◌≡◌, refl, sym, ap, ◌∙◌}
 use mathlib.Core.Logic.{◌≢◌, inl, inr}
-use mathlib.Core.Bool.{Bool, true, false, cond, not, ◌&&◌, ◌||◌, and-true, and-false, and_assoc}
+use mathlib.Core.Bool.{Bool, true, false, cond, ◌&&◌, ◌||◌, and-true, and_assoc}
 use mathlib.Core.List.{List}
-use Prim.Native.Nat.{ℕ, zero, suc, ◌+◌, ◌-◌, ◌^◌, ◌≤◌, ◌<◌}
+use Prim.Native.Nat.{ℕ, zero, suc, ◌+◌, ◌-◌, ◌≤◌, ◌<◌}
 use native.Mathlib.Nat.{le_trans}
 use native.Mathlib.Numerals.{add-one, sub-one}
 use native.Mathlib.Omega.{arith}
 use lib.Dec.{eqb, leb, ltb}
-use lib.ListN.{length, get_or, length-replicate}
+use lib.ListN.{length, get_or}
 use lib.Seq.{set_out}
 use borrow.Author.Tests.{leb-true, le-leb, lt-leb, ltb-true, ltb-false, lt-ltb, le-ltb, eqb-true, eq-eqb, ne_eqb}
 use Rattle.words.specs.Basics.{none, plus, all, how_many, implies}
@@ -18,16 +18,16 @@ use Rattle.words.specs.Tests.{both, decided}
 use Rattle.frames.specs.Widths.{max_workers, max_places, deque_places}
 use Rattle.frames.specs.declared.Frame.{Frame}
 use Rattle.frames.specs.Frames.{frame_at}
-use Rattle.frames.specs.Siblings.{live_child, younger, chained}
+use Rattle.frames.specs.Siblings.{live_child, chained}
 use Rattle.frames.specs.Deques.{size, place}
 use Rattle.soundness.specs.Soundness.{frames_sound}
 use Rattle.frame_check.specs.declared.Census.{Census}
-use Rattle.frame_check.specs.Algorithm.{deque_step, child_count, deque_count, link_sum, bump, tally, child_in, step_of, step_in, tally_children, tally_deque, tally_deques, zero_past, deque_fits, in_deque, on_deque, deque_sound}
-use Rattle.frame_check.specs.Algorithm.{is_flat, main_at, mains, live_at, lives, end_to, live_end, census_to, child_tallied, no_census, with_live, counted, live_sound, siblings_sound, free_sound, place_tallied, place_checked, next, chain_from, zeros, check_frames}
-use Rattle.frame_check.specs.Algorithm.{lost, free_next, link_next, many_children, link_count, link_first, links_tallied, record_sound}
+use Rattle.frame_check.specs.Algorithm.{deque_step, child_count, link_sum, bump, tally, child_in, step_of, step_in, tally_children, tally_deque, tally_deques, zero_past, deque_fits, in_deque, on_deque, deque_sound}
+use Rattle.frame_check.specs.Algorithm.{is_flat, main_at, mains, live_at, lives, end_to, live_end, census_to, child_tallied, no_census, with_live, counted, siblings_sound, free_sound, place_tallied, place_checked, chain_from, zeros, check_frames}
+use Rattle.frame_check.specs.Algorithm.{lost, free_next, link_next, link_count, link_first, links_tallied, record_sound}
 use Rattle.frame_check.specs.declared.FramesChecked.{FramesChecked}
 use Rattle.frame_check.specs.declared.FramesChecked.TheVariants.{Bad, Good}
-use Rattle.frame_check.specs.Theory.Tallied.{length-tally, length-tally_deques}
+use Rattle.frame_check.specs.Theory.Tallied.{length-tally}
 use Rattle.frame_check.specs.Theory.Ends.{end_live, end_passed, end_le, all_to_end}
 use Rattle.frame_check.specs.Theory.Theorem.{check-frames}
 
@@ -37,15 +37,9 @@ use Rattle.frame_check.specs.Theory.Theorem.{check-frames}
 pub at_end : {A : Type 0} (F : ℕ → A) {n k : ℕ} {x : A} → k ≤ n → n ≤ k → x ≡ F k → x ≡ F n
 at_end F {n} {k} a b e = let d : k ≡ n = omega arith in e ∙ ap F d
 
--- the next number is in a word, within n, and nearer to n
-pub next_fits : {n k : ℕ} → n < 2 ^ 32 → k < n → k + 1 < 2 ^ 32
-next_fits a h = omega arith
-
+-- the next number is within n
 pub next_le : {n k : ℕ} → k < n → k + 1 ≤ n
 next_le h = omega arith
-
-pub next_less : {n k : ℕ} → k < n → n - (k + 1) < n - k
-next_less h = omega arith
 
 pub all_turn : (k : ℕ) (f : ℕ → Bool) {b t : Bool} → b ≡ all k f → t ≡ f k → b && t ≡ all (k + 1) f
 all_turn k f e h = rw (add-one, e, h)
@@ -152,10 +146,6 @@ module _ (fs : List Frame) (ts : List ℕ) (few : length fs ≤ max_places) (lon
         })
   ]
 
-pub passed_ends : (fs : List Frame) (ts : List ℕ) {p : ℕ} {us : List ℕ} {c : Census} → Passed fs ts p us c → length fs ≤ p → (us ≡ tally_children fs ts) × (c ≡ census_to fs (length fs))
-passed_ends fs ts P b =
-    (at_end (λ k. tally (step_in fs) k (child_in fs) ts) P.within b P.tallied, at_end (λ k. census_to fs k) P.within b P.census)
-
 -- ---- tally_deque: deque w, of n frames, above place k
 
 pub record OnDeques (ds : List ℕ) (fs : List Frame) (w n : ℕ) (ts : List ℕ) (before : Bool) (k : ℕ) (us : List ℕ) (sound : Bool) : Type 0 where
@@ -179,12 +169,6 @@ module _ (ds : List ℕ) (fs : List Frame) (w n : ℕ) (ts : List ℕ) (before :
       within = next_le h;
     }
 
-    pub deque_ends : n ≤ k → (us ≡ tally_deque ds w ts) × (sound ≡ (before && deque_sound ds fs w))
-    deque_ends h =
-        let b : k ≤ size ds w = omega (arith, D.within, D.long) in
-        let c : size ds w ≤ k = omega (arith, D.long) in
-        (at_end (λ i. tally (λ j. deque_step) i (place ds w) ts) b c D.tallied, at_end (λ i. before && all i (on_deque ds fs w)) b c D.is)
-
 -- ---- tally_deques: the deques below worker w
 
 pub record InDeques (ds : List ℕ) (fs : List Frame) (ts : List ℕ) (w : ℕ) (us : List ℕ) (sound : Bool) : Type 0 where
@@ -201,9 +185,6 @@ module _ (ds : List ℕ) (fs : List Frame) (ts : List ℕ) where
     pub deques_turn : w < max_workers → {us' : List ℕ} {sound' : Bool} → (us' ≡ tally_deque ds w us) × (sound' ≡ (sound && deque_sound ds fs w)) → InDeques ds fs ts (w + 1) us' sound'
     unfolding tally_deques
     deques_turn h e = record { tallied = e.0 ∙ rw (add-one, D.tallied); is = e.1 ∙ all_turn w (deque_sound ds fs) D.is refl; within = next_le h }
-
-    pub deques_end : max_workers ≤ w → (us ≡ tally_deques max_workers ds ts) × (sound ≡ all max_workers (deque_sound ds fs))
-    deques_end h = (at_end (λ k. tally_deques k ds ts) D.within h D.tallied, at_end (λ k. all k (deque_sound ds fs)) D.within h D.is)
 
 -- ---- follow_free: after k places of the chain, at p
 
@@ -228,9 +209,6 @@ module _ (fs : List Frame) (few : length fs ≤ max_places) where
   ]
 
   module _ (count first : ℕ) where
-    pub free_begins : chain_from fs (count - 0) first ≡ chain_from fs count first
-    free_begins = let e : count - 0 ≡ count = omega arith in ap (λ c. chain_from fs c first) e
-
     pub free_turn : (k p : ℕ) {p' places : ℕ} {f : Frame} → chain_from fs (count - k) p ≡ chain_from fs count first → k < count → places ≡ length fs → f ≡ frame_at fs p → p' ≡ free_next places f p
         → chain_from fs (count - (k + 1)) p' ≡ chain_from fs count first
     free_turn k p i h e d is =

@@ -126,11 +126,11 @@ module _ (N : ℕ) (ws : List ℕ) (level k i : ℕ) (w : List ℕ) (pos : 0 < l
       pub walked : visit N ws (level - 1) part a w ≡ (w₂, b)
       walked = met_below N ws (level - 1) part a w w₁ r m e ∙ pair _ v
 
-      pub walk_fails : not b ≡ true → (w₂, false) ≡ below N ws level k i w
-      walk_fails t = failing w₂ (walked ∙ ap (λ q. (w₂, q)) (not-true b t))
+      pub walk_fails : b ≡ false → (w₂, false) ≡ below N ws level k i w
+      walk_fails t = failing w₂ (walked ∙ ap (λ q. (w₂, q)) t)
 
-      pub left_walked : not b ≡ false → visit N ws (level - 1) part a w ≡ (w₂, true)
-      left_walked t = walked ∙ ap (λ q. (w₂, q)) (not-false b t)
+      pub left_walked : b ≡ true → visit N ws (level - 1) part a w ≡ (w₂, true)
+      left_walked t = walked ∙ ap (λ q. (w₂, q)) t
 
   module _ {w₂ : List ℕ} (v : visit N ws (level - 1) part a w ≡ (w₂, true)) {j : ℕ} (ej : j ≡ right ws i) where
     on_left_lem : on_left N ws (level - 1) k i w ≡ (w₂, true)

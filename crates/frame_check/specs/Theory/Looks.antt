@@ -1,5 +1,5 @@
 -- The facts of soundness are what the check looks for.
-use Rattle.std.specs.Prelude.{◌≡◌, refl, true, false, cond, List, ℕ, zero, suc, ◌-◌, ◌≤◌, ◌<◌, ltb, length}
+use Rattle.std.specs.Prelude.{◌≡◌, refl, cond, List, ℕ, zero, suc, ◌-◌, ◌≤◌, ◌<◌, ltb, length}
 use Rattle.std.proofs.Common.{sym, ap, ◌∙◌, inl, inr, arith}
 use Rattle.words.specs.Basics.{none}
 use Rattle.words.specs.Tests.{decided, true≢false, lt_of, ltb_of}

@@ -1,5 +1,5 @@
 -- How it begins, a turn, and its end.
-use Rattle.std.proofs.Common.{length, ◌≤◌, ℕ, subst}
+use Rattle.std.proofs.Common.{◌≤◌, ℕ, subst}
 use Rattle.frames.specs.Widths.{max_places}
 use Rattle.frame_check.specs.Algorithm.{links_tallied}
 use Rattle.frame_check.proofs.Laws.{links_begin, links_turn, links_end}

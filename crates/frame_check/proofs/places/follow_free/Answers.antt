@@ -1,5 +1,5 @@
 -- A turn, and its end.
-use Rattle.std.proofs.Common.{length, ◌≤◌, ℕ, subst}
+use Rattle.std.proofs.Common.{◌≤◌, ℕ, subst}
 use Rattle.frames.specs.Widths.{max_places}
 use Rattle.frame_check.proofs.Laws.{free_turn, free_ends}
 use Rattle.frame_check.proofs.places.follow_free.Goals as goal

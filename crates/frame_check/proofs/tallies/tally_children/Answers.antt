@@ -1,5 +1,5 @@
 -- How it begins, and a turn.
-use Rattle.std.proofs.Common.{length, ◌≤◌, ◌<◌, subst, ℕ}
+use Rattle.std.proofs.Common.{◌≤◌, ◌<◌, subst, ℕ}
 use Rattle.frames.specs.Widths.{max_places}
 use Rattle.frame_check.proofs.Laws.{passed_begins, passed_turn}
 use Rattle.frame_check.proofs.tallies.tally_children.Goals as goal

@@ -1,0 +1,22 @@
+-- One law for each way out.
+use Rattle.std.proofs.Common.{sym, ◌∙◌}
+use Rattle.pool_check.proofs.Laws.{met_off, met_same, met_other, met_shapeless, met_leaf, met_first}
+use Rattle.pool_check.proofs.trees.meet.Goals as goal
+
+pub returns-then-i-nodes : goal.returns-then-i-nodes
+returns-then-i-nodes c = met_off _ _ _ _ _ _ c.if-i-nodes.true
+
+pub returns-then-word-stamp : goal.returns-then-word-stamp
+returns-then-word-stamp c = rw c.add.ensures (met_same _ _ _ _ _ _ c.if-i-nodes.false c.if-word-ne0.true c.if-word-stamp.true)
+
+pub returns-else-word-stamp : goal.returns-else-word-stamp
+returns-else-word-stamp c = rw c.add.ensures (met_other _ _ _ _ _ _ c.if-i-nodes.false c.if-word-ne0.true c.if-word-stamp.false)
+
+pub returns-then-not-is_shaped : goal.returns-then-not-is_shaped
+returns-then-not-is_shaped c = met_shapeless _ _ _ _ _ _ c.if-i-nodes.false c.if-word-ne0.false (sym c.is_shaped.ensures ∙ c.if-not-is_shaped.true)
+
+pub returns-then-level-eq0 : goal.returns-then-level-eq0
+returns-then-level-eq0 c = met_leaf _ _ _ _ _ _ c.if-i-nodes.false c.if-word-ne0.false (sym c.is_shaped.ensures ∙ c.if-not-is_shaped.false) c.if-level-eq0.true
+
+pub returns-else-level-eq0 : goal.returns-else-level-eq0
+returns-else-level-eq0 c = met_first _ _ _ _ _ _ c.if-i-nodes.false c.if-word-ne0.false (sym c.is_shaped.ensures ∙ c.if-not-is_shaped.false) c.if-level-eq0.false
