@@ -20,11 +20,11 @@ try:
 	@echo 'make try: splitrun wrote these lines, interpreted and compiled three ways. Not the verdict: nothing is proved by that (make run, make test)'
 
 run:
-	@rt check splitrun
+	@tools/build splitrun
 	@target/bin/splitrun < crates/splitrun/stdin
 
 lib:
-	@rt staticlib splitter
+	@tools/build lib
 
 bench: lib
 	@bench/run
