@@ -14,7 +14,7 @@ fn main() {
     println!("cargo:rerun-if-changed={}", archive.display());
     if !archive.is_file() {
         eprintln!(
-            "{} is not there: rt staticlib splitter builds it, or SPLITTER_LIB_DIR names its folder",
+            "{} is not there: make lib builds it, or SPLITTER_LIB_DIR names its folder",
             archive.display()
         );
         process::exit(1);
