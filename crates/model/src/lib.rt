@@ -1,4 +1,5 @@
 #![tactic(auto)]
+
 pub mod record; // record.rt: a record's bytes to its step
 
 // A step of a worker: one of seven kinds, each with only its own fields (document 01, R-5).

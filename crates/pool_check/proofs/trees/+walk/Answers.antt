@@ -20,10 +20,10 @@ returns-then-not-fine t c =
     let inv = c.loop-level.invariant in
     let b = below c.args.nodes c.args.pool.now (c.loop-level.level - 1) c.left_part-part.result (left c.args.pool.now c.loop-level.i) c.meet-met.new.work in
     let descended : (c.if-level-eq1.work ≡ b.0) × (c.if-level-eq1.fine ≡ b.1) =
-      elim c.if-level-eq1.branch [
-        | then-level-eq1 w ↦ rw w.if-level-eq1.true (w.work-is ∙ w.leaves-fine.ensures.0, w.fine-is ∙ w.leaves-fine.ensures.1)
-        | else-level-eq1 w ↦ (w.work-is ∙ w.walk-fine.ensures.0, w.fine-is ∙ w.walk-fine.ensures.1)
-      ]
+    elim c.if-level-eq1.branch [
+      | then-level-eq1 w ↦ rw w.if-level-eq1.true (w.work-is ∙ w.leaves-fine.ensures.0, w.fine-is ∙ w.leaves-fine.ensures.1)
+      | else-level-eq1 w ↦ (w.work-is ∙ w.walk-fine.ensures.0, w.fine-is ∙ w.walk-fine.ensures.1)
+    ]
     in
     parts (walk_fails _ _ _ _ _ _ inv.some c.left_part-part.ensures refl c.meet-met.ensures c.if-met-eq-FIRST.true descended c.if-not-fine.true ∙ inv.same)
 
@@ -36,10 +36,10 @@ joined t c =
     elim c.if-met-eq-FIRST.branch [
       | then-met-eq-FIRST+else-not-fine w ↦ (
           let descended : (w.if-level-eq1.work ≡ b.0) × (w.if-level-eq1.fine ≡ b.1) =
-            elim w.if-level-eq1.branch [
-              | then-level-eq1 v ↦ rw v.if-level-eq1.true (v.work-is ∙ v.leaves-fine.ensures.0, v.fine-is ∙ v.leaves-fine.ensures.1)
-              | else-level-eq1 v ↦ (v.work-is ∙ v.walk-fine.ensures.0, v.fine-is ∙ v.walk-fine.ensures.1)
-            ]
+          elim w.if-level-eq1.branch [
+            | then-level-eq1 v ↦ rw v.if-level-eq1.true (v.work-is ∙ v.leaves-fine.ensures.0, v.fine-is ∙ v.leaves-fine.ensures.1)
+            | else-level-eq1 v ↦ (v.work-is ∙ v.walk-fine.ensures.0, v.fine-is ∙ v.walk-fine.ensures.1)
+          ]
           in
           rw w.work-is (left_walked _ _ _ _ _ _ inv.some c.left_part-part.ensures refl c.meet-met.ensures w.if-met-eq-FIRST.true descended w.if-not-fine.false))
       | else-met-eq-FIRST w ↦ rw w.work-is (met_yes _ _ _ _ _ _ _ _ c.meet-met.ensures c.if-met-eq-REFUSED.false w.if-met-eq-FIRST.false)
@@ -70,8 +70,8 @@ loop-level-preserved t c =
     let f = c.meet-met_right.ensures.first c.if-met_right-ne-FIRST.false in
     record {
       same =
-        sym (met_below _ _ _ _ _ _ _ _ c.meet-met_right.ensures c.if-met_right-ne-FIRST.false)
-        ∙ walk-right _ _ _ _ _ _ inv.some c.left_part-part.ensures refl j refl c.if-k-eq0.false ∙ inv.same;
+          sym (met_below _ _ _ _ _ _ _ _ c.meet-met_right.ensures c.if-met_right-ne-FIRST.false)
+          ∙ walk-right _ _ _ _ _ _ inv.some c.left_part-part.ensures refl j refl c.if-k-eq0.false ∙ inv.same;
       size = c.meet-met_right.auto.work ∙ c.if-met-eq-FIRST.auto.work ∙ c.meet-met.auto.work ∙ inv.size;
       node = f.0;
       some = f.1;
