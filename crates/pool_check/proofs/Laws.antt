@@ -10,14 +10,14 @@ use native.Mathlib.Omega.{arith}
 use native.Mathlib.Decide.{ℕ_discrete}
 use borrow.Author.Tests.{eq-eqb, ne_eqb, eqb-false, lt-ltb, le-ltb, leb-true, le-leb, not-true, not-false}
 use lib.Dec.{eqb, leb, ltb}
-use lib.ListN.{length, get_or, set}
+use lib.ListN.{length, get_or}
 use lib.Pow.{shl_exact}
 use Rattle.words.specs.Basics.{none, all}
 use Rattle.words.specs.Tallies.{same_tests}
 use Rattle.sizes.specs.Sizes.{height}
 use Rattle.sizes.specs.Heights.{height_le}
 use Rattle.words.specs.Tests.{decided, both}
-use Rattle.pool.specs.Pool.{refcount, left, right, value}
+use Rattle.pool.specs.Pool.{left, right, value}
 use Rattle.frames.specs.declared.Frame.{Frame}
 use Rattle.frames.specs.Frames.{frame_at}
 use Rattle.frames.specs.Widths.{max_places}
@@ -27,7 +27,7 @@ use Rattle.pool_check.specs.declared.PoolChecked.TheVariants.{Bad, Good}
 use Rattle.pool_check.specs.Theory.Ways.{on_left, visit_off, visit_again, visit_shapeless, visit-below, below_leaf, below_left, below_end, below_right, place_free_lem, settle_off, settle_on, run_out, run_off, run_on_lem}
 use Rattle.pool_check.specs.Theory.Correct.{check-answer, check_work}
 use Rattle.pool_check.specs.Answer.{in_bounds, pool_checked}
-use Rattle.pool_check.specs.Algorithm.{mark, links, counted, fresh, stamp, and_then, root_visited, record_visited, shaped, stamped, linked, visit, below, onward, Met, Roomy, visit_place, visit_places, DeadFrom, node_right, unvisited, vacant, chain_from, settle, run_check}
+use Rattle.pool_check.specs.Algorithm.{mark, links, counted, stamp, and_then, root_visited, record_visited, shaped, stamped, linked, visit, below, onward, Met, Roomy, visit_place, visit_places, DeadFrom, node_right, unvisited, vacant, chain_from, settle, run_check}
 
 -- the two parts of an equation of pairs, and back
 pub parts : {A : Type 0} {p q : List ℕ × A} → p ≡ q → (p.0 ≡ q.0) × (p.1 ≡ q.1)
@@ -35,13 +35,6 @@ parts e = (ap (λ p. p.0) e, ap (λ p. p.1) e)
 
 pub pair : {A : Type 0} (p : List ℕ × A) {a : List ℕ} {b : A} → (a ≡ p.0) × (b ≡ p.1) → p ≡ (a, b)
 pair p e = rw (e.0, e.1)
-
--- what a call answered, by the test of its negation
-pub held : {s t : Bool} → s ≡ t → not s ≡ false → t ≡ true
-held {s} e h = sym e ∙ not-false s h
-
-pub failed : {s t : Bool} → s ≡ t → not s ≡ true → t ≡ false
-failed {s} e h = sym e ∙ not-true s h
 
 -- ---- a node's shape
 

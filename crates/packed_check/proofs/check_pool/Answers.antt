@@ -1,4 +1,3 @@
-use Rattle.std.proofs.Common.{arith}
 use Rattle.packed_check.proofs.Laws.{check_out, check_roomy, check_in}
 use Rattle.packed_check.proofs.check_pool.Goals as goal
 

@@ -1,5 +1,5 @@
 -- Each definition of Algorithm by its ways out; and what a visit keeps: the length and the words from N on.
-use Rattle.std.specs.Prelude.{◌≡◌, refl, ◌≢◌, Bool, true, false, cond, ◌&&◌, List, eqb, ltb, length, get_or, drop, set}
+use Rattle.std.specs.Prelude.{◌≡◌, refl, ◌≢◌, Bool, true, false, cond, List, eqb, length, get_or, drop, set}
 use Rattle.std.proofs.Common.{◌∙◌, inl, inr, arith, length-set, drop-set-lt}
 use Prim.Native.Nat.{ℕ, zero, suc, ◌+◌, ◌-◌, ◌%◌, ◌^◌, ◌≤◌, ◌<◌, min}
 use Rattle.std.proofs.Math.Decide.{ℕ_discrete, dec_lt}

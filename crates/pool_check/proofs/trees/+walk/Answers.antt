@@ -1,8 +1,7 @@
 -- The laws of a node's children are in Laws, one for each way out.
-use Rattle.std.proofs.Common.{◌≡◌, ℕ, ◌-◌, length, refl, sym, ap, ◌∙◌, true, arith}
+use Rattle.std.proofs.Common.{◌≡◌, ℕ, ◌-◌, refl, sym, ◌∙◌, true, arith}
 use Rattle.pool.specs.Pool.{left, right}
 use Rattle.pool_check.specs.Algorithm.{visit, below}
-use Rattle.pool_check.specs.Theory.Ways.{visit_keeps}
 use Rattle.pool_check.proofs.Laws.{parts, met_yes, met_below, met_answer, walk_refused, walk_fails, left_walked, walk_ends, walk-right}
 use Rattle.pool_check.proofs.trees.+walk.Goals as goal
 use Rattle.pool_check.proofs.trees.+walk.Goals.{Joined-met-eq-FIRST, then-met-eq-FIRST+else-not-fine, else-met-eq-FIRST, then-level-eq1, else-level-eq1}

@@ -1,5 +1,5 @@
 -- Too few words, or zeros in the first n.
-use Rattle.std.proofs.Common.{sym, ◌∙◌, arith}
+use Rattle.std.proofs.Common.{sym, ◌∙◌}
 use borrow.Author.Tests.{lt-leb}
 use Rattle.pool_check.specs.Theory.Cleared.{clear_no, clear_yes}
 use Rattle.pool_check.proofs.work.clear.Goals as goal
