@@ -1,4 +1,4 @@
--- Numbers, the sentences, the layouts of a pool, and Soundness have the definitions; Example computes them on small states; Theory takes soundness apart.
+-- Numbers, the sentences, the layouts of a pool, and Soundness have the definitions. proofs/Example computes them on small states, proofs/Theory takes soundness apart.
 pub mod Numbers
 pub mod Sentence
 pub mod Trees
@@ -6,4 +6,3 @@ pub mod PackedTrees
 pub mod Unpacked
 pub mod Layout
 pub mod Soundness
-pub mod Example

@@ -7,7 +7,7 @@ use Rattle.soundness.specs.declared.Checked.{Checked}
 use Rattle.soundness.specs.declared.Checked.TheVariants.{NoRoom, Sound}
 use Rattle.soundness.specs.Soundness.{checked, cleared}
 use Rattle.soundness.specs.Sentence.{all_of}
-use Rattle.soundness.specs.Example.{rest_quick, rest_quick_lem, free_quick, free_quick_lem, sentences_by}
+use Rattle.soundness.proofs.Example.{rest_quick, rest_quick_lem, free_quick, free_quick_lem, sentences_by}
 use Rattle.soundness.proofs.Theory.Sentences.{sound_is_all}
 use Rattle.model.specs.declared.Decoded.{Decoded}
 use Rattle.model.specs.declared.Decoded.TheVariants.{Invalid}
