@@ -4,7 +4,7 @@ use mathlib.Core.List.{List, [], ◌∷◌, ◌++◌, append_assoc}
 use Prim.Native.Nat.{ℕ, zero, suc, ◌+◌, ◌*◌, ◌≤◌, ◌<◌}
 use native.Mathlib.Omega.{arith}
 use lib.ListN.{length, get_or, set, take, drop, replicate, length-append, replicate-append-replicate}
-use lib.Seq.{take-add, drop-drop, get_or-drop, sets, sets-eq, set_at, append_snoc}
+use lib.Seq.{take-add, drop-drop, get_or-drop, sets-eq, set_at, append_snoc}
 use Rattle.pool.specs.Pool as Four
 use Rattle.packed.specs.Pool as Two
 use Rattle.packed.specs.Pack.{packed_content, packed_from, converted}

@@ -6,7 +6,7 @@ use Rattle.soundness.specs.Layout.{four_words, two_words}
 use Rattle.soundness.specs.Soundness.{cleared}
 use Rattle.semantics.specs.Entries.{State, fits, numbers_of, is_sound, chain_free, whole_nodes}
 use Rattle.semantics.specs.Images.{saved_bytes, load_on}
-use Rattle.semantics.specs.Calls.{Start, StateAndPool, answers_in, Run, Call, call, save, load, begun, run_after, run_of, trace_from}
+use Rattle.semantics.specs.Calls.{Start, StateAndPool, answers_in, Run, Call, call, save, load, run_after, run_of, trace_from}
 use Rattle.semantics.specs.Demands.{Answers, from_start, plain_start, plain_begun, plain_of, before_check, run_from, alone_start, one_worker_calls, OneWorker}
 use Rattle.semantics.specs.Matching.{AsManyNodes, SoundMatch, SavedAs}
 use Rattle.semantics.specs.Convert.{convert_on, change_over, changed_run}

@@ -1,7 +1,7 @@
 -- Document 01's paragraph "Soundness", sentence by sentence, R-3's sentence on the word of frames that wait in their return, R-5's on the totals and the
 -- links between siblings, and R-6's on the length of the frame table, as tests. Definitions only.
 -- A state is its numbers (`Numbers`), the words ts of the four totals, the words ds of the 8 deques and the frame table fs; ws are the lent pool's words.
-use Rattle.std.specs.Prelude.{Bool, cond, not, ◌||◌, ◌&&◌, List, [], ◌∷◌, ◌++◌, ℕ, zero, suc, ◌+◌, ◌-◌, ◌*◌, length, get_or, replicate, drop, eqb, leb, ltb}
+use Rattle.std.specs.Prelude.{Bool, cond, not, ◌||◌, ◌&&◌, List, [], ◌∷◌, ◌++◌, ℕ, zero, suc, ◌-◌, ◌*◌, length, get_or, replicate, drop, eqb, leb, ltb}
 use Rattle.words.specs.Basics.{none, sum, all, some, how_many, implies, count, follow, below}
 use Rattle.sizes.specs.Sizes.{tree_nodes}
 use Rattle.frames.specs.Widths.{max_workers, max_places, deque_places}

@@ -1,5 +1,5 @@
 -- R-9, computed: pools of four-word nodes changed over; a run in the old layout, the change-over, and what follows; refusals 99, 5 and 6.
-use Rattle.std.specs.Prelude.{◌≡◌, refl, Bool, true, cond, ◌&&◌, List, [], ◌∷◌, ◌++◌, map, ℕ, ◌+◌, ◌*◌, length, take, drop, set, replicate, eqb}
+use Rattle.std.specs.Prelude.{◌≡◌, refl, Bool, true, cond, ◌&&◌, List, [], ◌∷◌, ◌++◌, map, ℕ, ◌*◌, length, take, drop, set, replicate, eqb}
 use Rattle.words.specs.Basics.{none, same, joined, δ, count}
 use Rattle.sizes.specs.Sizes.{height, width, tree_nodes, bit}
 use Rattle.pool.specs.Pool.{side}

@@ -19,7 +19,6 @@ use Rattle.frames.proofs.Theory.Siblings.{no_child, children_empty, named_once}
 use Rattle.frames.proofs.Theory.Relinked.{ChildAdded, children-same, children_more}
 use Rattle.soundness.proofs.Theory.Facts.{child_at_lem}
 use Rattle.model.specs.Machine.{Name, Frame, Machine, live}
-use Rattle.model.specs.Steps.{child}
 use Rattle.model.proofs.Theory.FrameTree.{FrameTree}
 use Rattle.semantics.specs.Core.{Core}
 use Rattle.semantics.proofs.Theory.Relation.{Trees, parent_place, Relates, Links}

@@ -1,5 +1,5 @@
 -- What a call leaves when it is refused, and of the work slice and the answer words in any case; for every state and pool.
-use Rattle.std.specs.Prelude.{◌≡◌, Bool, false, cond, ℕ, zero, suc, ◌+◌, ◌*◌, ◌/◌, ◌≤◌, ◌<◌, length, drop, set, eqb, leb}
+use Rattle.std.specs.Prelude.{◌≡◌, Bool, false, cond, ℕ, suc, ◌+◌, ◌*◌, ◌/◌, ◌≤◌, ◌<◌, length, drop, set, eqb, leb}
 use Rattle.std.proofs.Math.Path.{refl}
 use Rattle.std.proofs.Common.{sym, ap, ap₂, ◌∙◌, subst, drop-set-lt, leb-false, ne_eqb}
 use Rattle.std.proofs.Math.Logic.{inl, inr}

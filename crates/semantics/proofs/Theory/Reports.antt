@@ -7,7 +7,7 @@ use Rattle.std.proofs.Math.Nat.{mod-le}
 use Rattle.words.specs.Tests.{decided}
 use Rattle.model.specs.declared.Step.{Step}
 use Rattle.model.specs.declared.Decoded.{Decoded}
-use Rattle.model.specs.Machine.{Frame, live, is_empty, start}
+use Rattle.model.specs.Machine.{Frame, live, is_empty}
 use Rattle.model.specs.Run.{run, trace, Returned}
 use Rattle.model.proofs.Theory.Effects.{live-start}
 use Rattle.model.proofs.Theory.FrameTree.{tree-start}

@@ -1,5 +1,5 @@
 -- No power of two below 2^h covers n, and 2^h does.
-use Rattle.std.proofs.Common.{◌≡◌, ◌<◌, ◌^◌, sym, arith}
+use Rattle.std.proofs.Common.{sym, arith}
 use Rattle.sizes.specs.Heights.{height_is, lt_pow}
 use Rattle.sizes.proofs.height_of.Goals as goal
 

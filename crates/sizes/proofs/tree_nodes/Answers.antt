@@ -1,5 +1,5 @@
 -- A sum of at most 33 widths, each at most n.
-use Rattle.std.proofs.Common.{◌≡◌, ℕ, suc, ◌+◌, ◌*◌, ◌≤◌, ◌<◌, ◌^◌, ap, ◌∙◌, arith}
+use Rattle.std.proofs.Common.{◌≡◌, ℕ, suc, ◌*◌, ◌≤◌, ◌<◌, ◌^◌, ap, ◌∙◌, arith}
 use native.Mathlib.Nat.{mul-le-mul}
 use Rattle.words.specs.Basics.{sum}
 use Rattle.words.specs.Counting.{sum_le}

@@ -16,7 +16,7 @@ use Rattle.pool.specs.Theory.Invariant.{links-left, links-right, links_at, used_
 use Rattle.pool.specs.Theory.Operations.{Live}
 use Rattle.pool.specs.Theory.Soundness.{live-sound}
 use Rattle.pool.specs.Theory.Trees.{TreeAt, PoolSound, tree_in, tree-left, tree-right, tree-bare, tree_leaf, visits}
-use Rattle.packed.specs.Pool.{content, left, right}
+use Rattle.packed.specs.Pool.{content}
 use Rattle.packed.proofs.Theory.Unpacks.{Unpacks}
 use Rattle.soundness.specs.PackedTrees.{reached_on, is_on, levels_of}
 use Rattle.soundness.proofs.Theory.PackedSentences.{PackedTree, PackedSound}

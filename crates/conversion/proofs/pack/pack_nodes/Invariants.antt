@@ -1,5 +1,5 @@
 -- After i nodes the pool is the change-over of its first i nodes; the measure is the nodes left.
-use Rattle.std.proofs.Common.{◌≡◌, ◌-◌, ◌≤◌, length}
+use Rattle.std.proofs.Common.{◌≡◌, ◌-◌, ◌≤◌}
 use Rattle.packed.specs.Pack.{converted}
 use Rattle.conversion.proofs.pack.pack_nodes.Given as goal
 

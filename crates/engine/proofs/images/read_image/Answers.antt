@@ -1,7 +1,7 @@
 use Rattle.soundness.specs.Layout.{two_words}
 use Rattle.image.proofs.Theory.Version.{two_version}
 use Rattle.image.proofs.Theory.Promises.{whole_block}
-use Rattle.engine.proofs.SaveLoad.{image_refused, image_good, load_short, load_room, read_on_lem}
+use Rattle.engine.proofs.SaveLoad.{image_refused, image_good, load_short, read_on_lem}
 use Rattle.engine.proofs.images.read_image.Goals as goal
 
 -- src/images.rt:179:9

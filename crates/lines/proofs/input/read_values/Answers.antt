@@ -1,5 +1,5 @@
 -- A turn and the end of the loop are in `proofs.Loops`.
-use Rattle.std.proofs.Common.{◌≡◌, refl, ap, ℕ, ◌-◌, length, arith}
+use Rattle.std.proofs.Common.{◌≡◌, ap, ℕ, ◌-◌, length, arith}
 use Rattle.lines.specs.Lines.{number32_at, numbers_at}
 use Rattle.lines.proofs.Loops.{values_turn, values_end}
 use Rattle.lines.proofs.input.read_values.Goals as goal
