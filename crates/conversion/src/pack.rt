@@ -48,10 +48,7 @@ pub fn pack_nodes(pool: &mut [u32], nodes: u32)
     requires { 4 * nodes ≤ length pool.old }
     ensures { pool.new ≡ converted nodes pool.old }
 {
-    let end = nodes as usize;
-    let mut i: usize = 0;
-    while i < end {
+    for i in 0..nodes as usize {
         pack_node(pool, nodes, i);
-        i += 1;
     }
 }

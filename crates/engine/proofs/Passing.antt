@@ -1,9 +1,10 @@
 -- What the tests of a step and a ready core give to the calls after them.
+use Rattle.std.specs.Prelude.{Ok}
 use mathlib.Core.Path.{◌≡◌, refl, sym, ap, ◌∙◌, subst}
 use mathlib.Core.Logic.{inl, inr}
-use mathlib.Core.Bool.{Bool, true, false, cond, not, ◌||◌}
+use mathlib.Core.Bool.{Bool, true, false, not, ◌||◌}
 use mathlib.Core.List.{List, [], ◌∷◌}
-use Prim.Native.Nat.{ℕ, zero, suc, ◌-◌, ◌*◌, ◌≤◌, ◌<◌}
+use Prim.Native.Nat.{ℕ, zero, suc, ◌-◌, ◌≤◌, ◌<◌}
 use native.Mathlib.Omega.{arith}
 use lib.Dec.{eqb, ltb}
 use lib.ListN.{length}
@@ -11,31 +12,47 @@ use borrow.Author.Tests.{eqb-true}
 use Rattle.words.specs.Basics.{none}
 use Rattle.words.specs.Tests.{neither, not-false, lt_of, ge_of}
 use Rattle.packed.specs.Pool.{first_shared, rest}
-use Rattle.pool.specs.Links.{Link}
-use Rattle.packed.specs.Links.{PathIn, IsShared, WriteIn}
-use Rattle.frames.specs.Widths.{max_workers, max_places, deque_places, deque_words}
+use Rattle.packed.specs.Links.{PathIn, IsShared, IsAlone, WriteIn}
+use Rattle.packed.specs.declared.found.Shared.{Shared}
+use Rattle.frames.specs.Widths.{max_workers, max_places, deque_places}
 use Rattle.frames.specs.declared.Frame.{Frame}
 use Rattle.frames.specs.Frames.{frame_at}
 use Rattle.frames.specs.Deques.{size, bottom, top, pop}
-use Rattle.frames.proofs.Theory.Sizes.{length-pop, size-pop}
+use Rattle.frames.proofs.Theory.Sizes.{size-pop}
 use Rattle.frames.specs.Ranges.{Acts, ParentOf, ParentCounts}
-use Rattle.semantics.specs.declared.Head.{Head}
 use Rattle.semantics.specs.declared.Refusal.{Refusal}
 use Rattle.semantics.specs.declared.Refusal.TheVariants.{NoWorker, MainReturned, ThiefBusy, NoVictim}
 use Rattle.semantics.specs.Core.{Core, steal_tests, all_idle, popped, end_at}
 use Rattle.semantics.specs.Ranges.{EndsUpward, Ready}
-use Rattle.engine.proofs.Steps.{refusal-some}
-use Rattle.engine.specs.Promises.{core, refusal_by, ActsOn, ActsAt, EndsFrom, SizesIn}
+use Rattle.engine.specs.declared.refusals.Acting.{Acting}
+use Rattle.engine.specs.Promises.{tested}
+use Rattle.engine.specs.Run.{IsActing, EndsFrom}
+use Rattle.engine.proofs.Steps.{ok_not_err}
 use Rattle.soundness.specs.Layout.{two_words}
 
-pub sizes_in : {c : Core} → Ready c → SizesIn c.head.numbers.workers c.deques
-sizes_in r = record { long = r.long_deques; workers_le = r.workers_le; sizes = r.sizes; absent = r.absent }
+-- what a sound core says of the frame at place p that worker w executes, its n-th
+record ActsAt (c : Core) (w n p : ℕ) : Type 0 where
+  pub worker : w < max_workers
+  pub has : n ≡ size c.deques w
+  pub busy : 0 < n
+  pub most : n ≤ deque_places
+  pub acting : p ≡ bottom c.deques w
+  pub within : p < length c.frames
+  pub room : c.head.numbers.free_place < length c.frames → n < deque_places
+  pub root : (frame_at c.frames p).root < c.head.numbers.nodes
+  pub parent : ParentOf c.frames p (frame_at c.frames p)
+  pub counts : ParentCounts c.frames (frame_at c.frames p)
+  pub upward : (frame_at c.frames p).outstanding ≡ 0 → EndsUpward (frame_at c.frames p).depth (end_at two_words (popped c w) p) (frame_at c.frames p).parent
+  pub path : (x : ℕ) → x < c.head.numbers.splitters → PathIn c.head.numbers.nodes c.pool c.head.height (frame_at c.frames p).root x
+  pub writes : (x : ℕ) → x < c.head.numbers.splitters → rest c.head.height c.pool (frame_at c.frames p).root x ≤ c.head.free_count
+      → WriteIn c.head.numbers.nodes c.head.height c.pool c.head.numbers.free_node x (first_shared c.head.height c.pool (frame_at c.frames p).root (frame_at c.frames p).root x)
 
--- the frame that worker w executes, in a ready core
-pub acts_at : (c : Core) (w n p : ℕ) → Ready c → w < c.head.numbers.workers → ActsOn c.deques w n p → ActsAt c w n p
+-- the frame that worker w executes, which refusals 8, 9 and 10 let pass, in a ready core
+acts_at : (c : Core) (w : ℕ) (at : Acting) → Ready c → IsActing c w (Ok at) → ActsAt c w at.count at.place
 unfolding bottom
-acts_at c w n p r l a =
-    let w8 : w < max_workers = omega (arith, r.workers_le) in
+acts_at c w at r ok =
+    let a = ok.2 in
+    let w8 : w < max_workers = omega (arith, ok.0, r.workers_le) in
     let some : 0 < size c.deques w = omega (arith, a.has, a.busy) in
     record {
       worker = w8;
@@ -61,97 +78,92 @@ just_one zero l f = absurd (omega (arith, l))
 just_one (suc zero) l f = refl
 just_one (suc (suc k)) l f = absurd (f (omega arith))
 
-module _ (c : Core) (w n p : ℕ) (r : Ready c) (a : ActsAt c w n p) (f : Frame) (ef : f ≡ frame_at c.frames p) where
-  pub acts : Acts c.deques c.frames w n p f
-  acts = record { long_deques = r.long_deques; worker = a.worker; has = a.has; some = a.busy; most = a.most; acting = a.acting; within = a.within; is = ef }
+module _ (c : Core) (w : ℕ) (at : Acting) (r : Ready c) (ok : IsActing c w (Ok at)) where
+  abbrev n : ℕ
+  n = at.count
 
-  pub root_link : Link c.head.numbers.nodes f.root
-  root_link = inl (subst (λ (g : Frame). g.root < c.head.numbers.nodes) (sym ef) a.root)
+  abbrev p : ℕ
+  p = at.place
 
-  pub spawn_asks : (c.head.numbers.free_place ≡ none → ⊥) → Acts c.deques c.frames w n p f × (n < deque_places) × (length c.frames ≤ max_places) × (c.head.numbers.free_place < length c.frames)
-  spawn_asks o =
-      let l : c.head.numbers.free_place < length c.frames = elim r.free_place_lem [ inl q ↦ q | inr q ↦ absurd (o q) ] in
-      (acts, a.room l, r.few_places, l)
+  a : ActsAt c w n p
+  a = acts_at c w at r ok
 
-  -- once it has left its deque
-  -- Main has no frame above it
-  top_alone : (frame_at c.frames p).parent ≡ none → n ≡ 1
-  top_alone e = just_one n a.busy (λ l. r.below w a.worker (omega (arith, l, a.has)) (ap (λ (x : ℕ). (frame_at c.frames x).parent) (sym a.acting) ∙ e))
+  pub within : at.place < length c.frames
+  within = a.within
 
-  pub ends_asks : (ds' : List ℕ) → ds' ≡ pop c.deques w → f.outstanding ≡ 0 → EndsFrom (core c.head c.totals ds' c.frames c.pool) w n p
-  unfolding end_at
-  ends_asks ds' e z =
-      subst (λ (ds : List ℕ). EndsFrom (core c.head c.totals ds c.frames c.pool) w n p) (sym e)
-      (record {
-        worker = a.worker;
-        long_deques = length-pop c.deques w ∙ r.long_deques;
-        has = omega (arith, a.has, a.busy, size-pop c.deques w r.long_deques a.worker);
-        alone = top_alone;
-        nodes_le = r.nodes_le;
-        few_places = r.few_places;
-        can_end = record {
-          room = r.pool_room;
-          root = a.root;
-          frame = record { within = a.within; up = refl; parent = a.parent; counts = a.counts };
-        };
-        upward = a.upward (sym (ap (λ (g : Frame). g.outstanding) ef) ∙ z);
-      })
+  module _ (f : Frame) (ef : f ≡ frame_at c.frames p) where
+    pub acts : Acts c.deques c.frames w at.count at.place f
+    acts = record { long_deques = r.long_deques; worker = a.worker; has = a.has; some = a.busy; most = a.most; acting = a.acting; within = a.within; is = ef }
+
+    pub spawn_asks : (c.head.numbers.free_place ≡ none → ⊥) → Acts c.deques c.frames w at.count at.place f × (at.count < deque_places) × (length c.frames ≤ max_places) × (c.head.numbers.free_place < length c.frames)
+    spawn_asks o =
+        let l : c.head.numbers.free_place < length c.frames = elim r.free_place_lem [ inl q ↦ q | inr q ↦ absurd (o q) ] in
+        (acts, a.room l, r.few_places, l)
+
+    -- Main has no frame above it
+    top_alone : (frame_at c.frames p).parent ≡ none → n ≡ 1
+    top_alone e = just_one n a.busy (λ l. r.below w a.worker (omega (arith, l, a.has)) (ap (λ (x : ℕ). (frame_at c.frames x).parent) (sym a.acting) ∙ e))
+
+    -- once it has left its deque
+    pub ends_asks : (ds : List ℕ) → ds ≡ pop c.deques w → f.outstanding ≡ 0 → EndsFrom (record c { deques = ds }) w at.count at.place
+    unfolding end_at
+    ends_asks ds e z =
+        subst (λ (es : List ℕ). EndsFrom (record c { deques = es }) w n p) (sym e)
+        (record {
+          worker = a.worker;
+          has = omega (arith, a.has, a.busy, size-pop c.deques w r.long_deques a.worker);
+          alone = top_alone;
+          few_places = r.few_places;
+          can_end = record {
+            room = r.pool_room;
+            root = a.root;
+            frame = record { within = a.within; up = refl; parent = a.parent; counts = a.counts };
+          };
+          upward = a.upward (sym (ap (λ (g : Frame). g.outstanding) ef) ∙ z);
+        })
+
+  -- ---- a write
+
+  module _ (root : ℕ) (er : root ≡ (frame_at c.frames p).root) (x : ℕ) (l : x < c.head.numbers.splitters) where
+    -- it meets nodes only
+    writes_in : (first_shared c.head.height c.pool root root x).0 ≤ c.head.free_count
+        → WriteIn c.head.numbers.nodes c.head.height c.pool c.head.numbers.free_node x (first_shared c.head.height c.pool root root x)
+    unfolding rest
+    writes_in enough =
+        subst (λ (i : ℕ). rest c.head.height c.pool i x ≤ c.head.free_count → WriteIn c.head.numbers.nodes c.head.height c.pool c.head.numbers.free_node x (first_shared c.head.height c.pool i i x))
+        (sym er) (a.writes x l) enough
+
+    -- of the leaf, no node being shared
+    pub leaf_asks : {leaf : ℕ} → IsAlone leaf (first_shared c.head.height c.pool root root x) → leaf < c.head.numbers.nodes
+    leaf_asks e = omega (arith, e.found, (writes_in (omega (arith, e.rest))).node)
+
+    pub write_asks : {s : Shared} → IsShared c.head.height s (first_shared c.head.height c.pool root root x) → s.level < c.head.free_count
+        → (c.head.height ≤ 32) × (s.level < c.head.free_count)
+        × IsShared c.head.height s (first_shared c.head.height c.pool root root x)
+        × WriteIn c.head.numbers.nodes c.head.height c.pool c.head.numbers.free_node x (first_shared c.head.height c.pool root root x)
+    write_asks e enough = (omega (arith, r.low), enough, e, writes_in (omega (arith, e.rest)))
 
 -- ---- a steal: the thief is idle, and the victim has two frames
 
-pass_four : (a b c d : Bool) (q r s t : Refusal) → 0 ≡ refusal_by ((a, q) ∷ (b, r) ∷ (c, s) ∷ (d, t) ∷ []) → (a ≡ false) × (c ≡ false) × (d ≡ false)
-pass_four true b c d q r s t e = absurd (refusal-some q (sym e))
-pass_four false true c d q r s t e = absurd (refusal-some r (sym e))
-pass_four false false true d q r s t e = absurd (refusal-some s (sym e))
-pass_four false false false true q r s t e = absurd (refusal-some t (sym e))
-pass_four false false false false q r s t e = (refl, refl, refl)
+pass_four : (a b d e : Bool) (q r s t : Refusal) → Ok tt ≡ tested ((a, q) ∷ (b, r) ∷ (d, s) ∷ (e, t) ∷ []) → (a ≡ false) × (d ≡ false) × (e ≡ false)
+pass_four true b d e q r s t u = absurd (ok_not_err u)
+pass_four false true d e q r s t u = absurd (ok_not_err u)
+pass_four false false true e q r s t u = absurd (ok_not_err u)
+pass_four false false false true q r s t u = absurd (ok_not_err u)
+pass_four false false false false q r s t u = (refl, refl, refl)
 
-module _ (h : Head) (ts ds : List ℕ) (fs : List Frame) (ws : List ℕ) (w v : ℕ) (ready : Ready (core h ts ds fs ws)) (u : ℕ) (eu : u ≡ refusal_by (steal_tests (core h [] ds [] []) w v)) (pass : u ≡ 0) where
-  pub steal_asks : (length ds ≡ deque_words) × (w < max_workers) × (v < max_workers) × (size ds w ≡ 0) × (2 ≤ size ds v) × (size ds v ≤ deque_places)
+module _ (c : Core) (w v : ℕ) (ready : Ready c) (pass : Ok tt ≡ tested (steal_tests c w v)) where
+  pub steal_asks : (w < max_workers) × (v < max_workers) × (size c.deques w ≡ 0) × (2 ≤ size c.deques v) × (size c.deques v ≤ deque_places)
   steal_asks =
-      let n = h.numbers.workers in
-      let t = pass_four (not (ltb w n)) (all_idle (core h [] ds [] [])) (not (eqb (size ds w) 0)) (not (ltb v n) || ltb (size ds v) 2) NoWorker MainReturned ThiefBusy NoVictim (sym pass ∙ eu) in
-      let d = neither (not (ltb v n)) (ltb (size ds v) 2) t.2 in
+      let n = c.head.numbers.workers in
+      let t = pass_four (not (ltb w n)) (all_idle c) (not (eqb (size c.deques w) 0)) (not (ltb v n) || ltb (size c.deques v) 2) NoWorker MainReturned ThiefBusy NoVictim pass in
+      let d = neither (not (ltb v n)) (ltb (size c.deques v) 2) t.2 in
       let lw : w < n = lt_of (not-false (ltb w n) t.0) in
       let lv : v < n = lt_of (not-false (ltb v n) d.0) in
       let w8 : w < max_workers = omega (arith, ready.workers_le) in
       let v8 : v < max_workers = omega (arith, ready.workers_le) in
-      (ready.long_deques, w8, v8, eqb-true (size ds w) 0 (not-false (eqb (size ds w) 0) t.1), ge_of d.1, ready.sizes v v8)
+      (w8, v8, eqb-true (size c.deques w) 0 (not-false (eqb (size c.deques w) 0) t.1), ge_of d.1, ready.sizes v v8)
 
-  pub top_asks : (p : ℕ) → p ≡ top ds v → p < length fs
+  pub top_asks : (p : ℕ) → p ≡ top c.deques v → p < length c.frames
   unfolding top
-  top_asks p e = subst (λ (k : ℕ). k < length fs) (sym e) (ready.held v 0 steal_asks.2 (omega (arith, steal_asks.4)))
-
--- ---- a read and a write
-
-module _ (c : Core) (w n p : ℕ) (r : Ready c) (a : ActsAt c w n p) (root : ℕ) (er : root ≡ (frame_at c.frames p).root) where
-  pub read_asks : (x : ℕ) → x < c.head.numbers.splitters
-      → (2 * c.head.numbers.nodes ≤ length c.pool) × (c.head.height ≤ 32) × PathIn c.head.numbers.nodes c.pool c.head.height root x
-  read_asks x l = (
-    r.pool_room,
-    omega (arith, r.low),
-    subst (λ (i : ℕ). PathIn c.head.numbers.nodes c.pool c.head.height i x) (sym er) (a.path x l),
-  )
-
-  -- the write meets nodes only
-  writes_in : (x : ℕ) → x < c.head.numbers.splitters → (first_shared c.head.height c.pool root root x).0 ≤ c.head.free_count
-      → WriteIn c.head.numbers.nodes c.head.height c.pool c.head.numbers.free_node x (first_shared c.head.height c.pool root root x)
-  unfolding rest
-  writes_in x l enough =
-      subst (λ (i : ℕ). rest c.head.height c.pool i x ≤ c.head.free_count → WriteIn c.head.numbers.nodes c.head.height c.pool c.head.numbers.free_node x (first_shared c.head.height c.pool i i x))
-      (sym er) (a.writes x l) enough
-
-  module _ (x : ℕ) (l : x < c.head.numbers.splitters) {b : Bool} {m node above : ℕ} (e : IsShared c.head.height b m node above (first_shared c.head.height c.pool root root x)) where
-    -- of the leaf, no node being shared
-    pub leaf_asks : b ≡ false → (2 * c.head.numbers.nodes ≤ length c.pool) × (node < c.head.numbers.nodes)
-    leaf_asks n =
-        let z : (first_shared c.head.height c.pool root root x).0 ≡ 0 = e.rest ∙ ap (λ b. cond b (suc m) 0) n in
-        (r.pool_room, omega (arith, e.found, (writes_in x l (omega arith)).node))
-
-    pub write_asks : b ≡ true → m < c.head.free_count
-        → (2 * c.head.numbers.nodes ≤ length c.pool) × (c.head.numbers.nodes ≤ 16384) × (c.head.height ≤ 32) × (b ≡ true) × (m < c.head.free_count)
-        × IsShared c.head.height b m node above (first_shared c.head.height c.pool root root x)
-        × WriteIn c.head.numbers.nodes c.head.height c.pool c.head.numbers.free_node x (first_shared c.head.height c.pool root root x)
-    write_asks n enough =
-        let z : (first_shared c.head.height c.pool root root x).0 ≡ suc m = e.rest ∙ ap (λ b. cond b (suc m) 0) n in
-        (r.pool_room, r.nodes_le, omega (arith, r.low), n, enough, e, writes_in x l (omega arith))
+  top_asks p e = subst (λ (k : ℕ). k < length c.frames) (sym e) (ready.held v 0 steal_asks.1 (omega (arith, steal_asks.3)))

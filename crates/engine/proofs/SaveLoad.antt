@@ -1,26 +1,28 @@
 -- The ways out of a save and of a reading, over plain variables.
+use Rattle.std.specs.Prelude.{Err, Ok}
 use mathlib.Core.Path.{◌≡◌, refl, sym, ap, ◌∙◌, subst}
 use mathlib.Core.Logic.{◌≢◌, inl, inr}
 use mathlib.Core.Bool.{Bool, true, false, cond, ◌&&◌}
 use mathlib.Core.List.{List, ◌++◌}
-use Prim.Native.Nat.{ℕ, suc, ◌+◌, ◌-◌, ◌*◌, ◌/◌, ◌≤◌, ◌<◌}
+use Prim.Native.Nat.{ℕ, suc, ◌+◌, ◌-◌, ◌*◌, ◌/◌, ◌≤◌}
 use native.Mathlib.Omega.{arith}
 use lib.Dec.{eqb, leb, ltb}
 use lib.ListN.{length, drop, replicate, length-append, length-drop}
 use lib.Seq.{drop_at, drop-drop}
-use borrow.Author.Tests.{eq-eqb, le-leb, lt-ltb, le-ltb, eqb-true, leb-true, ltb-false, leb-false}
+use borrow.Author.Tests.{eq-eqb, le-leb, eqb-true, leb-true, ltb-false, leb-false}
+use Rattle.image.specs.Image.{ImageCheck}
+use Rattle.image.specs.declared.ImageError.TheVariants.{WrongLength, WrongCheck}
+use Rattle.soundness.specs.Soundness.{Checked}
+use Rattle.soundness.specs.declared.CheckError.{CheckError}
+use Rattle.soundness.specs.declared.CheckError.TheVariants.{NoRoom}
 use Rattle.words.specs.Tests.{decided, both, true≢false}
 use Rattle.frames.specs.declared.Frame.{Frame}
-use Rattle.frames.specs.Widths.{max_places, deque_words}
+use Rattle.frames.specs.Widths.{max_places}
 use Rattle.frames.specs.Frames.{free_record}
 use Rattle.soundness.specs.declared.Numbers.{Numbers}
-use Rattle.soundness.specs.declared.Checked.{Checked}
-use Rattle.soundness.specs.declared.Checked.TheVariants.{NoRoom, Sound}
 use Rattle.soundness.specs.Numbers.{numbers_in, totals_in, number_count}
 use Rattle.soundness.specs.Soundness.{sound, count_of_free, checked, cleared}
 use Rattle.soundness.proofs.Theory.Sentences.{few_places}
-use Rattle.image.specs.declared.ImageCheck.{ImageCheck}
-use Rattle.image.specs.declared.ImageCheck.TheVariants.{WrongLength, WrongCheck}
 use Rattle.image.specs.Image.{Lengths, IsRead, image_of, image_bytes, image_check, node_count, nodes_in, places_in, number_words_in, pool_in, stored}
 use Rattle.image.proofs.Theory.Promises.{parts_lengths, same_nodes, same_places, pool_length}
 use Rattle.semantics.specs.declared.Refusal.TheVariants.{Work, Target}
@@ -30,7 +32,8 @@ use Rattle.semantics.specs.Images.{SaveResult, saved_bytes, save_checked, save_w
 use Rattle.semantics.specs.Promises.{parts, Fits, IsSave, IsLoad}
 use Rattle.semantics.proofs.Theory.WorkSlice.{checked_room, no_room_keeps}
 use Rattle.semantics.proofs.Theory.Images.{sound_numbers}
-use Rattle.engine.specs.Promises.{IsCheck, check_number, image_number, IsRechecked, IsLoading}
+use Rattle.engine.specs.Promises.{IsCheck, IsRechecked, IsLoading}
+use Rattle.engine.proofs.Numbered.{check_number, image_number}
 use Rattle.soundness.specs.Layout.{two_words}
 use Rattle.image.proofs.Theory.Version.{two_version}
 
@@ -48,16 +51,10 @@ and-false : (a : Bool) {b : Bool} → b ≡ false → a && b ≡ false
 and-false true e = e
 and-false false e = refl
 
-pub met_is : (a b c k r : ℕ) → b ≡ c → r ≡ k → a < b → r ≡ cond (ltb a c) k 0
-met_is a b c k r q e l = e ∙ sym (ap (λ (t : Bool). cond t k 0) (ap (ltb a) (sym q) ∙ lt-ltb a b l))
-
-pub unmet_is : (a b c k : ℕ) → b ≡ c → b ≤ a → 0 ≡ cond (ltb a c) k 0
-unmet_is a b c k q l = sym (ap (λ (t : Bool). cond t k 0) (ap (ltb a) (sym q) ∙ le-ltb a b l))
-
 -- ---- what the check's answer says
 
 module _ (s : Numbers) (ts ds : List ℕ) (fs : List Frame) (ws ks : List ℕ) where
-  no_room : leb s.nodes (length ks) ≡ false → checked two_words s ts ds fs ws ks ≡ NoRoom
+  no_room : leb s.nodes (length ks) ≡ false → checked two_words s ts ds fs ws ks ≡ (Err NoRoom)
   unfolding checked
   no_room l = rw l
 
@@ -67,7 +64,7 @@ module _ (s : Numbers) (ts ds : List ℕ) (fs : List Frame) (ws ks : List ℕ) w
     answer_unsound room n =
         let q = e ∙ checked_room two_words s ts ds fs ws ks (le-leb s.nodes (length ks) room) in
         elim (decided (sound two_words s ts ds fs ws)) [
-          | inl t ↦ (let z : k ≡ Sound (count_of_free two_words s ws) = q ∙ ap (λ (b : Bool). cond b (Sound (count_of_free two_words s ws)) Checked.Unsound) t in absurd (n (ap check_number z)))
+          | inl t ↦ (let z : k ≡ Ok (count_of_free two_words s ws) = q ∙ ap (λ (b : Bool). cond b (Ok (count_of_free two_words s ws)) (Err CheckError.Unsound)) t in absurd (n (ap check_number z)))
           | inr t ↦ t
         ]
 
@@ -77,14 +74,14 @@ module _ (s : Numbers) (ts ds : List ℕ) (fs : List Frame) (ws ks : List ℕ) w
       | inl l ↦ elim (decided (sound two_words s ts ds fs ws)) [
         | inl q ↦ q
         | inr q ↦ (
-            let u : k ≡ Checked.Unsound = e ∙ checked_room two_words s ts ds fs ws ks l ∙ ap (λ (b : Bool). cond b (Sound (count_of_free two_words s ws)) Checked.Unsound) q in
+            let u : k ≡ (Err CheckError.Unsound) = e ∙ checked_room two_words s ts ds fs ws ks l ∙ ap (λ (b : Bool). cond b (Ok (count_of_free two_words s ws)) (Err CheckError.Unsound)) q in
             absurd (omega (arith, z, ap check_number u)))
       ]
     ]
 
 -- ---- a save
 
-module _ (ns ds : List ℕ) (fs : List Frame) (ws ks ts : List ℕ) (k : Checked) (ks' : List ℕ) (ek : IsCheck (parts ns ds fs) ws ks ks' k) (r : ℕ) (er : r ≡ check_number k) where
+module _ (ns ds : List ℕ) (fs : List Frame) (ws ks ts : List ℕ) (k : Checked) (ks' : List ℕ) (ek : IsCheck two_words (parts ns ds fs) ws ks ks' k) (r : ℕ) (er : r ≡ check_number k) where
   abbrev s : State
   s = parts ns ds fs
 
@@ -96,18 +93,18 @@ module _ (ns ds : List ℕ) (fs : List Frame) (ws ks ts : List ℕ) (k : Checked
   is_save ks₁ ts₁ r₁ e = record { result = ap (λ (o : SaveResult). o.result) e; work = ap (λ (o : SaveResult). o.work) e; target = ap (λ (o : SaveResult). o.target) e }
 
   refused_by_lem : (j : Checked) → k ≡ j → r ≢ 0 → ◌≡◌ {A = SaveResult} (record { work = ks'; target = ts; result = r }) (save_checked two_words k s ws ks ts)
-  refused_by_lem NoRoom e n = let kept : ks' ≡ ks = ek.0 ∙ no_room_keeps two_words (numbers_in ns) (totals_in ns) ds fs ws ks (sym ek.1 ∙ e) in rw (er, e, kept)
-  refused_by_lem Checked.Unsound e n = rw (er, e, ek.0)
-  refused_by_lem (Sound free) e n = absurd (n (er ∙ ap check_number e))
+  refused_by_lem (Err NoRoom) e n = let kept : ks' ≡ ks = ek.0 ∙ no_room_keeps two_words (numbers_in ns) (totals_in ns) ds fs ws ks (sym ek.1 ∙ e) in rw (er, e, kept)
+  refused_by_lem (Err CheckError.Unsound) e n = rw (er, e, ek.0)
+  refused_by_lem (Ok free) e n = absurd (n (er ∙ ap check_number e))
 
   pub save_refused_lem : r ≢ 0 → IsSave (save_with two_words (parts ns ds fs) ws ks ts) ks' ts r
   save_refused_lem n = is_save ks' ts r (by_answer _ (refused_by_lem k refl n))
 
   module _ (z : r ≡ 0) where
-    sound-answer : (j : Checked) → k ≡ j → (o : SaveResult) → ((free : ℕ) → k ≡ Sound free → o ≡ save_checked two_words (Sound free) s ws ks ts) → o ≡ save_checked two_words k s ws ks ts
-    sound-answer NoRoom e o h = absurd (omega (arith, z, er, ap check_number e))
-    sound-answer Checked.Unsound e o h = absurd (omega (arith, z, er, ap check_number e))
-    sound-answer (Sound free) e o h = h free e ∙ ap (λ (j : Checked). save_checked two_words j s ws ks ts) (sym e)
+    sound-answer : (j : Checked) → k ≡ j → (o : SaveResult) → ((free : ℕ) → k ≡ Ok free → o ≡ save_checked two_words (Ok free) s ws ks ts) → o ≡ save_checked two_words k s ws ks ts
+    sound-answer (Err NoRoom) e o h = absurd (omega (arith, z, er, ap check_number e))
+    sound-answer (Err CheckError.Unsound) e o h = absurd (omega (arith, z, er, ap check_number e))
+    sound-answer (Ok free) e o h = h free e ∙ ap (λ (j : Checked). save_checked two_words j s ws ks ts) (sym e)
 
     module _ (t : ℕ) (et : t ≡ cond (ltb (length ts) (image_bytes two_words (numbers_in ns).places (numbers_in ns).nodes)) (refusal_number Target) 0) where
       pub save_short : t ≢ 0 → IsSave (save_with two_words (parts ns ds fs) ws ks ts) ks' ts t
@@ -130,7 +127,7 @@ module _ (ns ds : List ℕ) (fs : List Frame) (ws ks ts : List ℕ) (k : Checked
 
 -- ---- the check of what was read
 
-module _ (ns ds : List ℕ) (fs : List Frame) (ws ks : List ℕ) (room : (numbers_in ns).nodes ≤ length ks) (k : Checked) (ks' : List ℕ) (ek : IsCheck (parts ns ds fs) ws ks ks' k) (r : ℕ) (er : r ≡ check_number k) where
+module _ (ns ds : List ℕ) (fs : List Frame) (ws ks : List ℕ) (room : (numbers_in ns).nodes ≤ length ks) (k : Checked) (ks' : List ℕ) (ek : IsCheck two_words (parts ns ds fs) ws ks ks' k) (r : ℕ) (er : r ≡ check_number k) where
   pub reread_refused : r ≢ 0 → (fs₁ : List Frame) (ws₁ : List ℕ) (r₁ : ℕ) → (r₁ ≡ 6) × (fs₁ ≡ records_zero fs) × (ws₁ ≡ nodes_zero two_words ws) → IsRechecked (parts ns ds fs) ws ks fs₁ ws₁ ks' r₁
   reread_refused n fs₁ ws₁ r₁ e =
       let u = answer_unsound (numbers_in ns) (totals_in ns) ds fs ws ks k ek.1 room (λ q. n (er ∙ q)) in
@@ -160,22 +157,22 @@ module _ (ns ds : List ℕ) (fs : List Frame) (ws ks image : List ℕ) where
 
   module _ (j : ImageCheck) (ej : j ≡ image_check two_words image) (r : ℕ) (er : r ≡ image_number j) where
     refuses : (i : ImageCheck) → j ≡ i → r ≢ 0 → IsLoading (load_with two_words fs ws ks image) ns ds fs ws ks r
-    refuses WrongLength e n = is_loading (load_with two_words fs ws ks image) ns ds fs ws ks r (by_image (sym ej ∙ e) _ (rw (er, e))) n
-    refuses WrongCheck e n = is_loading (load_with two_words fs ws ks image) ns ds fs ws ks r (by_image (sym ej ∙ e) _ (rw (er, e))) n
-    refuses ImageCheck.Good e n = absurd (n (er ∙ ap image_number e))
+    refuses (Err WrongLength) e n = is_loading (load_with two_words fs ws ks image) ns ds fs ws ks r (by_image (sym ej ∙ e) _ (rw (er, e))) n
+    refuses (Err WrongCheck) e n = is_loading (load_with two_words fs ws ks image) ns ds fs ws ks r (by_image (sym ej ∙ e) _ (rw (er, e))) n
+    refuses (Ok _) e n = absurd (n (er ∙ ap image_number e))
 
     pub image_refused : r ≢ 0 → IsLoading (load_with two_words fs ws ks image) ns ds fs ws ks r
     image_refused n = refuses j refl n
 
-    accepts : (i : ImageCheck) → j ≡ i → r ≡ 0 → image_check two_words image ≡ ImageCheck.Good
-    accepts WrongLength e z = absurd (omega (arith, er, z, ap image_number e))
-    accepts WrongCheck e z = absurd (omega (arith, er, z, ap image_number e))
-    accepts ImageCheck.Good e z = sym ej ∙ e
+    accepts : (i : ImageCheck) → j ≡ i → r ≡ 0 → image_check two_words image ≡ (Ok tt)
+    accepts (Err WrongLength) e z = absurd (omega (arith, er, z, ap image_number e))
+    accepts (Err WrongCheck) e z = absurd (omega (arith, er, z, ap image_number e))
+    accepts (Ok _) e z = sym ej ∙ e
 
-    pub image_good : r ≡ 0 → image_check two_words image ≡ ImageCheck.Good
+    pub image_good : r ≡ 0 → image_check two_words image ≡ (Ok tt)
     image_good z = accepts j refl z
 
-  module _ (good : image_check two_words image ≡ ImageCheck.Good) (N : ℕ) (e_n : N ≡ nodes_in image) (t : ℕ) (et : t ≡ cond (ltb (length ks) N) (refusal_number Work) 0) where
+  module _ (good : image_check two_words image ≡ (Ok tt)) (N : ℕ) (e_n : N ≡ nodes_in image) (t : ℕ) (et : t ≡ cond (ltb (length ks) N) (refusal_number Work) 0) where
     pub load_short : t ≢ 0 → IsLoading (load_with two_words fs ws ks image) ns ds fs ws ks t
     load_short n =
         let short : ltb (length ks) (nodes_in image) ≡ true = ap (ltb (length ks)) (sym e_n) ∙ met (ltb (length ks) N) 5 t et n in
@@ -185,16 +182,13 @@ module _ (ns ds : List ℕ) (fs : List Frame) (ws ks image : List ℕ) where
       roomy : ltb (length ks) (nodes_in image) ≡ false
       roomy = ap (ltb (length ks)) (sym e_n) ∙ unmet (ltb (length ks) N) 4 t et z
 
-      pub load_room : nodes_in image ≤ length ks
-      load_room = ltb-false (length ks) (nodes_in image) roomy
-
       pub read_on_lem : (ns₁ ds₁ : List ℕ) (fs₁ : List Frame) (ws₁ ks₁ : List ℕ) (r : ℕ) → IsLoading (load_read two_words fs ws (cleared (nodes_in image) ks) image) ns₁ ds₁ fs₁ ws₁ ks₁ r → IsLoading (load_with two_words fs ws ks image) ns₁ ds₁ fs₁ ws₁ ks₁ r
       read_on_lem ns₁ ds₁ fs₁ ws₁ ks₁ r I =
           let e = by_image good (load_read two_words fs ws (cleared (nodes_in image) ks) image) (sym (ap (λ (b : Bool). cond b (load_refused fs ws ks Work) (load_read two_words fs ws (cleared (nodes_in image) ks) image)) roomy)) in
           subst (λ (o : LoadResult). IsLoading o ns₁ ds₁ fs₁ ws₁ ks₁ r) e I
 
   -- an image that 17, 18 and 5 do not refuse
-  module _ (good : image_check two_words image ≡ ImageCheck.Good) (room : nodes_in image ≤ length ks) where
+  module _ (good : image_check two_words image ≡ (Ok tt)) (room : nodes_in image ≤ length ks) where
     not_read : eqb (length fs) (places_in image) && is_sound two_words (state_in two_words image) (pool_with two_words ws image) ≡ false → (ns₁ ds₁ : List ℕ) (fs₁ : List Frame) (ws₁ ks₁ : List ℕ) (r : ℕ)
         → (r ≡ 6) × (fs₁ ≡ records_zero fs) × (ws₁ ≡ nodes_zero two_words ws) → ks₁ ≡ cleared (nodes_in image) ks → IsLoading (load_read two_words fs ws (cleared (nodes_in image) ks) image) ns₁ ds₁ fs₁ ws₁ ks₁ r
     not_read u ns₁ ds₁ fs₁ ws₁ ks₁ r e ek = is_loading (load_read two_words fs ws (cleared (nodes_in image) ks) image) ns₁ ds₁ fs₁ ws₁ ks₁ r (rw (u, e.0, e.1, e.2, ek)) (λ q. omega (arith, q, e.0))
@@ -229,7 +223,7 @@ module _ (ns ds : List ℕ) (fs : List Frame) (ws ks image : List ℕ) where
             let h = both (leb (length fs) max_places) (leb (2 * nodes_in image) (length ws)) (both (eqb (length fs) (places_in image)) (leb (length fs) max_places && leb (2 * nodes_in image) (length ws)) (sym eb ∙ y)).1 in
             (leb-true (length fs) max_places h.0, leb-true (2 * nodes_in image) (length ws) h.1)
 
-        pub load_asks : Fits (parts ns ds fs) → (image_check two_words image ≡ ImageCheck.Good) × (length ns ≡ number_count) × Lengths (number_words_in two_words image) ds fs × (2 * nodes_in image ≤ length ws)
+        pub load_asks : Fits (parts ns ds fs) → (image_check two_words image ≡ (Ok tt)) × (length ns ≡ number_count) × Lengths (number_words_in two_words image) ds fs × (2 * nodes_in image ≤ length ws)
         load_asks F =
             let L = parts_lengths two_words two_version image good (omega (arith, same-table, in_bounds_lem.0)) in
             (good, F.numbers, record { numbers = L.numbers; deques = F.deques; frames = same-table ∙ sym (same_places two_words two_version image good); most = in_bounds_lem.0 }, in_bounds_lem.1)
@@ -297,19 +291,21 @@ unfolding load_with
 zeros_handed fs ws ks image = go (image_check two_words image) refl
   where
     go : (j : ImageCheck) → image_check two_words image ≡ j → (load_with two_words fs ws ks image).result ≢ 0 → zeros (load_with two_words fs ws ks image).state.frames ≡ (load_with two_words fs ws ks image).state
-    go WrongLength e n = rw e refl
-    go WrongCheck e n = rw e refl
-    go ImageCheck.Good e n = elim (decided (ltb (length ks) (nodes_in image))) [
+    go (Err WrongLength) e n = rw e refl
+    go (Err WrongCheck) e n = rw e refl
+    go (Ok _) e n = elim (decided (ltb (length ks) (nodes_in image))) [
       | inl t ↦ rw (e, t) refl
       | inr t ↦ elim (decided (eqb (length fs) (places_in image) && is_sound two_words (state_in two_words image) (pool_with two_words ws image))) [ inl q ↦ absurd (rw (e, t, q) at n refl) | inr q ↦ rw (e, t, q) refl ]
     ]
 
 module _ (fs : List Frame) (ws ks image ns ds : List ℕ) (fs₁ : List Frame) (ws₁ ks₁ : List ℕ) (r : ℕ) (I : IsLoading (load_with two_words fs ws ks image) ns ds fs₁ ws₁ ks₁ r) where
-  -- numbers and deques that had their lengths, cleared
-  pub load_zeros : r ≢ 0 → length ns ≡ number_count → length ds ≡ deque_words → (ns₂ ds₂ : List ℕ) → ns₂ ≡ replicate (length ns) 0 → ds₂ ≡ replicate (length ds) 0 → IsLoad (load_with two_words fs ws ks image) ns₂ ds₂ fs₁ ws₁ ks₁ r
-  load_zeros n ln ld ns₂ ds₂ en ed =
-      let z : parts ns₂ ds₂ fs₁ ≡ zeros (load_with two_words fs ws ks image).state.frames = rw (en, ed, ln, ld, I.table) in
-      record { result = I.result; state = z ∙ zeros_handed fs ws ks image (λ q. n (I.result ∙ q)); pool = I.pool; work = I.work }
+  -- numbers and deques are cleared, and the table stays
+  pub load_zeros : r ≢ 0 → (ns₂ ds₂ : List ℕ) (fs₂ : List Frame) → parts ns₂ ds₂ fs₂ ≡ zeros fs₁ → IsLoad (load_with two_words fs ws ks image) ns₂ ds₂ fs₂ ws₁ ks₁ r
+  load_zeros n ns₂ ds₂ fs₂ z =
+      let t : zeros fs₁ ≡ zeros (load_with two_words fs ws ks image).state.frames = ap zeros I.table in
+      record { result = I.result; state = z ∙ t ∙ zeros_handed fs ws ks image (λ q. n (I.result ∙ q)); pool = I.pool; work = I.work }
 
-  pub load_kept : r ≡ 0 → IsLoad (load_with two_words fs ws ks image) ns ds fs₁ ws₁ ks₁ 0
-  load_kept z = record { result = sym z ∙ I.result; state = I.state z; pool = I.pool; work = I.work }
+-- what is asked of the table, of another that is the same
+pub same_takes : (fs fs' : List Frame) (ws image : List ℕ) (b : Bool) → fs ≡ fs' → b ≡ eqb (length fs) (places_in image) && (leb (length fs) max_places && leb (2 * nodes_in image) (length ws))
+    → b ≡ eqb (length fs') (places_in image) && (leb (length fs') max_places && leb (2 * nodes_in image) (length ws))
+same_takes fs fs' ws image b e eb = rw (sym e) eb

@@ -1,55 +1,31 @@
 -- The start's ways out, over plain variables.
+use Rattle.std.specs.Prelude.{Result, ⊤, is_err}
 use mathlib.Core.Path.{◌≡◌, refl, sym, ap, ◌∙◌}
 use mathlib.Core.Logic.{◌≢◌}
 use mathlib.Core.Bool.{Bool, true, false, cond, ◌||◌}
 use mathlib.Core.List.{List, [], ◌∷◌}
-use Prim.Native.Nat.{ℕ, ◌≤◌, ◌<◌}
-use native.Mathlib.Omega.{arith}
-use native.Mathlib.Decide.{ℕ_discrete}
+use Prim.Native.Nat.{ℕ}
 use lib.Dec.{eqb, ltb}
 use lib.ListN.{length, replicate}
-use borrow.Author.Tests.{eq-eqb}
-use Rattle.words.specs.Tests.{neither, ge_of, true≢false}
 use Rattle.sizes.specs.Sizes.{tree_nodes}
 use Rattle.packed.specs.Pool.{init_pool}
 use Rattle.frames.specs.declared.Frame.{Frame}
 use Rattle.frames.specs.Widths.{max_places, deque_words}
 use Rattle.frames.specs.Frames.{init_frames}
 use Rattle.frames.specs.Deques.{init_deques}
+use Rattle.frames.proofs.Theory.Start.{length_init}
 use Rattle.soundness.specs.declared.Numbers.{Numbers}
 use Rattle.soundness.specs.Numbers.{number_words, total_count}
 use Rattle.semantics.specs.declared.Refusal.{Refusal}
 use Rattle.semantics.specs.declared.Refusal.TheVariants.{Values, Workers, Places, Nodes}
 use Rattle.semantics.specs.Answers.{refusal_number}
 use Rattle.semantics.specs.Entries.{StartResult, zeros, whole_nodes, first_numbers, first_state, start_accepted, start_refused, start_with}
-use Rattle.semantics.specs.Promises.{parts, Fits, IsStart}
-use Rattle.engine.specs.Promises.{refusal_by, start_tests}
-use Rattle.engine.proofs.Steps.{refusal-some}
+use Rattle.semantics.specs.Promises.{parts, IsStart}
+use Rattle.engine.specs.Promises.{result_number, start_tests, tested}
+use Rattle.engine.proofs.Numbered.{refusal_by, refusal-some, number_tested, some_refused, none_refused}
 use Rattle.soundness.specs.Layout.{two_words}
 
 -- ---- the refusal
-
-pub few : (n : ℕ) → eqb n 0 || ltb 256 n ≡ false → n ≤ 256
-few n f = ge_of (neither (eqb n 0) (ltb 256 n) f).1
-
-module _ (workers n places nodes : ℕ) where
-  pub start-values : eqb n 0 || ltb 256 n ≡ true → refusal_number Values ≡ refusal_by (start_tests workers n places nodes)
-  start-values t = rw t
-
-  module _ (f : eqb n 0 || ltb 256 n ≡ false) where
-    pub start_workers : eqb workers 0 || ltb 8 workers ≡ true → refusal_number Workers ≡ refusal_by (start_tests workers n places nodes)
-    start_workers t = rw (f, t)
-
-    module _ (g : eqb workers 0 || ltb 8 workers ≡ false) where
-      pub start_places : eqb places 0 || ltb 256 places ≡ true → refusal_number Places ≡ refusal_by (start_tests workers n places nodes)
-      start_places t = rw (f, g, t)
-
-      module _ (q : eqb places 0 || ltb 256 places ≡ false) (k : ℕ) (e : k ≡ tree_nodes n) where
-        pub start-nodes : ltb nodes k || ltb 16384 nodes ≡ true → refusal_number Nodes ≡ refusal_by (start_tests workers n places nodes)
-        start-nodes t = rw (f, g, q, ← e, t)
-
-        pub start_passes : ltb nodes k || ltb 16384 nodes ≡ false → 0 ≡ refusal_by (start_tests workers n places nodes)
-        start_passes t = rw (f, g, q, ← e, t)
 
 -- ---- the start
 
@@ -68,40 +44,32 @@ none_refuses false false true d e = absurd (refusal-some Places (sym e))
 none_refuses false false false true e = absurd (refusal-some Nodes (sym e))
 none_refuses false false false false e = (refl, refl, refl, refl)
 
-module _ (workers : ℕ) (vs : List ℕ) (fs : List Frame) (ws : List ℕ) (nodes : ℕ) (en : nodes ≡ whole_nodes two_words ws) (k : ℕ) (ek : k ≡ refusal_by (start_tests workers (length vs) (length fs) nodes)) where
-  number_is : k ≡ refusal_by (start_tests workers (length vs) (length fs) (whole_nodes two_words ws))
-  number_is = ek ∙ ap (λ (m : ℕ). refusal_by (start_tests workers (length vs) (length fs) m)) en
+module _ (workers : ℕ) (vs : List ℕ) (fs : List Frame) (ws : List ℕ) (nodes : ℕ) (en : nodes ≡ whole_nodes two_words ws) (x : Result ⊤ Refusal) (ex : x ≡ tested (start_tests workers (length vs) (length fs) nodes)) where
+  number_is : result_number x ≡ refusal_by (start_tests workers (length vs) (length fs) (whole_nodes two_words ws))
+  number_is = ap result_number ex ∙ number_tested (start_tests workers (length vs) (length fs) nodes) ∙ ap (λ (m : ℕ). refusal_by (start_tests workers (length vs) (length fs) m)) en
 
-  -- refused: the parts are cleared, and the table stays
-  pub start_refused_lem : k ≢ 0 → (ns ds ns' ds' : List ℕ) → Fits (parts ns ds fs) → ns' ≡ replicate (length ns) 0 → ds' ≡ replicate (length ds) 0 → IsStart (start_with two_words workers vs fs ws) ns' ds' fs ws k
+  -- refused: numbers and deques are zero, and the table stays
+  pub start_refused_lem : is_err x ≡ true → (ns' ds' : List ℕ) (fs' : List Frame) → parts ns' ds' fs' ≡ zeros fs → IsStart (start_with two_words workers vs fs ws) ns' ds' fs' ws (result_number x)
   unfolding start_with
-  start_refused_lem n ns ds ns' ds' F e₁ e₂ =
+  start_refused_lem n ns' ds' fs' z =
       let q = refused_by_lem (eqb (length vs) 0 || ltb 256 (length vs)) (eqb workers 0 || ltb 8 workers) (eqb (length fs) 0 || ltb max_places (length fs))
-      (ltb (whole_nodes two_words ws) (tree_nodes (length vs)) || ltb 16384 (whole_nodes two_words ws)) (λ r. start_refused r fs ws) (start_accepted two_words workers vs fs ws) k number_is n in
-      let z : parts ns' ds' fs ≡ zeros fs = rw (e₁, e₂, F.numbers, F.deques) in
+      (ltb (whole_nodes two_words ws) (tree_nodes (length vs)) || ltb 16384 (whole_nodes two_words ws)) (λ r. start_refused r fs ws) (start_accepted two_words workers vs fs ws) (result_number x) number_is (some_refused x n) in
       record { result = q.1 ∙ ap (λ (b : StartResult). b.result) q.2; state = z ∙ ap (λ (b : StartResult). b.state) q.2; pool = ap (λ (b : StartResult). b.pool) q.2 }
 
-  module _ (z : k ≡ 0) where
+  module _ (z : is_err x ≡ false) where
     passes : (eqb (length vs) 0 || ltb 256 (length vs) ≡ false) × (eqb workers 0 || ltb 8 workers ≡ false) × (eqb (length fs) 0 || ltb max_places (length fs) ≡ false)
         × (ltb (whole_nodes two_words ws) (tree_nodes (length vs)) || ltb 16384 (whole_nodes two_words ws) ≡ false)
     passes = none_refuses (eqb (length vs) 0 || ltb 256 (length vs)) (eqb workers 0 || ltb 8 workers) (eqb (length fs) 0 || ltb max_places (length fs))
-        (ltb (whole_nodes two_words ws) (tree_nodes (length vs)) || ltb 16384 (whole_nodes two_words ws)) (sym z ∙ number_is)
+        (ltb (whole_nodes two_words ws) (tree_nodes (length vs)) || ltb 16384 (whole_nodes two_words ws)) (sym (none_refused x z) ∙ number_is)
 
     pub start_taken : (start_with two_words workers vs fs ws).result ≡ 0
     unfolding start_with
     start_taken = rw (passes.0, passes.1, passes.2, passes.3)
 
-    pub few_values : length vs ≤ 256
-    few_values = few (length vs) passes.0
-
-    pub few_nodes : nodes ≤ 16384
-    few_nodes = ge_of (neither (ltb nodes (tree_nodes (length vs))) (ltb 16384 nodes) (ap (λ (m : ℕ). ltb m (tree_nodes (length vs)) || ltb 16384 m) en ∙ passes.3)).1
-
-    pub table_fits : (0 < length fs) × (length fs ≤ max_places)
-    table_fits = (
-      elim (ℕ_discrete (length fs) 0) [ yes e ↦ absurd (true≢false (sym (eq-eqb (length fs) 0 e) ∙ (neither (eqb (length fs) 0) (ltb max_places (length fs)) passes.2).0)) | no e ↦ omega (arith, e) ],
-      ge_of (neither (eqb (length fs) 0) (ltb max_places (length fs)) passes.2).1,
-    )
+    -- the table keeps its length
+    pub started_table : length (start_with two_words workers vs fs ws).state.frames ≡ length fs
+    unfolding start_with
+    started_table = rw (passes.0, passes.1, passes.2, passes.3) (length_init fs)
 
     pub started : (free : ℕ) (n : Numbers) (ns ds : List ℕ) (fs' : List Frame) (ws' : List ℕ)
         → (ws' ≡ (init_pool ws (length vs) nodes vs).0) × (free ≡ (init_pool ws (length vs) nodes vs).1) → ds ≡ init_deques (replicate deque_words 0) → fs' ≡ init_frames fs

@@ -1,9 +1,10 @@
 -- R-7: a report's turns, over plain variables: a record, then the reads, writes and folds after it, whose clocks are moved when all of them are done.
+use Rattle.std.specs.Prelude.{None, Some}
 use mathlib.Core.Path.{◌≡◌, refl, sym, ap, subst, ◌∙◌}
 use mathlib.Core.Logic.{◌≢◌, inl, inr}
 use mathlib.Core.Bool.{Bool, true, false, cond, ◌&&◌}
 use mathlib.Core.List.{List, [], ◌∷◌, ◌++◌}
-use Prim.Native.Nat.{ℕ, zero, suc, ◌+◌, ◌-◌, ◌*◌, ◌/◌, ◌≤◌, ◌<◌}
+use Prim.Native.Nat.{ℕ, zero, suc, ◌+◌, ◌-◌, ◌*◌, ◌≤◌, ◌<◌}
 use native.Mathlib.Omega.{arith}
 use lib.Dec.{eqb, ltb, leb}
 use lib.ListN.{length, get_or}
@@ -12,14 +13,10 @@ use borrow.Author.Tests.{ne_eqb, eqb-true, eq-eqb, lt-leb}
 use Rattle.words.specs.Tests.{decided, true≢false, lt_of, not-false}
 use Rattle.frames.specs.Widths.{max_workers}
 use Rattle.frames.specs.Deques.{size, bottom}
-use Rattle.frames.specs.declared.Frame.{Frame}
 use Rattle.frames.specs.Frames.{frame_at}
-use Rattle.model.specs.Record.{valid_if, record_of, decode_at}
-use Rattle.model.specs.declared.Decoded.{Decoded}
-use Rattle.model.specs.declared.Decoded.TheVariants.{Valid, Invalid}
+use Rattle.model.specs.Record.{Decoded, valid_if, record_of, decode_at}
 use Rattle.model.specs.declared.Step.{Step}
 use Rattle.model.specs.declared.Step.TheVariants.{Spawn, Return, Steal, Sync, Read, Write, Fold}
-use Rattle.semantics.specs.declared.Head.{Head}
 use Rattle.semantics.specs.declared.Refusal.{Refusal}
 use Rattle.semantics.specs.declared.Refusal.TheVariants.{NoWorker, MainReturned, WorkerIdle}
 use Rattle.semantics.specs.declared.Rise.{Rise}
@@ -34,9 +31,7 @@ use Rattle.semantics.proofs.Theory.Refusals.{number_range}
 use Rattle.semantics.proofs.Theory.TapeWords.{length_records, put_long, put_before, put_first, put_second}
 use Rattle.semantics.proofs.Theory.TimedWords.{AtMost, timed_most, timed_over_most, rise_most, moves_no_deque, deques_kept, timed_ticks, run-core, timed_append}
 use Rattle.timing.specs.Turns.{timing, kind_at, worker_at, first_at, ticks_over, AllClocked}
-use Rattle.engine.specs.Promises.{core, renewed}
-use Rattle.engine.proofs.Turns.{finish}
-use Rattle.engine.proofs.Taping.{all_records}
+use Rattle.engine.proofs.RecordLoop.{finish}
 use Rattle.soundness.specs.Layout.{two_words}
 use Rattle.semantics.proofs.Theory.TwoPools.{two_pools}
 
@@ -108,8 +103,8 @@ kind_number (Write w x v) = 6
 kind_number (Fold w r v) = 7
 
 abbrev Holds : ℕ → ℕ → Decoded → Type 0
-Holds kind w (Valid st) = (kind_number st ≡ kind) × (worker_of st ≡ w)
-Holds kind w Invalid = Unit {0}
+Holds kind w (Some st) = (kind_number st ≡ kind) × (worker_of st ≡ w)
+Holds kind w None = Unit {0}
 
 valid_holds : (kind w : ℕ) (st : Step) (b : Bool) → kind_number st ≡ kind → worker_of st ≡ w → Holds kind w (valid_if b st)
 valid_holds kind w st true e f = (e, f)
@@ -166,30 +161,30 @@ step_busy c st w e l =
 -- only a steal is of an idle worker
 accepted_busy : (c : Core) (d : Decoded) (kind w : ℕ) → Holds kind w d → 100 ≤ first_of (record_on two_words c d) → first_of (record_on two_words c d) ≢ 103 → Busy c w
 unfolding step_on steal_on
-accepted_busy c Invalid kind w H l n = absurd (omega (arith, l))
-accepted_busy c (Valid (Spawn v)) kind w H l n = subst (λ (x : ℕ). Busy c x) H.1 (step_busy c (Spawn v) v refl l)
-accepted_busy c (Valid (Return v)) kind w H l n = subst (λ (x : ℕ). Busy c x) H.1 (step_busy c (Return v) v refl l)
-accepted_busy c (Valid (Steal v x)) kind w H l n = absurd (n (stolen (tests_of two_words c (Steal v x)) l))
+accepted_busy c None kind w H l n = absurd (omega (arith, l))
+accepted_busy c (Some (Spawn v)) kind w H l n = subst (λ (x : ℕ). Busy c x) H.1 (step_busy c (Spawn v) v refl l)
+accepted_busy c (Some (Return v)) kind w H l n = subst (λ (x : ℕ). Busy c x) H.1 (step_busy c (Return v) v refl l)
+accepted_busy c (Some (Steal v x)) kind w H l n = absurd (n (stolen (tests_of two_words c (Steal v x)) l))
   where
     stolen : (ts : List (Bool × Refusal)) → 100 ≤ first_of (judged ts c (done_by two_words c (Steal v x))) → first_of (judged ts c (done_by two_words c (Steal v x))) ≡ 103
     stolen [] b = refl
     stolen (t ∷ ts) b = elim (decided t.0) [ inl e ↦ absurd (omega (arith, rw e at b, (number_range t.1).1)) | inr e ↦ rw e (stolen ts (rw e at b)) ]
-accepted_busy c (Valid (Sync v)) kind w H l n = subst (λ (x : ℕ). Busy c x) H.1 (step_busy c (Sync v) v refl l)
-accepted_busy c (Valid (Read v x)) kind w H l n = subst (λ (x : ℕ). Busy c x) H.1 (step_busy c (Read v x) v refl l)
-accepted_busy c (Valid (Write v x y)) kind w H l n = subst (λ (x : ℕ). Busy c x) H.1 (step_busy c (Write v x y) v refl l)
-accepted_busy c (Valid (Fold v x y)) kind w H l n = subst (λ (x : ℕ). Busy c x) H.1 (step_busy c (Fold v x y) v refl l)
+accepted_busy c (Some (Sync v)) kind w H l n = subst (λ (x : ℕ). Busy c x) H.1 (step_busy c (Sync v) v refl l)
+accepted_busy c (Some (Read v x)) kind w H l n = subst (λ (x : ℕ). Busy c x) H.1 (step_busy c (Read v x) v refl l)
+accepted_busy c (Some (Write v x y)) kind w H l n = subst (λ (x : ℕ). Busy c x) H.1 (step_busy c (Write v x y) v refl l)
+accepted_busy c (Some (Fold v x y)) kind w H l n = subst (λ (x : ℕ). Busy c x) H.1 (step_busy c (Fold v x y) v refl l)
 
 -- and only a return has 102
 returns_only : (c : Core) (d : Decoded) (kind w : ℕ) → Holds kind w d → first_of (record_on two_words c d) ≡ 102 → kind ≡ 2
 unfolding step_on spawn_on steal_on sync_on read_on write_on fold_on
-returns_only c Invalid kind w H e = absurd (omega (arith, e))
-returns_only c (Valid (Spawn v)) kind w H e = absurd (judged_not 102 (omega arith) (tests_of two_words c (Spawn v)) c (spawn_on two_words c v) (λ z. omega arith) e)
-returns_only c (Valid (Return v)) kind w H e = sym H.0
-returns_only c (Valid (Steal v x)) kind w H e = absurd (judged_not 102 (omega arith) (tests_of two_words c (Steal v x)) c (steal_on c v x) (λ z. omega arith) e)
-returns_only c (Valid (Sync v)) kind w H e = absurd (judged_not 102 (omega arith) (tests_of two_words c (Sync v)) c (sync_on c v) (λ z. omega arith) e)
-returns_only c (Valid (Read v x)) kind w H e = absurd (judged_not 102 (omega arith) (tests_of two_words c (Read v x)) c (read_on two_words c v x) (λ z. omega arith) e)
-returns_only c (Valid (Write v x y)) kind w H e = absurd (judged_not 102 (omega arith) (tests_of two_words c (Write v x y)) c (write_on two_words c v x y) (λ z. omega arith) e)
-returns_only c (Valid (Fold v x y)) kind w H e = absurd (judged_not 102 (omega arith) (tests_of two_words c (Fold v x y)) c (fold_on c v x y) (λ z. omega arith) e)
+returns_only c None kind w H e = absurd (omega (arith, e))
+returns_only c (Some (Spawn v)) kind w H e = absurd (judged_not 102 (omega arith) (tests_of two_words c (Spawn v)) c (spawn_on two_words c v) (λ z. omega arith) e)
+returns_only c (Some (Return v)) kind w H e = sym H.0
+returns_only c (Some (Steal v x)) kind w H e = absurd (judged_not 102 (omega arith) (tests_of two_words c (Steal v x)) c (steal_on c v x) (λ z. omega arith) e)
+returns_only c (Some (Sync v)) kind w H e = absurd (judged_not 102 (omega arith) (tests_of two_words c (Sync v)) c (sync_on c v) (λ z. omega arith) e)
+returns_only c (Some (Read v x)) kind w H e = absurd (judged_not 102 (omega arith) (tests_of two_words c (Read v x)) c (read_on two_words c v x) (λ z. omega arith) e)
+returns_only c (Some (Write v x y)) kind w H e = absurd (judged_not 102 (omega arith) (tests_of two_words c (Write v x y)) c (write_on two_words c v x y) (λ z. omega arith) e)
+returns_only c (Some (Fold v x y)) kind w H e = absurd (judged_not 102 (omega arith) (tests_of two_words c (Fold v x y)) c (fold_on c v x y) (λ z. omega arith) e)
 
 -- ---- the clocks that one record moves
 
@@ -205,13 +200,13 @@ refused_still a p g p' g' r r' t l =
 -- by the record's first two bytes; the ends matter only if it is a return
 by_bytes : (c : Core) (d : Decoded) (kind w : ℕ) → Holds kind w d → (t : Timing) (r : Rise) → (kind ≡ 2 → r ≡ rise_from c t.clocks w)
     → timed_with (answer_words (record_on two_words c d).answer) (bottom c.deques w) c.head.numbers.free_place r t ≡ timed_record two_words c d t
-by_bytes c Invalid kind w H t r e =
-    refused_still (answer_words (record_on two_words c Invalid).answer) (bottom c.deques w) c.head.numbers.free_place (bottom c.deques 0) c.head.numbers.free_place r (rise_from c t.clocks 0) t (omega arith)
-by_bytes c (Valid st) kind w H t r e =
-    let a : ℕ × ℕ = answer_words (record_on two_words c (Valid st)).answer in
+by_bytes c None kind w H t r e =
+    refused_still (answer_words (record_on two_words c None).answer) (bottom c.deques w) c.head.numbers.free_place (bottom c.deques 0) c.head.numbers.free_place r (rise_from c t.clocks 0) t (omega arith)
+by_bytes c (Some st) kind w H t r e =
+    let a : ℕ × ℕ = answer_words (record_on two_words c (Some st)).answer in
     let g : ℕ = c.head.numbers.free_place in
     let same : timed_with a (bottom c.deques w) g r t ≡ timed_with a (bottom c.deques w) g (rise_from c t.clocks w) t = elim (ℕ_discrete a.0 102) [
-      | yes z ↦ ap (λ (q : Rise). timed_with a (bottom c.deques w) g q t) (e (returns_only c (Valid st) kind w H z))
+      | yes z ↦ ap (λ (q : Rise). timed_with a (bottom c.deques w) g q t) (e (returns_only c (Some st) kind w H z))
       | no z ↦ rise_unused a (bottom c.deques w) g r (rise_from c t.clocks w) t z
     ] in
     same ∙ ap (λ (v : ℕ). timed_with a (bottom c.deques v) g (rise_from c t.clocks v) t) (sym H.1)
@@ -219,31 +214,31 @@ by_bytes c (Valid st) kind w H t r e =
 -- ---- the reads, writes and folds of a turn
 
 moves_none : (d : Decoded) (kind w : ℕ) → Holds kind w d → 5 ≤ kind → moves_no_deque d ≡ true
-moves_none Invalid kind w H l = refl
-moves_none (Valid (Spawn v)) kind w H l = absurd (omega (arith, H.0))
-moves_none (Valid (Return v)) kind w H l = absurd (omega (arith, H.0))
-moves_none (Valid (Steal v x)) kind w H l = absurd (omega (arith, H.0))
-moves_none (Valid (Sync v)) kind w H l = absurd (omega (arith, H.0))
-moves_none (Valid (Read v x)) kind w H l = refl
-moves_none (Valid (Write v x y)) kind w H l = refl
-moves_none (Valid (Fold v x y)) kind w H l = refl
+moves_none None kind w H l = refl
+moves_none (Some (Spawn v)) kind w H l = absurd (omega (arith, H.0))
+moves_none (Some (Return v)) kind w H l = absurd (omega (arith, H.0))
+moves_none (Some (Steal v x)) kind w H l = absurd (omega (arith, H.0))
+moves_none (Some (Sync v)) kind w H l = absurd (omega (arith, H.0))
+moves_none (Some (Read v x)) kind w H l = refl
+moves_none (Some (Write v x y)) kind w H l = refl
+moves_none (Some (Fold v x y)) kind w H l = refl
 
 not_stolen : (c : Core) (d : Decoded) → moves_no_deque d ≡ true → first_of (record_on two_words c d) ≢ 103
 unfolding step_on read_on write_on fold_on
-not_stolen c Invalid e z = omega (arith, z)
-not_stolen c (Valid (Spawn v)) e z = true≢false (sym e)
-not_stolen c (Valid (Return v)) e z = true≢false (sym e)
-not_stolen c (Valid (Steal v x)) e z = true≢false (sym e)
-not_stolen c (Valid (Sync v)) e z = true≢false (sym e)
-not_stolen c (Valid (Read v x)) e z = judged_not 103 (omega arith) (tests_of two_words c (Read v x)) c (read_on two_words c v x) (λ y. omega arith) z
-not_stolen c (Valid (Write v x y)) e z = judged_not 103 (omega arith) (tests_of two_words c (Write v x y)) c (write_on two_words c v x y) (λ y. omega arith) z
-not_stolen c (Valid (Fold v x y)) e z = judged_not 103 (omega arith) (tests_of two_words c (Fold v x y)) c (fold_on c v x y) (λ y. omega arith) z
+not_stolen c None e z = omega (arith, z)
+not_stolen c (Some (Spawn v)) e z = true≢false (sym e)
+not_stolen c (Some (Return v)) e z = true≢false (sym e)
+not_stolen c (Some (Steal v x)) e z = true≢false (sym e)
+not_stolen c (Some (Sync v)) e z = true≢false (sym e)
+not_stolen c (Some (Read v x)) e z = judged_not 103 (omega arith) (tests_of two_words c (Read v x)) c (read_on two_words c v x) (λ y. omega arith) z
+not_stolen c (Some (Write v x y)) e z = judged_not 103 (omega arith) (tests_of two_words c (Write v x y)) c (write_on two_words c v x y) (λ y. omega arith) z
+not_stolen c (Some (Fold v x y)) e z = judged_not 103 (omega arith) (tests_of two_words c (Fold v x y)) c (fold_on c v x y) (λ y. omega arith) z
 
 tick_is : (c : Core) (d : Decoded) (kind w : ℕ) (t : Timing) → Holds kind w d → moves_no_deque d ≡ true
     → timed_record two_words c d t ≡ cond (leb 100 (first_of (record_on two_words c d))) (costing t (ticked t.clocks (bottom c.deques w))) t
-tick_is c Invalid kind w t H e = timed_ticks two_words two_pools c Invalid t e
-tick_is c (Valid st) kind w t H e =
-    timed_ticks two_words two_pools c (Valid st) t e ∙ ap (λ (v : ℕ). cond (leb 100 (first_of (record_on two_words c (Valid st)))) (costing t (ticked t.clocks (bottom c.deques v))) t) H.1
+tick_is c None kind w t H e = timed_ticks two_words two_pools c None t e
+tick_is c (Some st) kind w t H e =
+    timed_ticks two_words two_pools c (Some st) t e ∙ ap (λ (v : ℕ). cond (leb 100 (first_of (record_on two_words c (Some st)))) (costing t (ticked t.clocks (bottom c.deques v))) t) H.1
 
 -- k records from the i-th on, from the core c: the deques stay, the clocks move by the answer words, and who is accepted has a frame
 record Batch (tape : List ℕ) (c : Core) (r : RecordsResult) (ds : List Decoded) (i k : ℕ) : Type 0 where
@@ -408,19 +403,8 @@ pub record Going (tape : List ℕ) (n : ℕ) (r₀ : RecordsResult) (t₀ : Timi
   pub most : AtMost i t
 
 module _ (tape : List ℕ) (n : ℕ) where
-  pub going_begins : n ≡ length tape / 8 → (c : Core) (a : List ℕ) (t : Timing) → Kept two_words c → AtMost 0 t → Going tape n (records_result c a) t c a t 0
-  going_begins e c a t K h =
-      let z : n - 0 ≡ length tape / 8 = omega (arith, e) in
-      record {
-        few = omega arith;
-        kept = K;
-        run = all_records (records_result c a) tape n e;
-        timed = ap (λ (m : ℕ). timed_over two_words c (records_from m tape 0) t) z;
-        most = h;
-      }
-
   module _ (r₀ : RecordsResult) (t₀ : Timing) where
-    going_on : (c : Core) (a : List ℕ) (t : Timing) (i : ℕ) (c' : Core) (a' : List ℕ) (t' : Timing) (to : ℕ) → Going tape n r₀ t₀ c a t i → i < to → to ≤ n
+    pub going_on : (c : Core) (a : List ℕ) (t : Timing) (i : ℕ) (c' : Core) (a' : List ℕ) (t' : Timing) (to : ℕ) → Going tape n r₀ t₀ c a t i → i < to → to ≤ n
         → records_result c' a' ≡ run_on two_words (records_result c a) (2 * i) (records_from (to - i) tape (8 * i)) → t' ≡ timed_over two_words c (records_from (to - i) tape (8 * i)) t → Going tape n r₀ t₀ c' a' t' to
     going_on c a t i c' a' t' to G l m er et =
         let le : i ≤ to = omega (arith, l) in
@@ -443,16 +427,3 @@ module _ (tape : List ℕ) (n : ℕ) where
     going_ends c a t i G l =
         let z : n - i ≡ 0 = omega (arith, l) in
         (sym (finish tape n (records_result c a) i (2 * i) (8 * i) l) ∙ G.run, ap (λ (m : ℕ). timed_over two_words c (records_from m tape (8 * i)) t) (sym z) ∙ G.timed)
-
-    -- the same of the numbers and lent parts, after a turn that began with the numbers `head`
-    pub turn_goes_on : (h head : Head) (node place count node' place' count' : ℕ) (ts ds : List ℕ) (fs : List Frame) (ws a ts' ds' : List ℕ) (fs' : List Frame) (ws' a' : List ℕ) (t t' : Timing) (i to : ℕ)
-        → head ≡ renewed h node place count → Going tape n r₀ t₀ (core (renewed h node place count) ts ds fs ws) a t i → i < to → to ≤ n
-        → records_result (core (renewed head node' place' count') ts' ds' fs' ws') a' ≡ run_on two_words (records_result (core head ts ds fs ws) a) (2 * i) (records_from (to - i) tape (8 * i))
-        → t' ≡ timed_over two_words (core head ts ds fs ws) (records_from (to - i) tape (8 * i)) t
-        → Going tape n r₀ t₀ (core (renewed h node' place' count') ts' ds' fs' ws') a' t' to
-    turn_goes_on h head node place count node' place' count' ts ds fs ws a ts' ds' fs' ws' a' t t' i to eh G l m er et =
-        let xs = records_from (to - i) tape (8 * i) in
-        let c : Core = core (renewed h node place count) ts ds fs ws in
-        let er' : records_result (core (renewed h node' place' count') ts' ds' fs' ws') a' ≡ run_on two_words (records_result c a) (2 * i) xs =
-        subst (λ (g : Head). records_result (core (renewed g node' place' count') ts' ds' fs' ws') a' ≡ run_on two_words (records_result (core g ts ds fs ws) a) (2 * i) xs) eh er in
-        going_on c a t i (core (renewed h node' place' count') ts' ds' fs' ws') a' t' to G l m er' (et ∙ ap (λ (g : Head). timed_over two_words (core g ts ds fs ws) xs t) eh)

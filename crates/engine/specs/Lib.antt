@@ -1,1 +1,3 @@
 pub mod Promises
+pub mod State
+pub mod Run

@@ -1,38 +1,37 @@
 // The start, over parts that have their lengths: refusals 1, 2, 21 and 3, the first state and the initial pool.
-ghost use Rattle.std.specs.Prelude.{◌≡◌, ◌≤◌};
-ghost use Rattle.frames.specs.Widths.{max_places};
+ghost use Rattle.std.specs.Prelude.{◌≡◌};
 ghost use Rattle.frames.specs.Frames.{first_free};
 ghost use Rattle.semantics.specs.Entries.{whole_nodes, first_numbers, start_with};
-ghost use Rattle.semantics.specs.Promises.{parts, Fits, IsStart};
-ghost use Rattle.engine.specs.Promises.{refusal_by, start_tests};
+ghost use Rattle.semantics.specs.Promises.{IsStart};
+ghost use Rattle.engine.specs.Promises.{result_number, start_tests, tested};
+ghost use Rattle.engine.specs.State.{SameParts};
 ghost use Rattle.soundness.specs.Layout.{two_words};
 
-use crate::answers::refusal_number;
 use crate::numbers::put_numbers;
-use frames::{Frame, NONE, init_deques, init_frames};
+use crate::state::State;
+use frames::{NONE, init_deques, init_frames};
 use packed::{NODE_WORDS, init_pool};
 use semantics::Refusal;
 use sizes::tree_nodes;
 use soundness::Numbers;
-use words::clear_all;
 
-// 1, 2, 21 and 3, of the workers, the initial values, the table's places and the pool's whole nodes, or 0.
-pub fn start_refusal(workers: u32, n: usize, places: usize, nodes: usize) -> u32
-    ensures { result ≡ refusal_by (start_tests workers n places nodes) }
+// 1, 2, 21 and 3, of the workers, the initial values, the table's places and the pool's whole nodes.
+pub fn may_start(workers: u32, n: usize, places: usize, nodes: usize) -> Result<(), Refusal>
+    ensures { result ≡ tested (start_tests workers n places nodes) }
 {
     if (n == 0) | (n > 256) {
-        return refusal_number(Refusal::Values);
+        return Err(Refusal::Values);
     }
     if (workers == 0) | (workers > 8) {
-        return refusal_number(Refusal::Workers);
+        return Err(Refusal::Workers);
     }
     if (places == 0) | (places > 256) {
-        return refusal_number(Refusal::Places);
+        return Err(Refusal::Places);
     }
     if ((nodes as u64) < tree_nodes(n as u32)) | (nodes > 16384) {
-        return refusal_number(Refusal::Nodes);
+        return Err(Refusal::Nodes);
     }
-    0
+    Ok(())
 }
 
 // The pool's whole nodes.
@@ -65,36 +64,30 @@ pub fn first_numbers(workers: u32, n: u32, nodes: u32, free_node: u32, places: u
 
 // "a refused start hands out a state of zeros"
 pub fn start_on(
-    numbers: &mut [u32],
-    deques: &mut [u32],
-    frames: &mut [Frame],
+    state: &mut State,
     workers: u32,
     values: &[u32],
     pool: &mut [u32],
-) -> u32
-    requires { Fits (parts numbers.old deques.old frames.old) }
-    ensures { IsStart (start_with two_words workers values.now frames.old pool.old)
-        numbers.new deques.new frames.new pool.new result }
+) -> Result<(), Refusal>
+    ensures same { SameParts state.old state.new }
+    ensures starts { IsStart (start_with two_words workers values.now state.old.frames.now pool.old)
+        state.new.numbers.now state.new.deques.now state.new.frames.now pool.new (result_number result) }
 {
     let nodes = whole_nodes(pool);
-    let refusal = start_refusal(workers, values.len(), frames.len(), nodes);
-    if refusal != 0 {
-        clear_all(numbers);
-        clear_all(deques);
-        return refusal;
+    let refused = may_start(workers, values.len(), state.frames.len(), nodes);
+    if refused.is_err() {
+        state.clear();
+        return refused;
     }
-    let free = init_pool(pool, values.len() as u32, nodes as u32, values);
-    init_deques(deques);
-    init_frames(frames);
+    let n = values.len() as u32;
+    let nodes = nodes as u32;
+    let places = state.frames.len() as u32;
+    let free = init_pool(pool, n, nodes, values);
+    init_deques(state.deques);
+    init_frames(state.frames);
     put_numbers(
-        numbers,
-        first_numbers(
-            workers,
-            values.len() as u32,
-            nodes as u32,
-            free,
-            frames.len() as u32,
-        ),
+        state.numbers,
+        first_numbers(workers, n, nodes, free, places),
     );
-    0
+    Ok(())
 }

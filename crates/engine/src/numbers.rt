@@ -1,15 +1,15 @@
 // The state's numbers and totals in their lent words.
-ghost use Rattle.std.specs.Prelude.{◌≡◌, cond, eqb, length, get_or, set, replicate};
+ghost use Rattle.std.specs.Prelude.{◌≡◌, cond, eqb, get_or, set, replicate};
 ghost use Rattle.words.specs.Basics.{none, all};
-ghost use Rattle.soundness.specs.Numbers.{numbers_in, number_words, totals_in, number_count, total_count};
+ghost use Rattle.soundness.specs.Numbers.{numbers_in, number_words, totals_in, total_count};
 ghost use Rattle.reducers.specs.Reducers.{view_words};
 
 use frames::NONE;
+use image::NUMBER_COUNT;
 use reducers::View;
 use soundness::Numbers;
 
-pub fn numbers_in(numbers: &[u32]) -> Numbers
-    requires { length numbers.now ≡ number_count }
+pub fn numbers_in(numbers: &[u32; NUMBER_COUNT]) -> Numbers
     ensures { result ≡ numbers_in numbers.now }
 {
     Numbers {
@@ -23,25 +23,25 @@ pub fn numbers_in(numbers: &[u32]) -> Numbers
 }
 
 // The totals are zero: no search has ended.
-pub fn put_numbers(numbers: &mut [u32], n: Numbers)
-    requires { length numbers.old ≡ number_count }
+pub fn put_numbers(numbers: &mut [u32; NUMBER_COUNT], n: Numbers)
     ensures { numbers.new ≡ number_words n (replicate total_count 0) }
 {
-    numbers[0] = n.workers;
-    numbers[1] = n.splitters;
-    numbers[2] = n.nodes;
-    numbers[3] = n.free_node;
-    numbers[4] = n.free_place;
-    numbers[5] = 0;
-    numbers[6] = 0;
-    numbers[7] = 0;
-    numbers[8] = 0;
-    numbers[9] = n.places;
+    *numbers = [
+        n.workers,
+        n.splitters,
+        n.nodes,
+        n.free_node,
+        n.free_place,
+        0,
+        0,
+        0,
+        0,
+        n.places,
+    ];
 }
 
 // The first free node and the first free place, which alone change in a run.
-pub fn put_free(numbers: &mut [u32], node: u32, place: u32)
-    requires { length numbers.old ≡ number_count }
+pub fn put_free(numbers: &mut [u32; NUMBER_COUNT], node: u32, place: u32)
     ensures { numbers.new ≡ set (set numbers.old 3 node) 4 place }
 {
     numbers[3] = node;
@@ -49,8 +49,7 @@ pub fn put_free(numbers: &mut [u32], node: u32, place: u32)
 }
 
 // Main's view, at its end.
-pub fn put_totals(numbers: &mut [u32], view: View)
-    requires { length numbers.old ≡ number_count }
+pub fn put_totals(numbers: &mut [u32; NUMBER_COUNT], view: View)
     ensures { (totals_in numbers.new ≡ view_words view) × (numbers_in numbers.new ≡ numbers_in numbers.old) }
 {
     numbers[5] = view.sum.value;
@@ -60,8 +59,7 @@ pub fn put_totals(numbers: &mut [u32], view: View)
 }
 
 // A frame ends: if it is Main, its view becomes the totals.
-pub fn end_totals(numbers: &mut [u32], parent: u32, view: View)
-    requires { length numbers.old ≡ number_count }
+pub fn end_totals(numbers: &mut [u32; NUMBER_COUNT], parent: u32, view: View)
     ensures { (totals_in numbers.new ≡ cond (eqb parent none) (view_words view) (totals_in numbers.old)) × (numbers_in numbers.new ≡ numbers_in numbers.old) }
 {
     if parent == NONE {
@@ -70,9 +68,8 @@ pub fn end_totals(numbers: &mut [u32], parent: u32, view: View)
 }
 
 // Are all four zero?
-pub fn totals_zero(numbers: &[u32]) -> bool
-    requires { length numbers.now ≡ number_count }
+pub fn totals_zero(numbers: &[u32; NUMBER_COUNT]) -> bool
     ensures { result ≡ all total_count (λ i. eqb (get_or (totals_in numbers.now) i 0) 0) }
 {
-    (((numbers[5] == 0) & (numbers[6] == 0)) & (numbers[7] == 0)) & (numbers[8] == 0)
+    numbers[5] == 0 && numbers[6] == 0 && numbers[7] == 0 && numbers[8] == 0
 }

@@ -1,151 +1,84 @@
 // A return: the bottom frame waits, or it ends, and upward from it the frames that waited in their returns for it alone.
-ghost use Rattle.std.specs.Prelude.{◌≡◌, length};
-ghost use Rattle.soundness.specs.Numbers.{numbers_in, totals_in, number_count};
-ghost use Rattle.frames.specs.declared.Returned.TheVariants.{Continued, Finished};
+ghost use Rattle.std.specs.Prelude.{◌≡◌, ◌≤◌, length};
+ghost use Rattle.frames.specs.Frames.{frame_at};
+ghost use Rattle.frames.specs.Widths.{max_places};
 ghost use Rattle.model.specs.declared.Step.TheVariants.{Return};
-ghost use Rattle.semantics.specs.Ranges.{Ready};
-ghost use Rattle.engine.specs.Promises.{core, renewed, Leaves, LeavesEnded, kind_on, ActsAt, EndsFrom, ends_from};
+ghost use Rattle.semantics.specs.Core.{step_on, returned, end_at};
+ghost use Rattle.semantics.specs.Ranges.{EndsAt};
+ghost use Rattle.engine.specs.Run.{core_in, stepped, ReadyRun, SameRun, EndsFrom, ends_from};
+ghost use Rattle.soundness.specs.Layout.{two_words};
 
-use crate::Out;
-use crate::answers::returned_number;
-use crate::kinds::unchanged;
 use crate::numbers::end_totals;
-use frames::{
-    Frame, NONE, Returned, end_below, end_frame, ends_too, frame_at, go_on, pop_off, wait_frame,
-};
-use packed::release;
-use semantics::Head;
+use crate::run::Run;
+use frames::{NONE, Returned, end_frame, go_on, pop_off, wait_frame};
+use semantics::{Done, Refusal};
 
-// What ends leave.
-pub fn ended(free_node: u32, free_place: u32, free_count: u32, outcome: Returned) -> Out
-    ensures { LeavesEnded result free_node free_place free_count outcome }
-{
-    Out {
-        free_node,
-        free_place,
-        free_count,
-        first: 102,
-        second: returned_number(outcome),
+impl Run<'_, '_> {
+    // The frame at place p ends: its place is the first free one, and its tree is released; if it is Main, its view becomes the totals. Gives its parent's place.
+    fn end_at(&mut self, p: u32) -> u32
+        requires { (self.old.pool.now.nodes ≡ self.old.head.numbers.nodes) × EndsAt (core_in self.old) p × (length self.old.frames.now ≤ max_places) }
+        ensures same { SameRun self.old self.new }
+        ensures ends { core_in self.new ≡ end_at two_words (core_in self.old) p }
+        ensures parent { result ≡ (frame_at self.old.frames.now p).parent }
+    {
+        let head = self.head;
+        let free = self.free_nodes();
+        let f = self.frame(p);
+        end_totals(self.numbers, f.parent, f.view);
+        end_frame(self.frames, head.numbers.free_place, p, f.parent);
+        let freed = self.pool.release(free, f.root, head.height);
+        self.head.numbers.free_node = freed.first;
+        self.head.numbers.free_place = p;
+        self.head.free_count = freed.count;
+        f.parent
     }
-}
 
-// Main has ended; the deque has other frames.
-pub fn finished(free_node: u32, free_place: u32, free_count: u32) -> Out
-    ensures { LeavesEnded result free_node free_place free_count Finished }
-{
-    ended(free_node, free_place, free_count, Returned::Finished)
-}
-
-pub fn continued(free_node: u32, free_place: u32, free_count: u32) -> Out
-    ensures { LeavesEnded result free_node free_place free_count Continued }
-{
-    ended(free_node, free_place, free_count, Returned::Continued)
-}
-
-// The frame at place `first` ends; worker w has no frame left, so its parent may end too, and so on upward. The first free node and place and the number
-// of free nodes are handed in. Each turn is nearer to Main, whose view becomes the totals.
-pub fn end_upward(
-    h: Head,
-    numbers: &mut [u32],
-    deques: &mut [u32],
-    frames: &mut [Frame],
-    pool: &mut [u32],
-    w: u32,
-    node: u32,
-    place: u32,
-    count: u32,
-    first: u32,
-) -> Out
-    requires { (length numbers.old ≡ number_count) × EndsFrom (core (renewed h node place count) (totals_in numbers.old) deques.old frames.old pool.old) w 1 first }
-    ensures { (numbers_in numbers.new ≡ numbers_in numbers.old) × Leaves h result (totals_in numbers.new) deques.new frames.new pool.new
-        (ends_from (core (renewed h node place count) (totals_in numbers.old) deques.old frames.old pool.old) w first) }
-{
-    let mut free_count = count;
-    let mut free_node = node;
-    let mut free_place = place;
-    let mut p = first;
-    loop {
-        let root = frame_at(frames, p).root;
-        let freed = release(pool, h.numbers.nodes, free_count, free_node, root, h.height);
-        let f = frame_at(frames, p);
-        end_totals(numbers, f.parent, f.view);
-        end_frame(frames, free_place, p, f.parent);
-        free_node = freed.first;
-        free_count = freed.count;
-        free_place = p;
-        if f.parent == NONE {
-            return finished(free_node, free_place, free_count);
+    // The frame at place `first` ends; worker w has no frame left, so its parent may end too, and so on upward. Each turn is nearer to Main.
+    fn end_upward(&mut self, w: u32, first: u32) -> Returned
+        requires { (self.old.pool.now.nodes ≡ self.old.head.numbers.nodes) × EndsFrom (core_in self.old) w 1 first }
+        ensures same { SameRun self.old self.new }
+        ensures ends { returned (core_in self.new) result ≡ ends_from (core_in self.old) w first }
+    {
+        let mut p = first;
+        loop {
+            let parent = self.end_at(p);
+            if parent == NONE {
+                return Returned::Finished;
+            }
+            let f = self.frame(parent);
+            if !f.ends_too() {
+                return go_on(self.deques, self.frames, w, parent);
+            }
+            p = parent;
         }
-        if !ends_too(frame_at(frames, f.parent)) {
-            let outcome = go_on(deques, frames, w, f.parent);
-            return ended(free_node, free_place, free_count, outcome);
+    }
+
+    // The frame at place p, worker w's n-th, which has left its deque, ends; if that was the only one there, its parent may end too.
+    fn end_bottom(&mut self, w: u32, n: u32, p: u32) -> Returned
+        requires { (self.old.pool.now.nodes ≡ self.old.head.numbers.nodes) × EndsFrom (core_in self.old) w n p }
+        ensures same { SameRun self.old self.new }
+        ensures ends { returned (core_in self.new) result ≡ ends_from (core_in self.old) w p }
+    {
+        if n == 1 {
+            return self.end_upward(w, p);
         }
-        p = f.parent;
+        let _ = self.end_at(p);
+        Returned::Continued
     }
-}
 
-// The frame at place p, worker w's n-th, which has left its deque, ends; if that was the only one there, its parent may end too. If not, its tree is
-// released after its end, so that nothing is kept over the one for the other.
-pub fn end_bottom(
-    h: Head,
-    numbers: &mut [u32],
-    deques: &mut [u32],
-    frames: &mut [Frame],
-    pool: &mut [u32],
-    w: u32,
-    n: u32,
-    p: u32,
-) -> Out
-    requires { (length numbers.old ≡ number_count) × EndsFrom (core h (totals_in numbers.old) deques.old frames.old pool.old) w n p }
-    ensures { (numbers_in numbers.new ≡ numbers_in numbers.old) × Leaves h result (totals_in numbers.new) deques.new frames.new pool.new
-        (ends_from (core h (totals_in numbers.old) deques.old frames.old pool.old) w p) }
-{
-    if n != 1 {
-        let root = frame_at(frames, p).root;
-        end_below(frames, h.numbers.free_place, p, frame_at(frames, p).parent);
-        let freed = release(
-            pool,
-            h.numbers.nodes,
-            h.free_count,
-            h.numbers.free_node,
-            root,
-            h.height,
-        );
-        return continued(freed.first, p, freed.count);
+    // The worker's bottom frame waits for its children, or ends.
+    pub fn return_frame(&mut self, w: u32) -> Result<Done, Refusal>
+        requires { ReadyRun self.old }
+        ensures same { SameRun self.old self.new }
+        ensures steps { stepped self.new result ≡ step_on two_words (core_in self.old) (Return w) }
+    {
+        let a = self.acting(w)?;
+        if self.frame(a.place).outstanding != 0 {
+            wait_frame(self.deques, self.frames, w, a.count, a.place);
+            return Ok(Done::Ended(Returned::Waiting));
+        }
+        pop_off(self.deques, w, a.count);
+        let outcome = self.end_bottom(w, a.count, a.place);
+        Ok(Done::Ended(outcome))
     }
-    end_upward(
-        h,
-        numbers,
-        deques,
-        frames,
-        pool,
-        w,
-        h.numbers.free_node,
-        h.numbers.free_place,
-        h.free_count,
-        p,
-    )
-}
-
-pub fn return_at(
-    h: Head,
-    numbers: &mut [u32],
-    deques: &mut [u32],
-    frames: &mut [Frame],
-    pool: &mut [u32],
-    w: u32,
-    n: u32,
-    p: u32,
-) -> Out
-    requires { (length numbers.old ≡ number_count) × Ready (core h (totals_in numbers.old) deques.old frames.old pool.old) × ActsAt (core h (totals_in numbers.old) deques.old frames.old pool.old) w n p }
-    ensures { (numbers_in numbers.new ≡ numbers_in numbers.old) × Leaves h result (totals_in numbers.new) deques.new frames.new pool.new
-        (kind_on (core h (totals_in numbers.old) deques.old frames.old pool.old) (Return w)) }
-{
-    let f = frame_at(frames, p);
-    if f.outstanding != 0 {
-        wait_frame(deques, frames, w, n, p);
-        return unchanged(h, 102, 4);
-    }
-    pop_off(deques, w, n);
-    end_bottom(h, numbers, deques, frames, pool, w, n, p)
 }

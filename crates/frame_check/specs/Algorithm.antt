@@ -10,7 +10,7 @@ use Rattle.frames.specs.Frames.{frame_at}
 use Rattle.frames.specs.Siblings.{chained}
 use Rattle.frames.specs.Deques.{size, place}
 use Rattle.soundness.specs.Soundness.{view_zero}
-use Rattle.frame_check.specs.declared.Census.{Census}
+use Rattle.frame_check.specs.declared.tallies.Census.{Census}
 
 -- ---- tallies
 
@@ -140,9 +140,6 @@ census_to fs p = record { mains = how_many p (main_at fs); live = how_many p (li
 abbrev pub child_tallied : List ℕ → ℕ → Frame → List ℕ
 child_tallied ts p f = cond (eqb f.live 1) (bump (step_of p f.younger) ts f.parent) ts
 
-abbrev pub no_census : Census
-no_census = record { mains = 0; live = 0; end = 0 }
-
 abbrev pub with_live : Census → ℕ → Frame → Census
 with_live c p f = record { mains = plus c.mains (cond (is_flat f) 1 0); live = plus c.live 1; end = plus p 1 }
 
@@ -202,35 +199,17 @@ unfoldable pub chain_from : List Frame → ℕ → ℕ → Bool
 chain_from fs zero p = eqb p none
 chain_from fs (suc c) p = ltb p (length fs) && (free_sound (frame_at fs p) && chain_from fs c (next fs p))
 
--- ---- along a chain, one record at a time
+-- ---- one place, with its word t of the tallies
 
--- no place, and not none: from here no chain ends well
-abbrev pub lost : ℕ
-lost = none - 1
-
--- the record f at p, on the free chain: the next place
-abbrev pub free_next : ℕ → Frame → ℕ → ℕ
-free_next places f p = cond (ltb p places && free_sound f) f.parent lost
-
--- the record f at c, among the children of the frame at q: the next younger one
-abbrev pub link_next : ℕ → ℕ → Frame → ℕ → ℕ
-link_next places q f c = cond (ltb c places && (eqb f.live 1 && eqb f.parent q)) f.younger lost
-
--- of a frame f with the word t of the tallies: how many links are followed, and from where on; none are if it does not live or has not two children
+-- a frame f with two live children or more
 abbrev pub many_children : Frame → ℕ → Bool
 many_children f t = eqb f.live 1 && ltb 1 (child_count t)
 
-abbrev pub link_count : Frame → ℕ → ℕ
-link_count f t = cond (many_children f t) (child_count t) 0
-
-abbrev pub link_first : Frame → ℕ → ℕ
-link_first f t = cond (many_children f t) (link_sum t - 1) none
-
 -- the links of the live children of the frame at q are right, if a frame lives there
-abbrev pub links_tallied : List Frame → List ℕ → ℕ → Bool
-links_tallied fs ts q = implies (live_at fs q) (siblings_sound fs q (child_count (get_or ts q 0)) (link_sum (get_or ts q 0)))
+abbrev pub links_sound : List Frame → ℕ → ℕ → Bool
+links_sound fs q t = implies (live_at fs q) (siblings_sound fs q (child_count t) (link_sum t))
 
--- and the rest of it: of the record f, its parent's record g and the word t
+-- and the rest of it: of the record f and its parent's record g
 abbrev pub record_sound : ℕ → Frame → Frame → ℕ → Bool
 record_sound places f g t = implies (eqb f.live 1) (live_sound places f g (child_count t) (deque_count t))
 

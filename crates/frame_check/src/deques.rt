@@ -1,146 +1,102 @@
 // The deques: what each has to be by itself, and its frames.
-ghost use Rattle.std.specs.Prelude.{◌≡◌, ◌&&◌, ℕ, ◌-◌, ◌≤◌, ◌<◌, length};
-ghost use Rattle.frames.specs.Widths.{max_workers, deque_places, deque_words};
-ghost use Rattle.frames.specs.Deques.{size, place};
+ghost use Rattle.std.specs.Prelude.{◌≡◌, ℕ, ◌≤◌, ◌<◌};
 ghost use Rattle.words.specs.Basics.{all};
-ghost use Rattle.frame_check.specs.Algorithm.{deque_step, bump, zero_past, deque_fits, child_below, in_deque, tally_deque, tally_deques, deque_sound};
+ghost use Rattle.frames.specs.Widths.{max_workers, deque_places};
+ghost use Rattle.frames.specs.Deques.{size};
+ghost use Rattle.frame_check.specs.Algorithm.{zero_past, deque_fits, in_deque, on_deque, tally_deque, tally_deques, deque_sound};
 
-use super::tallies::{DEQUE_STEP, bump};
-use frames::{DEQUE_PLACES, Frame, MAX_WORKERS, frame_or_zero, place_at, size_at};
-
-// All places are zero. Most deques are empty, and a loop of a fixed length is the faster one.
-fn all_zero(deques: &[u32], w: u32) -> bool
-    requires { (length deques.now ≡ deque_words) × (w < max_workers) }
-    ensures { result ≡ all deque_places (zero_past deques.now w 0) }
-{
-    let mut sound = true;
-    let mut k: u32 = 0;
-    while k < DEQUE_PLACES {
-        sound = sound & (place_at(deques, w, k) == 0);
-        k += 1;
-    }
-    sound
-}
+use super::tallies::{DEQUE_STEP, Tallies, bump};
+use frames::{DEQUE_PLACES, DEQUE_WORDS, Frame, MAX_WORKERS, frame_or_zero, place_at, size_at};
 
 // The places past the first n are zero.
-fn rest_zero(deques: &[u32], w: u32, n: u32) -> bool
-    requires { (length deques.now ≡ deque_words) × (w < max_workers) × (n ≤ deque_places) }
+fn rest_zero(deques: &[u32; DEQUE_WORDS], w: u32, n: u32) -> bool
+    requires worker { w < max_workers }
+    requires within { n ≤ deque_places }
     ensures { result ≡ all deque_places (zero_past deques.now w n) }
 {
-    if n == 0 {
-        return all_zero(deques, w);
-    }
     let mut sound = true;
-    let mut k = n;
-    while k < DEQUE_PLACES {
-        sound = sound & (place_at(deques, w, k) == 0);
-        k += 1;
+    for k in n..DEQUE_PLACES {
+        sound &= place_at(deques, w, k) == 0;
     }
     sound
 }
 
 // What deque w has to be whatever its frames are.
-fn deque_fits(workers: u32, places: u32, deques: &[u32], w: u32) -> bool
-    requires { (length deques.now ≡ deque_words) × (w < max_workers) × (places ≤ deque_places) }
+fn deque_fits(workers: u32, places: usize, deques: &[u32; DEQUE_WORDS], w: u32) -> bool
+    requires worker { w < max_workers }
+    requires few { places ≤ deque_places }
     ensures { result ≡ deque_fits workers places deques.now w }
 {
     let n = size_at(deques, w);
-    if n > places {
+    if n as usize > places {
         return false;
     }
-    ((w < workers) | (n == 0)) & rest_zero(deques, w, n)
+    // most deques are empty, and a loop of a fixed length is the faster one
+    if n == 0 {
+        rest_zero(deques, w, 0)
+    } else {
+        (w < workers) & rest_zero(deques, w, n)
+    }
 }
 
 // All of them; the table has so many places.
-pub fn deques_fit(workers: u32, places: u32, deques: &[u32]) -> bool
-    requires { (length deques.now ≡ deque_words) × (places ≤ deque_places) }
+pub fn deques_fit(workers: u32, places: usize, deques: &[u32; DEQUE_WORDS]) -> bool
+    requires { places ≤ deque_places }
     ensures { result ≡ all max_workers (deque_fits workers places deques.now) }
 {
     let mut sound = true;
-    let mut w: u32 = 0;
-    while w < MAX_WORKERS {
-        sound = sound & deque_fits(workers, places, deques, w);
-        w += 1;
+    for w in 0..MAX_WORKERS {
+        sound &= deque_fits(workers, places, deques, w);
     }
     sound
 }
 
-// One outstanding child if there is a frame below, else none.
-fn child_below(f: Frame, more: bool) -> bool
-    ensures { result ≡ child_below f more }
-{
-    if more {
-        f.outstanding == 1
-    } else {
-        f.outstanding == 0
-    }
-}
-
-// What the frame f at place p has to be, k places below the top of a deque of n frames.
-fn in_deque(places: u32, f: Frame, p: u32, above: u32, k: u32, n: u32) -> bool
+// What the frame f at place p has to be, k places below the top of a deque of n frames: one outstanding child if there is a frame below, else none.
+fn in_deque(places: usize, f: Frame, p: u32, above: u32, k: u32, n: u32) -> bool
     ensures { result ≡ in_deque places f p above k n }
 {
-    let only = child_below(f, 1 < words::sub(n, k));
-    ((p < places) & (f.live == 1)) & ((k == 0) | ((f.parent == above) & only))
+    let below = u32::from(1 < n.saturating_sub(k));
+    ((p as usize) < places)
+        & (f.live == 1)
+        & ((k == 0) | ((f.parent == above) & (f.outstanding == below)))
 }
 
-// Counts place k of deque w; the place that stands there.
-pub fn tally_place(tallies: &mut [u32], deques: &[u32], w: u32, k: u32) -> u32
-    requires { (length deques.now ≡ deque_words) × (w < max_workers) × (k < deque_places) }
-    ensures { (tallies.new ≡ bump deque_step tallies.old (place deques.now w k)) × (result ≡ place deques.now w k) }
+// Is the frame sound that stands k places below the top of deque w?
+fn on_deque(deques: &[u32; DEQUE_WORDS], frames: &[Frame], w: u32, k: u32) -> bool
+    requires worker { w < max_workers }
+    requires within { k < deque_places }
+    ensures { result ≡ on_deque deques.now frames.now w k }
 {
     let p = place_at(deques, w, k);
-    bump(tallies, p, DEQUE_STEP);
-    p
+    let above = place_at(deques, w, k.saturating_sub(1));
+    let f = frame_or_zero(frames, p);
+    in_deque(frames.len(), f, p, above, k, size_at(deques, w))
 }
 
-// Is place k of deque w sound too, where the frame f stands?
-pub fn deque_turn(sound: bool, places: u32, deques: &[u32], w: u32, k: u32, f: Frame) -> bool
-    requires { (length deques.now ≡ deque_words) × (w < max_workers) × (k < deque_places) }
-    ensures { result ≡ (sound && in_deque places f (place deques.now w k) (place deques.now w (k - 1)) k (size deques.now w)) }
+// Counts the frames of deque w; whether they are sound.
+fn tally_deque(tallies: &mut Tallies, deques: &[u32; DEQUE_WORDS], frames: &[Frame], w: u32) -> bool
+    requires worker { w < max_workers }
+    requires within { size deques.now w ≤ deque_places }
+    ensures tallied { tallies.new ≡ tally_deque deques.now w tallies.old }
+    ensures sound { result ≡ deque_sound deques.now frames.now w }
 {
-    let p = place_at(deques, w, k);
-    let above = place_at(deques, w, words::sub(k, 1));
-    let n = size_at(deques, w);
-    sound & in_deque(places, f, p, above, k, n)
-}
-
-// Counts the frames of deque w; whether they are sound, and all was before.
-pub fn tally_deque(
-    before: bool,
-    tallies: &mut [u32],
-    deques: &[u32],
-    frames: &[Frame],
-    places: u32,
-    w: u32,
-) -> bool
-    requires { (length deques.now ≡ deque_words) × (places ≡ length frames.now) × (w < max_workers) × (size deques.now w ≤ deque_places) }
-    ensures { (tallies.new ≡ tally_deque deques.now w tallies.old)
-        × (result ≡ (before && deque_sound deques.now frames.now w)) }
-{
-    let n = size_at(deques, w);
-    let mut sound = before;
-    let mut k: u32 = 0;
-    while k < n {
-        let p = tally_place(tallies, deques, w, k);
-        let f = frame_or_zero(frames, p);
-        sound = deque_turn(sound, places, deques, w, k, f);
-        k += 1;
+    let mut sound = true;
+    for k in 0..size_at(deques, w) {
+        sound &= on_deque(deques, frames, w, k);
+        bump(tallies, place_at(deques, w, k), DEQUE_STEP);
     }
     sound
 }
 
 // The same of all deques.
-pub fn tally_deques(tallies: &mut [u32], deques: &[u32], frames: &[Frame], places: u32) -> bool
-    requires { (length deques.now ≡ deque_words) × (places ≡ length frames.now) × ((w : ℕ) → w < max_workers → size deques.now w ≤ deque_places) }
-    ensures { (tallies.new ≡ tally_deques max_workers deques.now tallies.old)
-        × (result ≡ all max_workers (deque_sound deques.now frames.now)) }
+pub fn tally_deques(tallies: &mut Tallies, deques: &[u32; DEQUE_WORDS], frames: &[Frame]) -> bool
+    requires { (w : ℕ) → w < max_workers → size deques.now w ≤ deque_places }
+    ensures tallied { tallies.new ≡ tally_deques max_workers deques.now tallies.old }
+    ensures sound { result ≡ all max_workers (deque_sound deques.now frames.now) }
 {
     let mut sound = true;
-    let mut w: u32 = 0;
-    while w < MAX_WORKERS {
-        sound = tally_deque(sound, tallies, deques, frames, places, w);
-        w += 1;
+    for w in 0..MAX_WORKERS {
+        sound &= tally_deque(tallies, deques, frames, w);
     }
     sound
 }

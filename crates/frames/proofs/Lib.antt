@@ -1,5 +1,4 @@
 pub mod Theory
 pub mod Loops
-pub mod Ends
 pub mod Ways
 pub mod Starting

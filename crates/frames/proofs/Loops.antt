@@ -1,15 +1,11 @@
 -- A turn and the end of the loop over a deque.
-use mathlib.Core.Path.{◌≡◌, sym, ap, ◌∙◌}
-use mathlib.Core.List.{List}
-use Prim.Native.Nat.{ℕ, zero, suc, ◌+◌, ◌-◌, ◌*◌, ◌≤◌, ◌<◌}
-use native.Mathlib.Omega.{arith}
-use lib.ListN.{get_or, set}
-use lib.Seq.{set-set, set_comm}
-use Rattle.frames.specs.Widths.{deque_places, deque_stride}
-use Rattle.frames.specs.Deques.{place, set_place, shift_up}
-use Rattle.frames.proofs.Theory.Cells.{place-set_place_other, shift_suc}
-
--- ---- the top frame sinks to the bottom
+use Rattle.std.specs.Prelude.{◌≡◌, List, ℕ, zero, suc, ◌+◌, ◌-◌, ◌*◌, ◌≤◌, ◌<◌, length}
+use Rattle.std.specs.List.{swap}
+use Rattle.std.proofs.Common.{sym, ap, ◌∙◌, arith, set-set}
+use Rattle.std.proofs.lemmas.List.Edits.{swap_is}
+use Rattle.frames.specs.Widths.{max_workers, deque_places, deque_stride, deque_words}
+use Rattle.frames.specs.Deques.{size, place, set_place, shift_up, pop, drop_top}
+use Rattle.frames.proofs.Theory.Cells.{place-set_place_other, size-set_place, shift_suc}
 
 -- the first of the places that move up, or the last frame's, is stored to: what it held does not matter
 shift_first : (c : ℕ) (ds : List ℕ) (w k v : ℕ) → k < deque_places → set_place (shift_up c (set_place ds w k v) w k) w (k + c) 0 ≡ set_place (shift_up c ds w k) w (k + c) 0
@@ -20,25 +16,35 @@ shift_first (suc c) ds w k v h =
     rw (place-set_place_other ds w k v (suc k) (omega arith)) (set-set ds (deque_stride * w + (1 + k)) v (place ds w (suc k))) in
     ap (λ (es : List ℕ). set_place es w (k + suc c) 0) (shift_suc c (set_place ds w k v) w k h ∙ ap (λ (es : List ℕ). shift_up c es w (suc k)) again ∙ sym (shift_suc c ds w k h))
 
--- one deque's words, of which n are frames: the frame at word k, the top one, and the one below it change places
-pub sink_turn : (d : List ℕ) (n k : ℕ) → 1 ≤ k → k < n → n ≤ deque_places
-    → set (shift_up (n - (k + 1)) (set (set d (k + 1) (get_or d k 0)) k (get_or d (k + 1) 0)) 0 (k + 1 - 1)) n 0 ≡ set (shift_up (n - k) d 0 (k - 1)) n 0
-unfolding place set_place
-sink_turn d n k a b l =
-    let c : ℕ = n - (k + 1) in
-    let p : k + 1 - 1 ≡ k = omega arith in
-    let q : n - k ≡ suc c = omega arith in
-    let s : suc (k - 1) ≡ k = omega arith in
-    let i : deque_stride * 0 + (1 + k) ≡ k + 1 = omega arith in
-    let j : deque_stride * 0 + (1 + (k - 1)) ≡ k = omega arith in
-    let m : deque_stride * 0 + (1 + (k + c)) ≡ n = omega arith in
-    let e : List ℕ = set d k (get_or d (k + 1) 0) in
-    let swapped = set_comm d (k + 1) k (get_or d k 0) (get_or d (k + 1) 0) (omega arith) in
-    let first = shift_first c e 0 k (get_or d k 0) (omega arith) in
-    let turn = shift_suc c d 0 (k - 1) (omega arith) in
-    rw (p, q, swapped) ((rw (m, i) at first) ∙ ap (λ (es : List ℕ). set es n 0) (sym (rw (s, i, j) at turn)))
+-- the frame at word k, the top one, and the one below it have changed places
+module _ (ds es : List ℕ) (w n k : ℕ) (l : length ds ≡ deque_words) (lw : w < max_workers) (a : 1 ≤ k) (b : k < n) (f : n ≤ deque_places)
+    (e : es ≡ swap ds (deque_stride * w + k) (deque_stride * w + (k + 1))) where
+  swapped : es ≡ set_place (set_place ds w (k - 1) (place ds w k)) w k (place ds w (k - 1))
+  unfolding place set_place
+  swapped =
+      let i : deque_stride * w + (1 + (k - 1)) ≡ deque_stride * w + k = omega arith in
+      let j : deque_stride * w + (1 + k) ≡ deque_stride * w + (k + 1) = omega arith in
+      e ∙ rw (i, j) (sym (swap_is ds (deque_stride * w + k) (deque_stride * w + (k + 1)) 0 (omega arith) (omega arith)))
 
--- none is left
-pub sink_done : (d : List ℕ) (n k : ℕ) → n ≤ k → shift_up (n - k) d 0 (k - 1) ≡ d
-unfolding shift_up
-sink_done d n k h = let e : n - k ≡ 0 = omega arith in rw e
+  pub sink_size : size es w ≡ size ds w
+  sink_size =
+      ap (λ (ws : List ℕ). size ws w) swapped ∙ size-set_place (set_place ds w (k - 1) (place ds w k)) w k (place ds w (k - 1)) w (omega arith)
+      ∙ size-set_place ds w (k - 1) (place ds w k) w (omega arith)
+
+  pub sink_turn : set_place (shift_up (n - (k + 1)) es w (k + 1 - 1)) w (n - 1) 0 ≡ set_place (shift_up (n - k) ds w (k - 1)) w (n - 1) 0
+  sink_turn =
+      let c : ℕ = n - (k + 1) in
+      let p : k + 1 - 1 ≡ k = omega arith in
+      let q : n - k ≡ suc c = omega arith in
+      let s : suc (k - 1) ≡ k = omega arith in
+      let m : n - 1 ≡ k + c = omega arith in
+      let up : List ℕ = set_place ds w (k - 1) (place ds w k) in
+      let first : set_place (shift_up c (set_place up w k (place ds w (k - 1))) w k) w (k + c) 0 ≡ set_place (shift_up c up w k) w (k + c) 0 = shift_first c up w k (place ds w (k - 1)) (omega arith) in
+      let turn = shift_suc c ds w (k - 1) (omega arith) in
+      rw (p, q, m, swapped) (first ∙ ap (λ (ws : List ℕ). set_place ws w (k + c) 0) (sym (rw s at turn)))
+
+-- none is left, and the last is taken off
+pub sunk : (ds es : List ℕ) (w n k : ℕ) → n ≤ k → n ≡ size ds w → size es w ≡ n
+    → set_place (shift_up (n - k) es w (k - 1)) w (n - 1) 0 ≡ set_place (shift_up (n - 1) ds w 0) w (n - 1) 0 → pop es w ≡ drop_top ds w
+unfolding shift_up pop drop_top
+sunk ds es w n k h en e i = let z : n - k ≡ 0 = omega arith in rw (e, ← en, ← i, z)

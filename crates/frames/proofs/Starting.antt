@@ -1,40 +1,39 @@
--- The loops over the table at a start and when it is cleared, over plain variables.
-use mathlib.Core.Path.{◌≡◌, refl, sym, ap, ◌∙◌}
-use mathlib.Core.Bool.{cond}
-use mathlib.Core.List.{List, [], ◌∷◌, ◌++◌}
-use Prim.Native.Nat.{ℕ, zero, suc, ◌+◌, ◌-◌, ◌≤◌, ◌<◌}
-use native.Mathlib.Omega.{arith}
-use lib.Dec.{eqb}
-use lib.ListN.{length, set, drop, replicate}
+-- The loop over the table at a start, over plain variables.
+use Rattle.std.specs.Prelude.{◌≡◌, cond, List, ℕ, suc, ◌+◌, ◌-◌, ◌≤◌, ◌<◌, length, eqb}
+use Rattle.std.proofs.Common.{sym, ap, ◌∙◌, eq-eqb, ne_eqb, arith}
 use Rattle.words.specs.Basics.{none, plus}
 use Rattle.frames.specs.declared.Frame.{Frame}
+use Rattle.frames.specs.Widths.{max_places}
 use Rattle.frames.specs.Frames.{set_frame, free_record, main_frame, init_places, init_frames}
+use Rattle.frames.proofs.Theory.Cells.{plus_one}
 
--- ---- cleared: the first i records are z, the others as they were
+-- the link of the free place p, in a table of so many places
+abbrev pub Links : ℕ → ℕ → ℕ → Type 0
+Links places p next = next ≡ cond (eqb (places - (p + 1)) 0) none (plus p 1)
 
-fill_step : (z : Frame) (i : ℕ) (fs : List Frame) → i < length fs → set (replicate i z ++ drop i fs) i z ≡ replicate (suc i) z ++ drop (suc i) fs
-fill_step z i [] l = absurd (omega arith)
-fill_step z zero (x ∷ fs) l = refl
-fill_step z (suc i) (x ∷ fs) l = ap (λ (gs : List Frame). z ∷ gs) (fill_step z i fs (omega arith))
+pub links_on : (places p next : ℕ) → p + 1 < places → places ≤ max_places → next ≡ p + 1 → Links places p next
+links_on places p next b m e =
+    let s : p + 1 ≡ suc p = omega arith in
+    e ∙ rw (ne_eqb (places - (p + 1)) 0 (λ z. omega arith)) (s ∙ sym (plus_one p (omega arith)))
 
-pub fill_turn : (z : Frame) (i : ℕ) (fs gs hs : List Frame) (f : Frame) → i < length fs → f ≡ z → gs ≡ replicate i z ++ drop i fs → hs ≡ set gs i f → hs ≡ replicate (i + 1) z ++ drop (i + 1) fs
-fill_turn z i fs gs hs f l ef eg eh =
-    let e : suc i ≡ i + 1 = omega arith in
-    eh ∙ ap (λ (g : Frame). set gs i g) ef ∙ ap (λ (ks : List Frame). set ks i z) eg ∙ fill_step z i fs l ∙ ap (λ (k : ℕ). replicate k z ++ drop k fs) e
+pub links_none : (places p next : ℕ) → places ≤ p + 1 → next ≡ none → Links places p next
+links_none places p next b e = e ∙ rw (eq-eqb (places - (p + 1)) 0 (omega arith))
 
--- ---- the start
-
-pub places_turn : (fs gs : List Frame) (p more next r : ℕ) (f : Frame) → 0 < more → next ≡ plus p 1 → r ≡ cond (eqb (more - 1) 0) none next → f ≡ free_record r → gs ≡ set_frame fs p f
-    → init_places (more - 1) gs next ≡ init_places more fs p
+pub places_turn : (fs gs : List Frame) (places p next : ℕ) (f : Frame) → p < places → places ≤ max_places → Links places p next → f ≡ free_record next → gs ≡ set_frame fs p f
+    → init_places (places - (p + 1)) gs (p + 1) ≡ init_places (places - p) fs p
 unfolding init_places
-places_turn fs gs p more next r f l en er ef eg =
-    let e : more ≡ suc (more - 1) = omega arith in
-    rw (eg, ef, er, en) (sym (ap (λ (n : ℕ). init_places n fs p) e))
+places_turn fs gs places p next f b m en ef eg =
+    let e : places - p ≡ suc (places - (p + 1)) = omega arith in
+    let s : p + 1 ≡ suc p = omega arith in
+    ap (λ (k : ℕ). init_places (places - (p + 1)) gs k) (s ∙ sym (plus_one p (omega arith))) ∙ rw (eg, ef, en) (sym (ap (λ (n : ℕ). init_places n fs p) e))
 
-pub places_end : (fs : List Frame) (p more : ℕ) → more ≤ 0 → init_places more fs p ≡ fs
+pub places_end : (fs : List Frame) (places p : ℕ) → places ≤ p → init_places (places - p) fs p ≡ fs
 unfolding init_places
-places_end fs p more h = let e : more ≡ 0 = omega arith in ap (λ (n : ℕ). init_places n fs p) e
+places_end fs places p h = let e : places - p ≡ 0 = omega arith in ap (λ (n : ℕ). init_places n fs p) e
 
-pub table_starts : (fs gs hs : List Frame) (m : Frame) (r : ℕ) → m ≡ main_frame 0 → gs ≡ set_frame fs 0 m → r ≡ length fs - 1 → hs ≡ init_places r gs 1 → hs ≡ init_frames fs
+pub table_starts : (fs gs : List Frame) (m : Frame) → m ≡ main_frame 0 → gs ≡ set_frame fs 0 m → length gs ≡ length fs → init_places (length gs - 1) gs 1 ≡ init_frames fs
 unfolding init_frames
-table_starts fs gs hs m r em eg er eh = rw (eh, er, eg, em)
+table_starts fs gs m em eg l = rw (l, eg, em)
+
+-- what the function needs of them
+pub ruleset starting = (links_on, links_none, places_turn, places_end, table_starts)

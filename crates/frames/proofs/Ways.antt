@@ -14,15 +14,13 @@ use Rattle.words.specs.Basics.{none, plus, minus}
 use Rattle.words.specs.Tests.{decided}
 use Rattle.reducers.specs.Reducers.{join_view}
 use Rattle.frames.specs.declared.Frame.{Frame}
-use Rattle.frames.specs.declared.Returned.{Returned}
-use Rattle.frames.specs.declared.Synced.{Synced}
 use Rattle.frames.specs.declared.Returned.TheVariants.{Idle, Resumed}
 use Rattle.frames.specs.declared.Synced.TheVariants.{Passed, Suspended}
 use Rattle.frames.specs.Widths.{max_places}
 use Rattle.frames.specs.Frames.{frame_at, set_frame, without_child, with_suspended, with_view, with_younger, after_spawn, child_of, free_record}
 use Rattle.frames.specs.Siblings.{names, relink_from, relink, eldest_to, eldest, first_from, only_child, next_after, join_at}
 use Rattle.frames.specs.Deques.{bottom, push, pop}
-use Rattle.frames.specs.Steps.{link_child, add_child, spawn, remove_frame, end_frame, waits_no_more, go_on, went_on, sync, synced}
+use Rattle.frames.specs.Steps.{link_child, add_child, spawn, remove_frame, end_frame, resumes, go_on, went_on, sync, synced}
 use Rattle.frames.specs.Ranges.{ParentOf, EndsIn}
 use Rattle.frames.specs.Promises.{table, GoesOn, IsSync}
 use Rattle.frames.proofs.Theory.Records.{frame-set_other, frame-set_again, frame-set_swap, frame_past}
@@ -45,16 +43,16 @@ has_siblings : (fs : List Frame) (p q : ℕ) → q ≡ (frame_at fs p).parent �
 has_siblings fs p q eq z = ne_eqb _ 1 (λ y. z (ap (λ (i : ℕ). (frame_at fs i).outstanding) eq ∙ y))
 
 -- the next one in the order, of a frame that has siblings
-pub sibling-after : (fs : List Frame) (p q : ℕ) (f : Frame) (n : ℕ) → q ≡ (frame_at fs p).parent → (frame_at fs q).outstanding ≢ 1 → f ≡ frame_at fs p
+pub sibling_after : (fs : List Frame) (p q : ℕ) (f : Frame) (n : ℕ) → q ≡ (frame_at fs p).parent → (frame_at fs q).outstanding ≢ 1 → f ≡ frame_at fs p
     → n ≡ cond (eqb f.younger none) q (first_from (length fs) fs f.younger) → n ≡ next_after fs p
-sibling-after fs p q f n eq z ef en = en ∙ rw (sibling-next fs p (has_siblings fs p q eq z), ef, eq)
+sibling_after fs p q f n eq z ef en = en ∙ rw (sibling-next fs p (has_siblings fs p q eq z), ef, eq)
 
 -- q is the parent of the frame at place p, whose place is free afterwards, with the record g
 module _ (fs : List Frame) (free p q : ℕ) (eq : q ≡ (frame_at fs p).parent) (g : Frame) (eg : g ≡ free_record free) where
   -- Main
-  pub ended-main : (fs₁ : List Frame) → q ≡ none → fs₁ ≡ set_frame fs p g → fs₁ ≡ end_frame fs free p
+  pub ended_main : (fs₁ : List Frame) → q ≡ none → fs₁ ≡ set_frame fs p g → fs₁ ≡ end_frame fs free p
   unfolding remove_frame
-  ended-main fs₁ n e₁ = rw (e₁, eg, end_last fs free p (sym eq ∙ n), ← eq, eq-eqb q none n)
+  ended_main fs₁ n e₁ = rw (e₁, eg, end_last fs free p (sym eq ∙ n), ← eq, eq-eqb q none n)
 
   -- the table without it: its parent, at another place, has a live child less
   module _ (fs₁ fs₂ : List Frame) (m : q ≢ none) (d : q ≢ p) (e₁ : fs₁ ≡ set_frame fs p g) (e₂ : fs₂ ≡ set_frame fs₁ q (without_child (frame_at fs₁ q))) where
@@ -62,9 +60,9 @@ module _ (fs : List Frame) (free p q : ℕ) (eq : q ≡ (frame_at fs p).parent) 
     unfolding remove_frame
     removed = rw (e₂, e₁, frame-set_other fs p q g d, eg, ← eq, ne_eqb q none m)
 
-    pub ended-sibling : (f : Frame) (fs₃ fs₄ : List Frame) (n : ℕ) → f ≡ frame_at fs p → (frame_at fs q).outstanding ≢ 1
+    pub ended_sibling : (f : Frame) (fs₃ fs₄ : List Frame) (n : ℕ) → f ≡ frame_at fs p → (frame_at fs q).outstanding ≢ 1
         → n ≡ next_after fs p → fs₃ ≡ relink fs₂ q p f.younger → fs₄ ≡ join_at fs₃ n f.view → fs₄ ≡ end_frame fs free p
-    ended-sibling f fs₃ fs₄ n ef z en e₃ e₄ =
+    ended_sibling f fs₃ fs₄ n ef z en e₃ e₄ =
         let o : only_child fs p ≡ false = has_siblings fs p q eq z in
         e₄ ∙ rw (end_joins fs free p (λ e. m (eq ∙ e)), sibling-unlink fs p o (remove_frame fs free p), e₃, removed, en, ef, eq)
 
@@ -93,38 +91,28 @@ module _ (fs : List Frame) (free p q : ℕ) (eq : q ≡ (frame_at fs p).parent) 
 -- ---- after the last end
 
 module _ (ds : List ℕ) (fs : List Frame) (w q : ℕ) (g : Frame) (eg : g ≡ frame_at fs q) where
-  pub stays_idle : (o : Returned) → o ≡ Idle → waits_no_more g ≡ false → GoesOn ds fs w q ds fs o
+  pub stays_idle : resumes g ≡ false → GoesOn ds fs w q ds fs Idle
   unfolding go_on went_on
-  stays_idle o eo n = record { after = λ free. rw (← eg, n); outcome = λ free. eo ∙ rw (← eg, n) }
+  stays_idle n = record { after = λ free. rw (← eg, n); outcome = λ free. rw (← eg, n) }
 
-  module _ (t : waits_no_more g ≡ true) where
-    pub ends_later : (o : Returned) → o ≡ Idle → g.returning ≡ 1 → GoesOn ds fs w q ds fs o
-    unfolding go_on went_on
-    ends_later o eo m = let e = eq-eqb g.returning 1 m in record { after = λ free. rw (← eg, t, e); outcome = λ free. eo ∙ rw (← eg, t, e) }
-
-    pub resumed : (o : Returned) (h : Frame) (ds' : List ℕ) (fs' : List Frame) → o ≡ Resumed → g.returning ≢ 1 → h ≡ with_suspended g 0 → fs' ≡ set_frame fs q h → ds' ≡ push ds w q → GoesOn ds fs w q ds' fs' o
-    unfolding go_on went_on
-    resumed o h ds' fs' eo m eh e₁ e₂ =
-        let e = ne_eqb g.returning 1 m in
-        record { after = λ free. rw (e₁, e₂, eh, ← eg, t, e); outcome = λ free. eo ∙ rw (← eg, t, e) }
+  pub resumed : resumes g ≡ true → (h : Frame) (ds' : List ℕ) (fs' : List Frame) → h ≡ with_suspended g 0 → fs' ≡ set_frame fs q h → ds' ≡ push ds w q → GoesOn ds fs w q ds' fs' Resumed
+  unfolding go_on went_on
+  resumed t h ds' fs' eh e₁ e₂ = record { after = λ free. rw (e₁, e₂, eh, ← eg, t); outcome = λ free. rw (← eg, t) }
 
 -- ---- a return that waits, and a sync
 
 module _ (ds : List ℕ) (fs : List Frame) (w p : ℕ) (ep : p ≡ bottom ds w) (f : Frame) (ef : f ≡ frame_at fs p) where
-  pub passes : (o : Synced) → o ≡ Passed → f.outstanding ≡ 0 → IsSync ds fs w ds fs o
+  pub passes : f.outstanding ≡ 0 → IsSync ds fs w ds fs Passed
   unfolding sync synced
-  passes o eo z = record { after = λ free. rw (← ep, ← ef, eq-eqb f.outstanding 0 z); outcome = λ free. eo ∙ rw (← ep, ← ef, eq-eqb f.outstanding 0 z) }
+  passes z = let t = eq-eqb f.outstanding 0 z in record { after = λ free. rw (← ep, ← ef, t); outcome = λ free. rw (← ep, ← ef, t) }
 
-  pub waits : (o : Synced) (h : Frame) (ds' : List ℕ) (fs' : List Frame) → o ≡ Suspended → f.outstanding ≢ 0 → h ≡ with_suspended f 1 → fs' ≡ set_frame fs p h → ds' ≡ pop ds w → IsSync ds fs w ds' fs' o
+  pub waits : (h : Frame) (ds' : List ℕ) (fs' : List Frame) → f.outstanding ≢ 0 → h ≡ with_suspended f 1 → fs' ≡ set_frame fs p h → ds' ≡ pop ds w → IsSync ds fs w ds' fs' Suspended
   unfolding sync synced
-  waits o h ds' fs' eo z eh e₁ e₂ =
+  waits h ds' fs' z eh e₁ e₂ =
       let t = ne_eqb f.outstanding 0 z in
-      record { after = λ free. rw (e₂, e₁, eh, ← ep, ← ef, t); outcome = λ free. eo ∙ rw (← ep, ← ef, t) }
+      record { after = λ free. rw (e₂, e₁, eh, ← ep, ← ef, t); outcome = λ free. rw (← ep, ← ef, t) }
 
 -- ---- a spawn
-
-pub linked : (fs gs : List Frame) (p g c : ℕ) → c ≡ (frame_at fs p).outstanding → c ≢ 0 → gs ≡ relink fs p none g → gs ≡ link_child fs p g
-linked fs gs p g c ec n e = rw (e, ← ec, ne_eqb c 0 n)
 
 table_eq : {ds ds' : List ℕ} {fs fs' : List Frame} {free free' : ℕ} → ds ≡ ds' → fs ≡ fs' → free ≡ free' → table ds fs free ≡ table ds' fs' free'
 table_eq a b c = rw (a, b, c)
@@ -170,6 +158,8 @@ module _ (fs : List Frame) (q x y c : ℕ) (f : Frame) (ef : f ≡ frame_at fs c
 pub relink_end : (fs : List Frame) (q x y c : ℕ) → length fs ≤ c → fs ≡ relink_from (length fs - c) fs q x y c
 unfolding relink_from
 relink_end fs q x y c h = let e : length fs - c ≡ 0 = omega arith in sym (ap (λ (m : ℕ). relink_from m fs q x y c) e)
+
+pub ruleset relinking = (relink_found, relink_turn, relink_end)
 
 -- the word of each place that a table may have: the sum over the first c places
 abbrev pub Summed : List Frame → ℕ → List ℕ → Type 0

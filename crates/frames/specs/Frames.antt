@@ -42,28 +42,22 @@ set_frame fs p f = set fs p f
 
 -- a record with one part changed: its number of live children, suspended or not, its tree, returning or not, its view, its next younger live sibling
 abbrev pub with_outstanding : Frame → ℕ → Frame
-with_outstanding f n =
-    record { live = f.live; parent = f.parent; depth = f.depth; outstanding = n; suspended = f.suspended; root = f.root; returning = f.returning; view = f.view; younger = f.younger }
+with_outstanding f n = record f { outstanding = n }
 
 abbrev pub with_suspended : Frame → ℕ → Frame
-with_suspended f s =
-    record { live = f.live; parent = f.parent; depth = f.depth; outstanding = f.outstanding; suspended = s; root = f.root; returning = f.returning; view = f.view; younger = f.younger }
+with_suspended f s = record f { suspended = s }
 
 abbrev pub with_root : Frame → ℕ → Frame
-with_root f r =
-    record { live = f.live; parent = f.parent; depth = f.depth; outstanding = f.outstanding; suspended = f.suspended; root = r; returning = f.returning; view = f.view; younger = f.younger }
+with_root f r = record f { root = r }
 
 abbrev pub with_returning : Frame → ℕ → Frame
-with_returning f b =
-    record { live = f.live; parent = f.parent; depth = f.depth; outstanding = f.outstanding; suspended = f.suspended; root = f.root; returning = b; view = f.view; younger = f.younger }
+with_returning f b = record f { returning = b }
 
 abbrev pub with_view : Frame → View → Frame
-with_view f w =
-    record { live = f.live; parent = f.parent; depth = f.depth; outstanding = f.outstanding; suspended = f.suspended; root = f.root; returning = f.returning; view = w; younger = f.younger }
+with_view f w = record f { view = w }
 
 abbrev pub with_younger : Frame → ℕ → Frame
-with_younger f y =
-    record { live = f.live; parent = f.parent; depth = f.depth; outstanding = f.outstanding; suspended = f.suspended; root = f.root; returning = f.returning; view = f.view; younger = y }
+with_younger f y = record f { younger = y }
 
 -- R-3: "suspends the frame as returning"
 abbrev pub as_returning : Frame → Frame

@@ -1,6 +1,8 @@
 #![tactic(auto)]
-// The frame records and the workers' deques, in lent words; what the steps do to them. The lent words have their exact lengths, so no function tests an
-// index.
+// The frame records and the workers' deques, in lent words; what the steps do to them. The deques have their exact length, and a record's place is asked
+// to be one, but where a word of a record is followed that may be none.
+ghost use Rattle.std.specs.Prelude.{◌≡◌};
+
 mod deques;
 mod records;
 mod siblings;
@@ -9,16 +11,11 @@ mod steps;
 mod table;
 
 pub use deques::{acting_place, init_deques, place_at, pop_off, size_at, top_at};
-pub use records::{ends_too, free_place, with_root};
 use reducers::View;
 pub use start::{clear_frames, init_frames};
-pub use steps::{
-    end_below, end_frame, fold_at, go_on, spawn_frame, steal_frame, sync_frame, wait_frame,
-};
+pub use steps::{end_frame, fold_at, go_on, spawn_frame, steal_frame, sync_frame, wait_frame};
 pub use table::{frame_at, frame_or_zero, put_frame};
-
-// document 01: "None is 4,294,967,295"
-pub const NONE: u32 = 4294967295;
+pub use words::NONE;
 
 // The widths of specs/Widths.antt.
 pub const MAX_WORKERS: u32 = 8;
@@ -55,20 +52,40 @@ pub struct Frame {
 #[derive(Clone, Copy)]
 pub enum Returned {
     // the parent is the bottom now
-    Continued,
+    Continued = 0,
     // the worker is idle
-    Idle,
+    Idle = 1,
     // the parent resumes on this worker
-    Resumed,
+    Resumed = 2,
     // Main has ended
-    Finished,
+    Finished = 3,
     // a child lives: the frame waits for it
-    Waiting,
+    Waiting = 4,
 }
 
 // How a sync went on (outcomes 0 and 1).
 #[derive(Clone, Copy)]
 pub enum Synced {
-    Passed,
-    Suspended,
+    Passed = 0,
+    Suspended = 1,
+}
+
+impl From<Returned> for u32 {
+    ghost use Rattle.frames.specs.Steps.{returned_number};
+
+    ghost from_gives = { λ outcome n. n ≡ returned_number outcome };
+
+    fn from(outcome: Returned) -> u32 {
+        outcome as u32
+    }
+}
+
+impl From<Synced> for u32 {
+    ghost use Rattle.frames.specs.Steps.{synced_number};
+
+    ghost from_gives = { λ outcome n. n ≡ synced_number outcome };
+
+    fn from(outcome: Synced) -> u32 {
+        outcome as u32
+    }
 }

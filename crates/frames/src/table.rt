@@ -5,10 +5,10 @@ ghost use Rattle.std.specs.Prelude.{◌≡◌, ◌<◌, length};
 ghost use Rattle.frames.specs.Frames.{frame_at, set_frame, without_child};
 
 use super::Frame;
-use super::records::{free_place, is_place};
 use reducers::{Affine, Min, Sum, View};
 
 // The record at place p.
+#[tactic(auto, unfolding(crate::specs::Frames::frame_at))]
 pub fn frame_at(frames: &[Frame], p: u32) -> Frame
     requires { p < length frames.now }
     ensures { result ≡ frame_at frames.now p }
@@ -64,20 +64,23 @@ pub fn put_frame(frames: &mut [Frame], p: u32, f: Frame)
 }
 
 // The frame at place p has a live child less. Only that word is stored.
+#[tactic(auto, unfolding(crate::specs::Frames::frame_at, crate::specs::Frames::set_frame))]
 pub fn lose_child(frames: &mut [Frame], p: u32)
     requires { p < length frames.old }
     ensures { frames.new ≡ set_frame frames.old p (without_child (frame_at frames.old p)) }
 {
-    let n = words::sub(frames[p as usize].outstanding, 1);
-    frames[p as usize].outstanding = n;
+    let i = p as usize;
+    frames[i].outstanding = frames[i].outstanding.saturating_sub(1);
 }
 
 // The record at place p, and zeros where p is no place.
+#[tactic(auto, using(crate::proofs::Theory::Records::frame_past))]
 pub fn frame_or_zero(frames: &[Frame], p: u32) -> Frame
     ensures { result ≡ frame_at frames.now p }
 {
-    if is_place(p, frames.len()) {
-        return frame_at(frames, p);
+    if (p as usize) < frames.len() {
+        frame_at(frames, p)
+    } else {
+        Frame::free(0)
     }
-    free_place(0)
 }

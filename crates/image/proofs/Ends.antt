@@ -1,20 +1,22 @@
 -- The ways out of the functions that save, test and read.
+use Rattle.std.specs.Prelude.{Err, Ok}
 use mathlib.Core.Path.{◌≡◌, refl, sym, ap, ap₂, subst, ◌∙◌}
-use mathlib.Core.Logic.{inl, inr, ◌≢◌}
+use mathlib.Core.Logic.{inl, inr, ◌≢◌, ◌⊎◌}
 use mathlib.Core.Bool.{Bool, true, false, not}
 use mathlib.Core.List.{List, [], ◌∷◌, ◌++◌, append_assoc, append-nil}
 use Prim.Native.Nat.{ℕ, zero, suc, ◌+◌, ◌-◌, ◌*◌, ◌/◌, ◌%◌, ◌<◌, ◌≤◌}
 use native.Mathlib.Omega.{arith}
 use lib.ListN.{length, get_or, take, drop, replicate, length-append, length-drop, length-replicate, drop_of_length-le}
-use lib.Seq.{sets, sets-eq, take_all, drop_at, length-take-le, drop-append-add, drop-drop, drop-cons, take-nil}
+use lib.Seq.{sets, sets-eq, drop_at, length-take-le, drop-append-add, drop-drop, drop-cons, take-nil}
 use lib.Dec.{ltb}
+use borrow.Rule.Slice.PartMut.{put_mid}
 use borrow.Author.Tests.{ltb-true, ltb-false}
+use Rattle.image.specs.declared.ImageError.TheVariants.{WrongLength, WrongCheck}
 use Rattle.words.specs.Basics.{plus}
 use Rattle.words.specs.Tests.{decided}
 use Rattle.frames.specs.declared.Frame.{Frame}
 use Rattle.frames.specs.Widths.{record_words}
 use Rattle.soundness.specs.Numbers.{number_count}
-use Rattle.image.specs.declared.ImageCheck.TheVariants.{WrongLength, WrongCheck, Good}
 use Rattle.image.specs.Widths.{node_words, deques_words, state_words, words_for, version, version_step}
 use Rattle.image.specs.Image.{node_count, place_count, versioned, deques_for, table_words, image_words, word_bytes, bytes_of, words_of, word_at, check, blocks_for, filled, image_of, image_blocks, image_bytes, first_in, nodes_in, places_in, words_called, blocks_called, wrong_length, data_of, checks_hold, all_zero, rest_of, wrong_check, image_check, words_in, unversioned, number_words_in, pool_in, Lengths, stored}
 use Rattle.image.specs.Inner.{place_of, sum_before, with_check, put_words, last_words, read_words}
@@ -22,11 +24,11 @@ use Rattle.image.proofs.Theory.Version.{Readable}
 use Rattle.image.proofs.Theory.Bytes.{bytes-zeros, length-words, at_words}
 use Rattle.image.proofs.Theory.Blocks.{word_drop, word_take, word_front, length_data}
 use Rattle.image.proofs.Theory.Parts.{length-table}
-use Rattle.image.proofs.Theory.Check.{check_word, check-zeros}
+use Rattle.image.proofs.Theory.Check.{check-zeros}
 use Rattle.image.proofs.Theory.Refused.{right-length, when_17}
-use Rattle.image.proofs.Theory.Round.{length-filled, blocks_enough, blocks_needed, good_length, part_length, length_pool}
+use Rattle.image.proofs.Theory.Round.{length-filled, blocks_enough, blocks_needed, good_length, length_pool}
 use Rattle.image.proofs.Theory.Written.{length_state, length_image_words, length_image, image_blocks_lem}
-use Rattle.image.proofs.Stores.{put_append, put_next, put_run, put_last, put_blocks, sum-after, sum-block, sum_word, sum-none}
+use Rattle.image.proofs.Stores.{put_next, put_run, put_last, put_blocks, sum-after, sum-block, sum_word}
 use Rattle.soundness.specs.Layout.{two_words}
 use Rattle.image.proofs.Theory.Version.{two_version}
 
@@ -59,21 +61,11 @@ module _ (xs t u : List ℕ) (i n at before s : ℕ) (l : length xs ≡ n) (fits
       ∙ ap (λ (q : List ℕ). sets q (512 * (i / 127) + 508) (word_bytes (check (take 508 (drop (512 * (i / 127)) (sets t (place_of i) (bytes_of xs))))))) laid
       ∙ sym (put_last xs t i (omega arith))
 
--- the first number with the version
-pub first-stored : (ns t u : List ℕ) (w : ℕ) → 512 ≤ length t → w ≡ plus (get_or ns 0 0) (version two_words) → u ≡ sets t 0 (word_bytes w) → (u ≡ put_words t 0 (w ∷ [])) × (w ≡ sum_before u 1)
-unfolding bytes_of
-first-stored ns t u w h ew eu =
-    let z : sum_before t 0 ≡ 0 = sum-none t 0 refl in
-    let c : check (word_bytes w) ≡ w = check_word w (omega arith) in
-    let s : w ≡ plus 0 (check (word_bytes w)) = omega arith in
-    run_open (w ∷ []) t u 0 1 0 0 w refl (omega arith) refl (sym z) eu s (omega arith)
-
--- then the others
-pub numbers_stored : (ns t u v : List ℕ) (w : ℕ) → length ns ≡ number_count → w ≡ plus (get_or ns 0 0) (version two_words) → u ≡ put_words t 0 (w ∷ []) → v ≡ put_words u 1 (take 9 (drop 1 ns))
-    → v ≡ put_words t 0 (versioned two_words ns)
-numbers_stored [] t u v w l e eu ev = absurd (omega arith)
-numbers_stored (x ∷ xs) t u v w l e eu ev =
-    ev ∙ ap₂ (λ (p q : List ℕ). put_words p 1 q) eu (take_all 9 xs (omega arith)) ∙ sym (put_append (w ∷ []) xs t 0) ∙ ap (λ (y : ℕ). put_words t 0 (y ∷ xs)) e
+-- words over a part
+pub part_put : (t zs : List ℕ) (a k : ℕ) → length zs ≡ k → a + k ≤ length t → put_mid a k t zs ≡ sets t a zs
+part_put t zs a k lz h =
+    let l : a + k ≡ a + length zs = ap (λ (j : ℕ). a + j) (sym lz) in
+    ap (λ (q : List ℕ). take a t ++ (zs ++ q)) (drop-drop k a t ∙ ap (λ (j : ℕ). drop j t) l) ∙ sym (append_assoc (take a t) zs (drop (a + length zs) t)) ∙ sym (sets-eq zs t a (omega (arith, l)))
 
 -- zeros up to the end of the last block
 module _ (t : List ℕ) (w b s : ℕ) (eb : b ≡ blocks_for w) (fits : 512 * b ≤ length t) (es : s ≡ sum_before t w) where
@@ -182,26 +174,24 @@ module _ (image : List ℕ) where
       ∙ ap all_zero (rest-place n w image (omega arith) (omega arith) (omega arith) (omega arith)) ∙ sym e in
       rw (c', z')
 
-  pub too_short : length image < 512 → WrongLength ≡ image_check two_words image
+  pub too_short : length image < 512 → (Err WrongLength) ≡ image_check two_words image
   too_short h = sym ((when_17 two_words two_version image).1 (inl h))
 
-  pub form_before : (w : ℕ) → w ≡ first_in image → w < version two_words → WrongLength ≡ image_check two_words image
-  form_before w e h = sym ((when_17 two_words two_version image).1 (inr (inl (omega arith))))
+  pub other_form : (w : ℕ) → w ≡ first_in image → (w < version two_words) ⊎ (version two_words + version_step ≤ w) → (Err WrongLength) ≡ image_check two_words image
+  other_form w e (inl h) = sym ((when_17 two_words two_version image).1 (inr (inl (omega arith))))
+  other_form w e (inr h) = sym ((when_17 two_words two_version image).1 (inr (inr (inl (omega arith)))))
 
-  pub form_after : (w : ℕ) → w ≡ first_in image → version two_words + version_step ≤ w → WrongLength ≡ image_check two_words image
-  form_after w e h = sym ((when_17 two_words two_version image).1 (inr (inr (inl (omega arith)))))
-
-  pub other_length_lem : (b : ℕ) → b ≡ blocks_called two_words image → length image ≢ 512 * b → WrongLength ≡ image_check two_words image
+  pub other_length_lem : (b : ℕ) → b ≡ blocks_called two_words image → length image ≢ 512 * b → (Err WrongLength) ≡ image_check two_words image
   other_length_lem b eb d = sym ((when_17 two_words two_version image).1 (inr (inr (inr (λ e. d (e ∙ ap (λ (k : ℕ). 512 * k) (sym eb)))))))
 
   tested : (w b : ℕ) → w ≡ first_in image → Readable two_words two_version w → b ≡ blocks_called two_words image → length image ≡ 512 * b → wrong_length two_words image ≡ false
   tested w b ew h eb d = right-length two_words two_version image (record { form = subst (Readable two_words two_version) ew h; long = d ∙ ap (λ (k : ℕ). 512 * k) eb })
 
-  pub is_wrong : (w b : ℕ) → w ≡ first_in image → Readable two_words two_version w → b ≡ blocks_called two_words image → length image ≡ 512 * b → wrong_check two_words image ≡ true → WrongCheck ≡ image_check two_words image
+  pub is_wrong : (w b : ℕ) → w ≡ first_in image → Readable two_words two_version w → b ≡ blocks_called two_words image → length image ≡ 512 * b → wrong_check two_words image ≡ true → (Err WrongCheck) ≡ image_check two_words image
   unfolding image_check
   is_wrong w b ew h eb d e = rw (tested w b ew h eb d, e)
 
-  pub is_right : (w b : ℕ) → w ≡ first_in image → Readable two_words two_version w → b ≡ blocks_called two_words image → length image ≡ 512 * b → wrong_check two_words image ≡ false → Good ≡ image_check two_words image
+  pub is_right : (w b : ℕ) → w ≡ first_in image → Readable two_words two_version w → b ≡ blocks_called two_words image → length image ≡ 512 * b → wrong_check two_words image ≡ false → (Ok tt) ≡ image_check two_words image
   unfolding image_check
   is_right w b ew h eb d e = rw (tested w b ew h eb d, e)
 
@@ -249,7 +239,7 @@ all-stored t u xs l e =
     let z : drop (length xs) t ≡ [] = drop_of_length-le t {i = length xs} (omega arith) in
     front-stored t u xs (omega arith) e ∙ ap (λ (q : List ℕ). xs ++ q) z ∙ append-nil xs
 
-module _ (image : List ℕ) (good : image_check two_words image ≡ Good) where
+module _ (image : List ℕ) (good : image_check two_words image ≡ (Ok tt)) where
   -- the words called for stand in the image
   pub fits : (i k : ℕ) → i + k ≤ words_called two_words image → 512 * blocks_for (i + k) ≤ length image
   fits i k h = omega (arith, good_length two_words two_version image good)
@@ -257,18 +247,14 @@ module _ (image : List ℕ) (good : image_check two_words image ≡ Good) where
   pub these : (k i : ℕ) → i + k ≤ words_called two_words image → read_words k image i ≡ take k (drop i (words_in two_words image))
   these k i b = words_data k (blocks_called two_words image) image i (omega (arith, blocks_enough two_words two_version (words_called two_words image))) (omega (arith, good_length two_words two_version image good))
 
-  -- a part that has just this length
-  all_of : (t u : List ℕ) (k i : ℕ) → i + k ≤ words_called two_words image → length t ≡ k → u ≡ sets t 0 (read_words k image i) → u ≡ take k (drop i (words_in two_words image))
-  all_of t u k i b l d = all-stored t u (take k (drop i (words_in two_words image))) (part_length two_words two_version image good i k b ∙ sym l) (d ∙ ap (sets t 0) (these k i b))
-
   pub numbers_fit : 512 * blocks_for number_count ≤ length image
   numbers_fit = fits 0 number_count (omega arith)
 
-  pub numbers_read : (ns u v : List ℕ) → length ns ≡ number_count → u ≡ sets ns 0 (read_words number_count image 0) → v ≡ unversioned u → v ≡ number_words_in two_words image
-  numbers_read ns u v l e d = d ∙ ap unversioned (all_of ns u number_count 0 (omega arith) l e)
+  pub numbers_read : (n : ℕ) (u v : List ℕ) → n ≡ number_count → u ≡ read_words n image 0 → v ≡ unversioned u → v ≡ number_words_in two_words image
+  numbers_read n u v l e d = d ∙ ap unversioned (e ∙ ap (λ (k : ℕ). read_words k image 0) l ∙ these number_count 0 (omega arith))
 
   -- the nodes, in the front of a pool that holds them
-  pub nodes_read : (ws u : List ℕ) (i n : ℕ) → i ≡ state_words (places_in image) → n ≡ nodes_in image → node_words * nodes_in image ≤ length ws → u ≡ sets ws 0 (read_words (node_words * n) image i) → u ≡ stored (pool_in two_words image) ws
-  nodes_read ws u i n ei en room e =
-      front-stored ws u (pool_in two_words image) (omega (arith, length_pool two_words two_version image good))
-      (e ∙ ap₂ (λ (a b : ℕ). sets ws 0 (read_words (node_words * a) image b)) en ei ∙ ap (sets ws 0) (these (node_words * nodes_in image) (state_words (places_in image)) (omega arith)))
+  pub nodes_read : (ws xs : List ℕ) (i n k : ℕ) → i ≡ state_words (places_in image) → n ≡ nodes_in image → k ≡ node_words * n → xs ≡ read_words k image i → xs ++ drop (node_words * n) ws ≡ stored (pool_in two_words image) ws
+  nodes_read ws xs i n k ei en ek e =
+      let l : node_words * n ≡ length (pool_in two_words image) = omega (arith, length_pool two_words two_version image good) in
+      ap₂ (λ (q : List ℕ) (j : ℕ). q ++ drop j ws) (e ∙ ap₂ (λ (a b : ℕ). read_words a image b) ek ei ∙ ap (λ (a : ℕ). read_words (node_words * a) image (state_words (places_in image))) en ∙ these (node_words * nodes_in image) (state_words (places_in image)) (omega arith)) l

@@ -1,15 +1,11 @@
 -- A turn and the end of the loops.
-use mathlib.Core.Path.{◌≡◌, refl, sym, ap, ap₂, ◌∙◌}
-use mathlib.Core.Bool.{Bool, true, false, ◌&&◌}
-use mathlib.Core.List.{List, [], ◌∷◌, ◌++◌}
-use Prim.Native.Nat.{ℕ, zero, suc, ◌+◌, ◌-◌, ◌*◌, ◌%◌, ◌<◌, ◌≤◌}
-use native.Mathlib.Omega.{arith}
+use Rattle.std.proofs.Common.{◌≡◌, refl, sym, ap, ap₂, ◌∙◌, Bool, true, false, ◌&&◌, List, [], ◌∷◌, ◌++◌, ℕ, zero, suc, ◌+◌, ◌-◌, ◌*◌, ◌%◌, ◌<◌, ◌≤◌, arith, add-one, length, get_or, take, drop, set, replicate, length-drop, eqb}
 use native.Mathlib.Nat.{mod-add-mod}
-use native.Mathlib.Numerals.{add-one, unary_clauses}
-use lib.ListN.{length, get_or, take, drop, set, replicate, length-replicate, length-drop, replicate-append-replicate}
-use lib.Seq.{sets, set-set, take-suc, drop-drop, take-add, length-take-le, get_or-drop}
-use lib.Dec.{eqb}
+use native.Mathlib.Numerals.{unary_clauses}
+use lib.ListN.{length-replicate, replicate-append-replicate}
+use lib.Seq.{get_or-drop, sets, set-set, take-suc, take_all, drop-drop, take-add, length-take-le}
 use borrow.Author.Tests.{ne_eqb}
+use Rattle.std.specs.Int.{w32, from_le_bytes}
 use Rattle.words.specs.Basics.{plus, sum}
 use Rattle.words.specs.Counting.{sum_cong}
 use Rattle.model.specs.Record.{little}
@@ -20,9 +16,16 @@ use Rattle.image.proofs.Theory.Blocks.{word_drop, word_take}
 use Rattle.image.proofs.Theory.Check.{check-none, check-next, block_by_words}
 use Rattle.image.proofs.Stores.{put_append}
 
+-- the number of four bytes
+pub le_word : (a b c d : ℕ) → from_le_bytes w32 (a ∷ b ∷ c ∷ d ∷ []) ≡ little (a ∷ b ∷ c ∷ d ∷ [])
+le_word a b c d = omega arith
+
 -- at the end all of it is done
 pub at_end : {A : Type 0} (F : ℕ → A) {n k : ℕ} {x : A} → k ≤ n → n ≤ k → x ≡ F k → x ≡ F n
 at_end F {n} {k} a b e = let d : k ≡ n = omega arith in e ∙ ap F d
+
+pub take-all : {A B : Type 0} (F : List A → B) (xs : List A) {k : ℕ} {x : B} → length xs ≤ k → x ≡ F (take k xs) → x ≡ F xs
+take-all F xs {k} h e = e ∙ ap F (take_all k xs h)
 
 -- ---- stores
 

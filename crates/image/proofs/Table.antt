@@ -1,4 +1,5 @@
 -- A turn of the loops over the frame table, and their ends: for the functions that hold it.
+use Rattle.std.specs.Prelude.{Ok}
 use mathlib.Core.Path.{◌≡◌, refl, sym, ap, ap₂, ◌∙◌}
 use mathlib.Core.List.{List, [], ◌∷◌, ◌++◌, append_assoc, append-nil}
 use Prim.Native.Nat.{ℕ, zero, suc, ◌+◌, ◌*◌, ◌<◌, ◌≤◌}
@@ -8,9 +9,8 @@ use lib.ListN.{length, get_or, take, drop, set}
 use lib.Seq.{take-suc, take-length, drop-cons, drop-length, set_at, length-take-le, drop-drop, append_snoc}
 use Rattle.frames.specs.declared.Frame.{Frame}
 use Rattle.frames.specs.Widths.{record_words}
-use Rattle.frames.specs.Frames.{words_of as wordsOfRecord, record_in, frame_at, set_frame, free_record}
+use Rattle.frames.specs.Frames.{words_of as wordsOfRecord, record_in, set_frame}
 use Rattle.soundness.specs.Numbers.{number_count}
-use Rattle.image.specs.declared.ImageCheck.TheVariants.{Good}
 use Rattle.image.specs.Widths.{block_bytes, deques_words}
 use Rattle.image.specs.Image.{table_words, blocks_for, places_in, image_check, words_in, records_in, frames_in}
 use Rattle.image.specs.Inner.{put_words, read_words}
@@ -39,18 +39,10 @@ record_stored t u v fs p i z h eu ev =
     put_next t u v (table_words (take p fs)) (wordsOfRecord (get_or fs p z)) i (i + record_words * p) eu (omega (arith, length-table (take p fs), length-take-le p fs (omega arith))) ev
     ∙ ap (put_words t i) (sym (table_snoc fs p z h))
 
-pub frame-stored : (t u v : List ℕ) (fs : List Frame) (p i : ℕ) (f : Frame) → p < length fs → f ≡ frame_at fs p → u ≡ put_words t i (table_words (take p fs)) → v ≡ put_words u (i + record_words * p) (wordsOfRecord f)
-    → v ≡ put_words t i (table_words (take (p + 1) fs))
-unfolding frame_at
-frame-stored t u v fs p i f h ef eu ev = record_stored t u v fs p i (free_record 0) h eu (ev ∙ ap (λ (g : Frame). put_words u (i + record_words * p) (wordsOfRecord g)) ef)
-
 -- before the first
 pub no_records : (t : List ℕ) (fs : List Frame) (i : ℕ) → t ≡ put_words t i (table_words (take 0 fs))
 unfolding table_words put_words
 no_records t fs i = refl
-
-pub all_records : (t u : List ℕ) (fs : List Frame) (p i : ℕ) → p ≡ length fs → u ≡ put_words t i (table_words (take p fs)) → u ≡ put_words t i (table_words fs)
-all_records t u fs p i ep e = e ∙ ap (λ (m : ℕ). put_words t i (table_words (take m fs))) ep ∙ ap (λ (l : List Frame). put_words t i (table_words l)) (take-length fs)
 
 -- ---- reading
 
@@ -81,7 +73,7 @@ table_turn gs fs u p z h l e =
     ∙ ap (λ (x : List Frame). x ++ drop (suc p) fs) (sym (take-suc gs p z h))
     ∙ ap (table_so_far gs fs) (sym (add-one p))
 
-module _ (image : List ℕ) (good : image_check two_words image ≡ Good) (k : ℕ) (ek : k ≡ places_in image) where
+module _ (image : List ℕ) (good : image_check two_words image ≡ (Ok tt)) (k : ℕ) (ek : k ≡ places_in image) where
   -- where the record at place p begins
   abbrev pub record_place : ℕ → ℕ
   record_place p = number_count + deques_words k + record_words * p

@@ -1,16 +1,15 @@
 -- A turn of the loops over the deques, and their ends.
+use Rattle.std.specs.Prelude.{Ok}
 use mathlib.Core.Path.{◌≡◌, sym, ap, ap₂, ◌∙◌}
 use mathlib.Core.List.{List, ◌++◌, append_assoc, append-nil}
 use Prim.Native.Nat.{ℕ, suc, ◌+◌, ◌-◌, ◌*◌, ◌<◌, ◌≤◌}
 use native.Mathlib.Nat.{suc-mul, mul-le-mul_right}
 use native.Mathlib.Numerals.{add-one}
 use native.Mathlib.Omega.{arith}
-use lib.ListN.{length, take, drop, replicate, length-append, length-drop, length-replicate, replicate-append-replicate}
+use lib.ListN.{length, take, drop, replicate, length-append, length-replicate, replicate-append-replicate}
 use lib.Seq.{sets, sets-eq, take_at, drop_at, drop-drop}
 use Rattle.frames.specs.Widths.{max_workers, deque_places, deque_stride, deque_words}
-use Rattle.frames.proofs.Theory.Sizes.{rest_is}
 use Rattle.soundness.specs.Numbers.{number_count}
-use Rattle.image.specs.declared.ImageCheck.TheVariants.{Good}
 use Rattle.image.specs.Widths.{block_bytes, deques_words}
 use Rattle.image.specs.Image.{blocks_for, deques_of, places_in, image_check, words_in, lent_deques, deques_in}
 use Rattle.image.specs.Inner.{put_words, read_words}
@@ -27,23 +26,18 @@ pub one_more : (w k : ℕ) → w < max_workers → w * (1 + k) + (1 + k) ≤ deq
 one_more w k h = omega (arith, suc-mul w (1 + k), mul-le-mul_right (1 + k) h)
 
 -- where the next one's begin
-pub next-deque : (w k i : ℕ) → i ≡ number_count + w * (1 + k) → i + (1 + k) ≡ number_count + (w + 1) * (1 + k)
-next-deque w k i e = let s : (w + 1) * (1 + k) ≡ suc w * (1 + k) = ap (λ (m : ℕ). m * (1 + k)) (add-one w) in omega (arith, e, s, suc-mul w (1 + k))
+pub next-deque : (w k n : ℕ) → n ≡ 1 + k → number_count + w * (1 + k) + n ≡ number_count + (w + 1) * (1 + k)
+next-deque w k n e = let s : (w + 1) * (1 + k) ≡ suc w * (1 + k) = ap (λ (m : ℕ). m * (1 + k)) (add-one w) in omega (arith, e, s, suc-mul w (1 + k))
 
 -- ---- saving
 
--- they are in the part of the words that begins there
-pub deque_in_lem : (ds : List ℕ) (k w : ℕ) → k ≤ deque_places → length ds ≡ deque_words → w < max_workers → 1 + k ≤ length (take (length ds - deque_stride * w) (drop (deque_stride * w) ds))
-deque_in_lem ds k w h l b = omega (arith, ap length (rest_is (deque_stride * w) ds), length-drop (deque_stride * w) ds)
-
-pub deque-stored : (t u v ds : List ℕ) (k w i : ℕ) → k ≤ deque_places → length ds ≡ deque_words → w < max_workers → i ≡ number_count + w * (1 + k) → u ≡ put_words t number_count (deques_of w k ds)
-    → v ≡ put_words u i (take (1 + k) (take (length ds - deque_stride * w) (drop (deque_stride * w) ds))) → v ≡ put_words t number_count (deques_of (w + 1) k ds)
-deque-stored t u v ds k w i h l b ei eu ev =
+pub deque-stored : (t u v ds : List ℕ) (k w : ℕ) → k ≤ deque_places → length ds ≡ deque_words → w < max_workers → u ≡ put_words t number_count (deques_of w k ds)
+    → v ≡ put_words u (number_count + w * (1 + k)) (take (1 + k) (drop (deque_stride * w) ds)) → v ≡ put_words t number_count (deques_of (w + 1) k ds)
+deque-stored t u v ds k w h l b eu ev =
     let xs : List ℕ = deques_of w k ds in
     let ys : List ℕ = take (1 + k) (drop (deque_stride * w) ds) in
-    let p : i ≡ number_count + length xs = omega (arith, ei, length-deques_of w k ds h (omega arith)) in
-    put_next t u v xs ys number_count i eu p (ev ∙ ap (λ (q : List ℕ). put_words u i (take (1 + k) q)) (rest_is (deque_stride * w) ds))
-    ∙ ap (put_words t number_count) (sym (deques_snoc w k ds) ∙ ap (λ (m : ℕ). deques_of m k ds) (sym (add-one w)))
+    let p : number_count + w * (1 + k) ≡ number_count + length xs = omega (arith, length-deques_of w k ds h (omega arith)) in
+    put_next t u v xs ys number_count (number_count + w * (1 + k)) eu p ev ∙ ap (put_words t number_count) (sym (deques_snoc w k ds) ∙ ap (λ (m : ℕ). deques_of m k ds) (sym (add-one w)))
 
 -- ---- reading
 
@@ -65,7 +59,7 @@ over_zeros L vs a n r q m la lv em =
     ∙ ap₂ (λ (x y : List ℕ). x ++ vs ++ y) (take_at L (replicate m 0) a la) d
     ∙ sym (append_assoc (L ++ vs) R Q) ∙ ap (λ (l : List ℕ). l ++ Q) (append_assoc L vs R)
 
-module _ (image : List ℕ) (good : image_check two_words image ≡ Good) (k : ℕ) (ek : k ≡ places_in image) (most : k ≤ deque_places) where
+module _ (image : List ℕ) (good : image_check two_words image ≡ (Ok tt)) (k : ℕ) (ek : k ≡ places_in image) (most : k ≤ deque_places) where
   pub none_read : (u : List ℕ) → u ≡ replicate deque_words 0 → u ≡ read_so_far image k 0
   unfolding lent_deques
   none_read u e = e

@@ -1,12 +1,12 @@
 -- The definitions on small data, computed.
-use Rattle.std.specs.Prelude.{◌≡◌, refl, true, false, List, [], ◌∷◌, ◌++◌, map, ℕ, ◌+◌, length, take, drop, set, replicate}
+use Rattle.image.specs.declared.ImageError.TheVariants.{WrongLength}
+use Rattle.std.specs.Prelude.{◌≡◌, refl, true, false, List, [], ◌∷◌, ◌++◌, map, ℕ, ◌+◌, length, take, drop, set, replicate, Err}
 use Rattle.words.specs.Basics.{none}
 use Rattle.frames.specs.declared.Frame.{Frame}
 use Rattle.frames.specs.Widths.{deque_words, max_places}
 use Rattle.frames.specs.Frames.{free_record, set_frame, init_places, init_frames}
 use Rattle.frames.specs.Deques.{size, set_size, set_place, push, init_deques}
 use Rattle.soundness.specs.Numbers.{number_count}
-use Rattle.image.specs.declared.ImageCheck.TheVariants.{WrongLength}
 use Rattle.image.specs.Widths.{deques_words, state_words}
 use Rattle.image.specs.Image.{word_bytes, bytes_of, words_of, word_at, check, block, blocks_of, blocks_for, as_blocks, deques_of, table_words, image_words, image_bytes, no_form, blocks_called, wrong_length, checks_hold, image_check, unversioned, data_of, lent_deques, records_in, deques_in, frames_in, pool_in}
 use Rattle.soundness.specs.Layout.{two_words}
@@ -118,7 +118,7 @@ unfolding image words deques table deques_of table_words as_blocks blocks_of byt
 says_node = refl
 
 -- a block less or more, a byte less, nothing
-wrong_lengths : map (image_check two_words) (take 512 image ∷ (image ++ replicate 512 0) ∷ take 1023 image ∷ [] ∷ []) ≡ WrongLength ∷ WrongLength ∷ WrongLength ∷ WrongLength ∷ []
+wrong_lengths : map (image_check two_words) (take 512 image ∷ (image ++ replicate 512 0) ∷ take 1023 image ∷ [] ∷ []) ≡ (Err WrongLength) ∷ (Err WrongLength) ∷ (Err WrongLength) ∷ (Err WrongLength) ∷ []
 unfolding image words deques table deques_of table_words as_blocks blocks_of bytes_of words_of check wrong_length image_check init_deques push size set_size set_place init_frames init_places set_frame
 wrong_lengths = refl
 
@@ -133,7 +133,7 @@ with_first : ℕ → List ℕ
 with_first w = as_blocks (set words 0 w)
 
 -- one worker in R-1's form, in R-3's, in R-5's, in R-6's, and in one that is not known yet: as many blocks as are called for, and right checks
-other_forms : map (image_check two_words) (with_first 1 ∷ with_first 257 ∷ with_first 513 ∷ with_first 769 ∷ with_first 1281 ∷ []) ≡ WrongLength ∷ WrongLength ∷ WrongLength ∷ WrongLength ∷ WrongLength ∷ []
+other_forms : map (image_check two_words) (with_first 1 ∷ with_first 257 ∷ with_first 513 ∷ with_first 769 ∷ with_first 1281 ∷ []) ≡ (Err WrongLength) ∷ (Err WrongLength) ∷ (Err WrongLength) ∷ (Err WrongLength) ∷ (Err WrongLength) ∷ []
 unfolding with_first words deques table deques_of table_words as_blocks blocks_of bytes_of words_of check wrong_length image_check init_deques push size set_size set_place init_frames init_places set_frame
 other_forms = refl
 

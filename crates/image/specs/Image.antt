@@ -1,7 +1,7 @@
 -- Document 02's R-1, as R-3, R-5 and R-6 change it: a state and a pool as blocks of bytes, what an image is refused for, and what an accepted one says.
 -- Definitions only.
 -- A state is lent in three parts: the words ns of its numbers and ds of its deques, and fs, its frame table. ws are the pool's words.
-use Rattle.std.specs.Prelude.{◌≡◌, Bool, true, cond, not, ◌||◌, ◌&&◌, List, [], ◌∷◌, ◌++◌, ℕ, zero, suc, ◌+◌, ◌-◌, ◌*◌, ◌/◌, ◌%◌, ◌^◌, ◌<◌, ◌≤◌, length, get_or, take, drop, set, replicate, eqb, ltb}
+use Rattle.std.specs.Prelude.{◌≡◌, Bool, true, cond, not, ◌||◌, ◌&&◌, List, [], ◌∷◌, ◌++◌, ℕ, zero, suc, ◌+◌, ◌-◌, ◌*◌, ◌/◌, ◌%◌, ◌^◌, ◌<◌, ◌≤◌, length, get_or, take, drop, set, replicate, eqb, ltb, Result, Ok, Err, ⊤}
 use Rattle.words.specs.Basics.{plus, sum}
 use Rattle.model.specs.Record.{little}
 use Rattle.frames.specs.declared.Frame.{Frame}
@@ -9,8 +9,8 @@ use Rattle.frames.specs.Widths.{max_workers, max_places, record_words, deque_pla
 use Rattle.frames.specs.Frames.{words_of as wordsOfRecord, record_in}
 use Rattle.frames.specs.Deques.{place}
 use Rattle.soundness.specs.Numbers.{number_count, numbers_in}
-use Rattle.image.specs.declared.ImageCheck.{ImageCheck}
-use Rattle.image.specs.declared.ImageCheck.TheVariants.{WrongLength, WrongCheck, Good}
+use Rattle.image.specs.declared.ImageError.{ImageError}
+use Rattle.image.specs.declared.ImageError.TheVariants.{WrongLength, WrongCheck}
 use Rattle.image.specs.Widths.{block_bytes, data_bytes, data_words, deques_words, state_words, words_for, version, version_step}
 use Rattle.soundness.specs.Layout.{Layout}
 
@@ -159,9 +159,13 @@ rest_of L image = drop (4 * words_called L image) (data_of (blocks_called L imag
 unfoldable pub wrong_check : Layout → List ℕ → Bool
 wrong_check L image = not (checks_hold (blocks_called L image) image) || not (all_zero (rest_of L image))
 
+-- nothing, or what the bytes are refused for
+abbrev pub ImageCheck : Type 0
+ImageCheck = Result ⊤ ImageError
+
 -- "reading checks 17, 18"
 unfoldable pub image_check : Layout → List ℕ → ImageCheck
-image_check L image = cond (wrong_length L image) WrongLength (cond (wrong_check L image) WrongCheck Good)
+image_check L image = cond (wrong_length L image) (Err WrongLength) (cond (wrong_check L image) (Err WrongCheck) (Ok tt))
 
 -- ---- what an accepted image says
 

@@ -8,15 +8,14 @@ use crate::bytes::word_at;
 use crate::read::{first_in, words_called};
 use crate::sums::block_check;
 use crate::widths::blocks_for;
-use crate::{BLOCK_BYTES, DATA_BYTES, DATA_WORDS, ImageCheck, VERSION, VERSION_STEP};
+use crate::{BLOCK_BYTES, DATA_BYTES, DATA_WORDS, ImageError, VERSION, VERSION_STEP};
 
 // Is the check of the block at `at` right?
 fn block_right(image: &[u8], at: usize) -> bool
     requires { at + block_bytes ≤ length image.now }
     ensures { result ≡ eqb (word_at image.now (at + data_bytes)) (check (take data_bytes (drop at image.now))) }
 {
-    let said = word_at(image, at + DATA_BYTES);
-    said == block_check(image, at)
+    word_at(image, at + DATA_BYTES) == block_check(image, at)
 }
 
 // Are the checks of the first n blocks right?
@@ -24,12 +23,10 @@ fn checks_right(image: &[u8], n: usize) -> bool
     requires { block_bytes * n ≤ length image.now }
     ensures { result ≡ checks_hold n image.now }
 {
-    let mut k: usize = 0;
-    while k < n {
+    for k in 0..n {
         if !block_right(image, BLOCK_BYTES * k) {
             return false;
         }
-        k += 1;
     }
     true
 }
@@ -39,19 +36,18 @@ fn zeros(image: &[u8], at: usize, n: usize) -> bool
     requires { at + 4 * n ≤ length image.now }
     ensures { result ≡ all_zero (take (4 * n) (drop at image.now)) }
 {
-    let mut k: usize = 0;
-    while k < n {
+    for k in 0..n {
         if word_at(image, at + 4 * k) != 0 {
             return false;
         }
-        k += 1;
     }
     true
 }
 
 // Is a check wrong, or the rest of the last block not zero? The rest stands just before the last check.
 fn wrong_check(image: &[u8], words: usize, blocks: usize) -> bool
-    requires { (words ≡ words_called two_words image.now) × (blocks ≡ blocks_called two_words image.now) × (length image.now ≡ block_bytes * blocks) }
+    requires called { (words ≡ words_called two_words image.now) × (blocks ≡ blocks_called two_words image.now) }
+    requires whole { length image.now ≡ block_bytes * blocks }
     ensures { result ≡ wrong_check two_words image.now }
 {
     if !checks_right(image, blocks) {
@@ -62,26 +58,23 @@ fn wrong_check(image: &[u8], words: usize, blocks: usize) -> bool
 }
 
 // 17, 18, or neither.
-pub fn check_image(image: &[u8]) -> ImageCheck
+pub fn check_image(image: &[u8]) -> Result<(), ImageError>
     ensures { result ≡ image_check two_words image.now }
 {
     if image.len() < BLOCK_BYTES {
-        return ImageCheck::WrongLength;
+        return Err(ImageError::WrongLength);
     }
     let first = first_in(image);
-    if first < VERSION {
-        return ImageCheck::WrongLength;
-    }
-    if first >= VERSION + VERSION_STEP {
-        return ImageCheck::WrongLength;
+    if first < VERSION || first >= VERSION + VERSION_STEP {
+        return Err(ImageError::WrongLength);
     }
     let words = words_called(image);
     let blocks = blocks_for(words);
     if image.len() != BLOCK_BYTES * blocks {
-        return ImageCheck::WrongLength;
+        return Err(ImageError::WrongLength);
     }
     if wrong_check(image, words, blocks) {
-        return ImageCheck::WrongCheck;
+        return Err(ImageError::WrongCheck);
     }
-    ImageCheck::Good
+    Ok(())
 }

@@ -1,25 +1,16 @@
 // Words as bytes, the lowest first.
-ghost use Rattle.std.specs.Prelude.{◌≡◌, ◌+◌, ◌*◌, ◌%◌, ◌≤◌, length, take, drop, replicate};
+ghost use Rattle.std.specs.Prelude.{◌≡◌, ◌+◌, ◌*◌, ◌≤◌, length, take, drop, replicate};
 ghost use Rattle.std.proofs.lemmas.List.Edits.{sets};
 ghost use Rattle.words.specs.Basics.{plus};
 ghost use Rattle.image.specs.Image.{word_bytes, bytes_of, word_at, check};
 ghost use Rattle.image.specs.Inner.{words_at};
-
-use model::record::number32;
-
-// The low 8 bits.
-fn low_byte(x: u32) -> u8
-    ensures { result ≡ x % 256 }
-{
-    (x & 255) as u8
-}
 
 // The word of the four bytes from `at` on.
 pub fn word_at(bytes: &[u8], at: usize) -> u32
     requires { at + 4 ≤ length bytes.now }
     ensures { result ≡ word_at bytes.now at }
 {
-    number32(bytes[at], bytes[at + 1], bytes[at + 2], bytes[at + 3])
+    u32::from_le_bytes([bytes[at], bytes[at + 1], bytes[at + 2], bytes[at + 3]])
 }
 
 // Stores a word.
@@ -27,25 +18,24 @@ pub fn put_word(bytes: &mut [u8], at: usize, w: u32)
     requires { at + 4 ≤ length bytes.old }
     ensures { bytes.new ≡ sets bytes.old at (word_bytes w) }
 {
-    bytes[at] = low_byte(w);
-    bytes[at + 1] = low_byte(w >> 8);
-    bytes[at + 2] = low_byte(w >> 16);
-    bytes[at + 3] = low_byte(w >> 24);
+    let [first, second, third, fourth] = w.to_le_bytes();
+    bytes[at] = first;
+    bytes[at + 1] = second;
+    bytes[at + 2] = third;
+    bytes[at + 3] = fourth;
 }
 
 // Stores n words of `from`, from j on, one after the other from `at` on. Gives their sum and `before`, in a word.
 pub fn put_run(bytes: &mut [u8], at: usize, from: &[u32], j: usize, n: usize, before: u32) -> u32
     requires { (at + 4 * n ≤ length bytes.old) × (j + n ≤ length from.now) }
-    ensures { (bytes.new ≡ sets bytes.old at (bytes_of (take n (drop j from.now))))
-        × (result ≡ plus before (check (bytes_of (take n (drop j from.now))))) }
+    ensures stored { bytes.new ≡ sets bytes.old at (bytes_of (take n (drop j from.now))) }
+    ensures summed { result ≡ plus before (check (bytes_of (take n (drop j from.now)))) }
 {
     let mut sum = before;
-    let mut k: usize = 0;
-    while k < n {
+    for k in 0..n {
         let w = from[j + k];
         put_word(bytes, at + 4 * k, w);
-        sum = words::add(sum, w);
-        k += 1;
+        sum = sum.wrapping_add(w);
     }
     sum
 }
@@ -55,10 +45,8 @@ pub fn put_zeros(bytes: &mut [u8], at: usize, n: usize)
     requires { at + n ≤ length bytes.old }
     ensures { bytes.new ≡ sets bytes.old at (replicate n 0) }
 {
-    let mut k: usize = 0;
-    while k < n {
+    for k in 0..n {
         bytes[at + k] = 0;
-        k += 1;
     }
 }
 
@@ -83,10 +71,8 @@ pub fn read_fours(bytes: &[u8], at: usize, to: &mut [u32], j: usize, n: usize)
     requires { (at + 16 * n ≤ length bytes.now) × (j + 4 * n ≤ length to.old) }
     ensures { to.new ≡ sets to.old j (words_at (4 * n) bytes.now at) }
 {
-    let mut k: usize = 0;
-    while k < n {
+    for k in 0..n {
         read_four(bytes, at + 16 * k, to, j + 4 * k);
-        k += 1;
     }
 }
 
@@ -95,10 +81,8 @@ fn read_few(bytes: &[u8], at: usize, to: &mut [u32], j: usize, n: usize)
     requires { (at + 4 * n ≤ length bytes.now) × (j + n ≤ length to.old) }
     ensures { to.new ≡ sets to.old j (words_at n bytes.now at) }
 {
-    let mut k: usize = 0;
-    while k < n {
+    for k in 0..n {
         to[j + k] = word_at(bytes, at + 4 * k);
-        k += 1;
     }
 }
 

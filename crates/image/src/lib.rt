@@ -29,13 +29,12 @@ pub const VERSION_STEP: u32 = 256;
 
 pub const VERSION: u32 = 4 * VERSION_STEP;
 
-// What an image is found to be.
-#[derive(Clone, Copy)]
-pub enum ImageCheck {
+// What an image is refused for, on its bytes alone.
+#[derive(Clone, Copy, PartialEq, Eq)]
+pub enum ImageError {
     // 17, "the image is not just as many whole blocks as its first block calls for, or has no whole block"; "A first word of no
     // readable form gives 17."
     WrongLength,
     // 18, "a check is wrong or the rest of the last block is not zero"
     WrongCheck,
-    Good,
 }

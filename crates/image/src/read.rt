@@ -1,9 +1,7 @@
 // Reading the words of an image.
-ghost use Rattle.std.specs.Prelude.{◌≡◌, ◌+◌, ◌*◌, ◌^◌, ◌<◌, ◌≤◌, length};
+ghost use Rattle.std.specs.Prelude.{◌≡◌, ◌+◌, ◌*◌, ◌^◌, ◌<◌, ◌≤◌, length, Ok};
 ghost use Rattle.std.proofs.lemmas.List.Edits.{sets};
-ghost use Rattle.frames.specs.Widths.{max_places, deque_words};
-ghost use Rattle.soundness.specs.Numbers.{number_count};
-ghost use Rattle.image.specs.declared.ImageCheck.TheVariants.{Good};
+ghost use Rattle.frames.specs.Widths.{max_places};
 ghost use Rattle.image.specs.Widths.{node_words, block_bytes, data_words};
 ghost use Rattle.image.specs.Image.{blocks_for, first_in, nodes_in, places_in, words_called, image_check, number_words_in, deques_in, frames_in, pool_in, Lengths, stored, IsRead};
 ghost use Rattle.image.specs.Inner.{words_at, read_words};
@@ -14,7 +12,7 @@ use crate::deques::read_deques;
 use crate::records::read_record;
 use crate::widths::{deques_words, place_of, run_length, state_words, words_for};
 use crate::{BLOCK_BYTES, DATA_BYTES, DATA_WORDS, NUMBER_COUNT, VERSION_STEP};
-use frames::{Frame, RECORD_WORDS, put_frame};
+use frames::{DEQUE_WORDS, Frame, RECORD_WORDS, put_frame};
 use packed::NODE_WORDS;
 
 // The first word, which tells the form.
@@ -66,67 +64,62 @@ fn read_blocks(image: &[u8], b: usize, to: &mut [u32], j: usize, n: usize)
     requires { (block_bytes * (b + n) ≤ length image.now) × (j + data_words * n ≤ length to.old) }
     ensures { to.new ≡ sets to.old j (read_words (data_words * n) image.now (data_words * b)) }
 {
-    let mut k: usize = 0;
-    while k < n {
+    for k in 0..n {
         read_block(image, b + k, to, j + DATA_WORDS * k);
-        k += 1;
     }
 }
 
-// Reads n words of the data, from its word i on, into `to` from j on: the rest of a block, whole blocks, a block's beginning.
-pub fn read_words(image: &[u8], i: usize, to: &mut [u32], j: usize, n: usize)
-    requires { (j + n ≤ length to.old) × (block_bytes * blocks_for (i + n) ≤ length image.now) }
-    ensures { to.new ≡ sets to.old j (read_words n image.now i) }
+// Reads words of the data, from its word i on: the rest of a block, whole blocks, a block's beginning.
+pub fn read_words(image: &[u8], i: usize, to: &mut [u32])
+    requires { block_bytes * blocks_for (i + length to.old) ≤ length image.now }
+    ensures { to.new ≡ read_words (length to.old) image.now i }
 {
+    let n = to.len();
     let first = run_length(i, n);
-    read_run(image, place_of(i), to, j, first);
+    read_run(image, place_of(i), to, 0, first);
     let blocks = (n - first) / DATA_WORDS;
-    read_blocks(image, (i + first) / DATA_WORDS, to, j + first, blocks);
+    read_blocks(image, (i + first) / DATA_WORDS, to, first, blocks);
     let k = first + DATA_WORDS * blocks;
-    read_run(image, place_of(i + k), to, j + k, n - k);
+    read_run(image, place_of(i + k), to, k, n - k);
 }
 
 // Reads the numbers, the first one without the version.
-fn read_numbers(image: &[u8], numbers: &mut [u32])
-    requires { (image_check two_words image.now ≡ Good) × (length numbers.old ≡ number_count) }
+fn read_numbers(image: &[u8], numbers: &mut [u32; NUMBER_COUNT])
+    requires { image_check two_words image.now ≡ (Ok tt) }
     ensures { numbers.new ≡ number_words_in two_words image.now }
 {
-    read_words(image, 0, numbers, 0, NUMBER_COUNT);
-    numbers[0] = numbers[0] % VERSION_STEP;
+    read_words(image, 0, numbers);
+    numbers[0] %= VERSION_STEP;
 }
 
 // Reads all but the frame table of an image that is not refused by 17 or 18 and records at most 256 places. Words of the pool past the nodes never change.
-pub fn read_beside(image: &[u8], numbers: &mut [u32], deques: &mut [u32], pool: &mut [u32])
-    requires { (image_check two_words image.now ≡ Good) × (length numbers.old ≡ number_count) × (length deques.old ≡ deque_words)
-        × (places_in image.now ≤ max_places) × (node_words * nodes_in image.now ≤ length pool.old) }
+pub fn read_beside(
+    image: &[u8],
+    numbers: &mut [u32; NUMBER_COUNT],
+    deques: &mut [u32; DEQUE_WORDS],
+    pool: &mut [u32],
+)
+    requires { (image_check two_words image.now ≡ (Ok tt)) × (places_in image.now ≤ max_places) × (node_words * nodes_in image.now ≤ length pool.old) }
     ensures { (numbers.new ≡ number_words_in two_words image.now) × (deques.new ≡ deques_in two_words image.now)
         × (pool.new ≡ stored (pool_in two_words image.now) pool.old) }
 {
     let places = places_in(image);
-    let nodes = nodes_in(image);
+    let words = NODE_WORDS * nodes_in(image) as usize;
     read_numbers(image, numbers);
     read_deques(image, deques, places);
-    read_words(
-        image,
-        state_words(places),
-        pool,
-        0,
-        NODE_WORDS * (nodes as usize),
-    );
+    read_words(image, state_words(places), &mut pool[..words]);
 }
 
 // Reads the records into a table of as many places.
 pub fn read_table(image: &[u8], frames: &mut [Frame])
-    requires { (image_check two_words image.now ≡ Good) × (length frames.old ≡ places_in image.now) }
+    requires { (image_check two_words image.now ≡ (Ok tt)) × (length frames.old ≡ places_in image.now) }
     ensures { frames.new ≡ frames_in two_words image.now }
 {
     let places = places_in(image);
     let from = NUMBER_COUNT + deques_words(places);
-    let mut p: u32 = 0;
-    while p < places {
+    for p in 0..places {
         let f = read_record(image, from + RECORD_WORDS * (p as usize));
         put_frame(frames, p, f);
-        p += 1;
     }
 }
 
@@ -134,12 +127,12 @@ pub fn read_table(image: &[u8], frames: &mut [Frame])
 // nodes. Words past them never change.
 pub fn read_parts(
     image: &[u8],
-    numbers: &mut [u32],
-    deques: &mut [u32],
+    numbers: &mut [u32; NUMBER_COUNT],
+    deques: &mut [u32; DEQUE_WORDS],
     frames: &mut [Frame],
     pool: &mut [u32],
 )
-    requires { (image_check two_words image.now ≡ Good) × (length numbers.old ≡ number_count) × Lengths (number_words_in two_words image.now) deques.old frames.old
+    requires { (image_check two_words image.now ≡ (Ok tt)) × Lengths (number_words_in two_words image.now) deques.old frames.old
         × (node_words * nodes_in image.now ≤ length pool.old) }
     ensures { IsRead two_words image.now numbers.new deques.new frames.new pool.old pool.new }
 {

@@ -4,19 +4,18 @@ ghost use Rattle.frames.specs.Widths.{record_words};
 ghost use Rattle.frames.specs.Frames.{words_of, record_in};
 ghost use Rattle.image.specs.Widths.{block_bytes};
 ghost use Rattle.image.specs.Image.{blocks_for};
-ghost use Rattle.image.specs.Inner.{put_words, sum_before, read_words};
+ghost use Rattle.image.specs.Inner.{read_words};
 
 use crate::read::read_words;
 use crate::write::write_words;
 use frames::{Frame, RECORD_WORDS};
 use reducers::{Affine, Min, Sum, View};
 
-// Stores the words of a record as the data's words from i on, whose block's words before them sum up to `before`. Gives the sum for the words that follow.
-pub fn write_record(target: &mut [u8], i: usize, f: Frame, before: u32) -> u32
-    requires { (block_bytes * blocks_for (i + record_words) ≤ length target.old) × (before ≡ sum_before target.old i) }
-    ensures { (target.new ≡ put_words target.old i (words_of f)) × (result ≡ sum_before target.new (i + record_words)) }
+// A record's words.
+pub fn words_of(f: &Frame) -> [u32; RECORD_WORDS]
+    ensures { result ≡ words_of f.now }
 {
-    let words = [
+    [
         f.live,
         f.parent,
         f.depth,
@@ -29,8 +28,7 @@ pub fn write_record(target: &mut [u8], i: usize, f: Frame, before: u32) -> u32
         f.view.affine.multiplier,
         f.view.affine.addend,
         f.younger,
-    ];
-    write_words(target, i, &words, RECORD_WORDS, before)
+    ]
 }
 
 // The record of the data's words from i on.
@@ -39,7 +37,7 @@ pub fn read_record(image: &[u8], i: usize) -> Frame
     ensures { result ≡ record_in (read_words record_words image.now i) }
 {
     let mut words = [0u32; RECORD_WORDS];
-    read_words(image, i, &mut words, 0, RECORD_WORDS);
+    read_words(image, i, &mut words);
     Frame {
         live: words[0],
         parent: words[1],

@@ -12,10 +12,8 @@ pub fn block_check(image: &[u8], at: usize) -> u32
     ensures { result ≡ check (take data_bytes (drop at image.now)) }
 {
     let mut sum: u32 = 0;
-    let mut j: usize = 0;
-    while j < DATA_WORDS {
-        sum = words::add(sum, word_at(image, at + 4 * j));
-        j += 1;
+    for j in 0..DATA_WORDS {
+        sum = sum.wrapping_add(word_at(image, at + 4 * j));
     }
     sum
 }

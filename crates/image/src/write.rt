@@ -1,6 +1,6 @@
 // Saving, in one pass: the words are stored as bytes and summed as they are, and each block gets its check after its last word.
 ghost use Rattle.std.specs.Prelude.{◌≡◌, ◌++◌, ◌+◌, ◌-◌, ◌*◌, ◌%◌, ◌^◌, ◌<◌, ◌≤◌, length, take, drop, replicate};
-ghost use Rattle.frames.specs.Widths.{max_places, record_words, deque_words};
+ghost use Rattle.frames.specs.Widths.{max_places, record_words};
 ghost use Rattle.soundness.specs.Numbers.{number_count};
 ghost use Rattle.image.specs.Widths.{node_words, block_bytes, data_words, deques_words, state_words};
 ghost use Rattle.image.specs.Image.{node_count, place_count, versioned, deques_for, table_words, blocks_for, image_of, image_bytes, Lengths, stored};
@@ -9,18 +9,20 @@ ghost use Rattle.soundness.specs.Layout.{two_words};
 
 use crate::bytes::{put_run, put_word, put_zeros};
 use crate::deques::write_deques;
-use crate::records::write_record;
+use crate::records::words_of;
 use crate::widths::{blocks_for, deques_words, place_of, run_length, state_words};
 use crate::{BLOCK_BYTES, DATA_BYTES, DATA_WORDS, NUMBER_COUNT, VERSION};
-use frames::{Frame, RECORD_WORDS, frame_at};
+use frames::{DEQUE_WORDS, Frame, RECORD_WORDS};
 use packed::NODE_WORDS;
 
 // Stores n words of `from`, from j on, as the data's words from i on, all in one block, whose words before them sum up to `before`. After
 // the last word of a block stores its check. Gives the sum for the words that follow.
 fn write_run(target: &mut [u8], i: usize, from: &[u32], j: usize, n: usize, before: u32) -> u32
-    requires { (i % data_words + n ≤ data_words) × (j + n ≤ length from.now) × (block_bytes * blocks_for (i + n) ≤ length target.old)
-        × (before ≡ sum_before target.old i) }
-    ensures { (target.new ≡ put_words target.old i (take n (drop j from.now))) × (result ≡ sum_before target.new (i + n)) }
+    requires in_block { (i % data_words + n ≤ data_words) × (j + n ≤ length from.now) }
+    requires room { block_bytes * blocks_for (i + n) ≤ length target.old }
+    requires sum_so_far { before ≡ sum_before target.old i }
+    ensures stored { target.new ≡ put_words target.old i (take n (drop j from.now)) }
+    ensures sum_after { result ≡ sum_before target.new (i + n) }
 {
     let at = place_of(i);
     let sum = put_run(target, at, from, j, n, before);
@@ -41,24 +43,24 @@ fn write_block(target: &mut [u8], b: usize, from: &[u32], j: usize)
     put_word(target, at + DATA_BYTES, sum);
 }
 
-// The same for n blocks.
+// The same for n blocks of `from`, from j on.
 fn write_blocks(target: &mut [u8], b: usize, from: &[u32], j: usize, n: usize)
     requires { (block_bytes * (b + n) ≤ length target.old) × (j + data_words * n ≤ length from.now) }
     ensures { target.new ≡ put_words target.old (data_words * b) (take (data_words * n) (drop j from.now)) }
 {
-    let mut k: usize = 0;
-    while k < n {
+    for k in 0..n {
         write_block(target, b + k, from, j + DATA_WORDS * k);
-        k += 1;
     }
 }
 
-// Stores the first n words of `from` as the data's words from i on: the rest of a block, whole blocks, a block's beginning. The sum of an
-// open block is handed on.
-pub fn write_words(target: &mut [u8], i: usize, from: &[u32], n: usize, before: u32) -> u32
-    requires { (n ≤ length from.now) × (block_bytes * blocks_for (i + n) ≤ length target.old) × (before ≡ sum_before target.old i) }
-    ensures { (target.new ≡ put_words target.old i (take n from.now)) × (result ≡ sum_before target.new (i + n)) }
+// Stores words as the data's words from i on: the rest of a block, whole blocks, a block's beginning. The sum of an open block is handed on.
+pub fn write_words(target: &mut [u8], i: usize, from: &[u32], before: u32) -> u32
+    requires room { block_bytes * blocks_for (i + length from.now) ≤ length target.old }
+    requires sum_so_far { before ≡ sum_before target.old i }
+    ensures stored { target.new ≡ put_words target.old i from.now }
+    ensures sum_after { result ≡ sum_before target.new (i + length from.now) }
 {
+    let n = from.len();
     let first = run_length(i, n);
     let sum = write_run(target, i, from, 0, first, before);
     let blocks = (n - first) / DATA_WORDS;
@@ -68,13 +70,14 @@ pub fn write_words(target: &mut [u8], i: usize, from: &[u32], n: usize, before: 
 }
 
 // Stores the numbers, the first one with the version.
-fn write_numbers(target: &mut [u8], numbers: &[u32]) -> u32
-    requires { (length numbers.now ≡ number_count) × (block_bytes ≤ length target.old) }
-    ensures { (target.new ≡ put_words target.old 0 (versioned two_words numbers.now)) × (result ≡ sum_before target.new number_count) }
+fn write_numbers(target: &mut [u8], numbers: &[u32; NUMBER_COUNT]) -> u32
+    requires { block_bytes ≤ length target.old }
+    ensures stored { target.new ≡ put_words target.old 0 (versioned two_words numbers.now) }
+    ensures sum_after { result ≡ sum_before target.new number_count }
 {
-    let first = words::add(numbers[0], VERSION);
-    put_word(target, 0, first);
-    write_run(target, 1, numbers, 1, NUMBER_COUNT - 1, first)
+    let mut words = *numbers;
+    words[0] = words[0].wrapping_add(VERSION);
+    write_run(target, 0, &words, 0, NUMBER_COUNT, 0)
 }
 
 // Stores zeros from the data's word `end` on up to the end of the last block, and its check. Zeros add nothing to the sum.
@@ -92,8 +95,12 @@ fn write_rest(target: &mut [u8], end: usize, blocks: usize, sum: u32)
 
 // Stores what stands before the frame table: the numbers, and the deques with as many places as the numbers record. Gives the sum for the words that
 // follow.
-pub fn write_before(target: &mut [u8], numbers: &[u32], deques: &[u32]) -> u32
-    requires { (length numbers.now ≡ number_count) × (length deques.now ≡ deque_words) × (place_count numbers.now ≤ max_places)
+pub fn write_before(
+    target: &mut [u8],
+    numbers: &[u32; NUMBER_COUNT],
+    deques: &[u32; DEQUE_WORDS],
+) -> u32
+    requires { (place_count numbers.now ≤ max_places)
         × (block_bytes * blocks_for (number_count + deques_words (place_count numbers.now)) ≤ length target.old) }
     ensures { (target.new ≡ put_words target.old 0 (versioned two_words numbers.now ++ deques_for (place_count numbers.now) deques.now))
         × (result ≡ sum_before target.new (number_count + deques_words (place_count numbers.now))) }
@@ -104,8 +111,8 @@ pub fn write_before(target: &mut [u8], numbers: &[u32], deques: &[u32]) -> u32
 }
 
 // Stores what stands after the frame table: the nodes, then zeros up to the end of the last block, and its check.
-pub fn write_after(target: &mut [u8], numbers: &[u32], pool: &[u32], sum: u32)
-    requires { (length numbers.now ≡ number_count) × (node_words * node_count numbers.now ≤ length pool.now)
+pub fn write_after(target: &mut [u8], numbers: &[u32; NUMBER_COUNT], pool: &[u32], sum: u32)
+    requires { (node_words * node_count numbers.now ≤ length pool.now)
         × (image_bytes two_words (place_count numbers.now) (node_count numbers.now) ≤ length target.old)
         × (sum ≡ sum_before target.old (state_words (place_count numbers.now))) }
     ensures { target.new ≡ put_words target.old (state_words (place_count numbers.now))
@@ -115,7 +122,7 @@ pub fn write_after(target: &mut [u8], numbers: &[u32], pool: &[u32], sum: u32)
     let nodes = numbers[2];
     let state = state_words(places);
     let words = NODE_WORDS * (nodes as usize);
-    let after_pool = write_words(target, state, pool, words, sum);
+    let after_pool = write_words(target, state, &pool[..words], sum);
     let blocks = blocks_for(state + words);
     write_rest(target, state + words, blocks, after_pool);
 }
@@ -128,19 +135,16 @@ pub fn write_table(target: &mut [u8], i: usize, frames: &[Frame], before: u32) -
         × (result ≡ sum_before target.new (i + record_words * length frames.now)) }
 {
     let mut sum = before;
-    let mut p: u32 = 0;
-    while (p as usize) < frames.len() {
-        let f = frame_at(frames, p);
-        sum = write_record(target, i + RECORD_WORDS * (p as usize), f, sum);
-        p += 1;
+    for (p, f) in frames.iter().enumerate() {
+        sum = write_words(target, i + RECORD_WORDS * p, &words_of(f), sum);
     }
     sum
 }
 
 // Writes the image of a state and its pool into a target that holds it, in one pass. Bytes past it never change.
 pub fn write_image(
-    numbers: &[u32],
-    deques: &[u32],
+    numbers: &[u32; NUMBER_COUNT],
+    deques: &[u32; DEQUE_WORDS],
     frames: &[Frame],
     pool: &[u32],
     target: &mut [u8],

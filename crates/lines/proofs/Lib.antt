@@ -1,4 +1,6 @@
 pub mod Theory
+pub mod Writes
+pub mod Pairs
 pub mod Numbers
 pub mod Loops
 pub mod Whole

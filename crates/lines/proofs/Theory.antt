@@ -29,30 +29,6 @@ pub stores_none : (o : List ℕ) (at b : ℕ) → length o ≤ at → Stores o a
 unfolding store_all store_byte
 stores_none o at b h = rw (le-ltb at (length o) h, set_out o at b h)
 
--- ---- a loop that stores: its turns, and its end
-
-pub stores_turn : (o : List ℕ) (at : ℕ) {o' : List ℕ} {to : ℕ} (xs rest whole : List ℕ) → whole ≡ xs ++ rest
-    → Stores o at xs o' to → store_all (o', to) rest ≡ store_all (o, at) whole
-stores_turn o at xs rest whole w e = ap (λ (p : Buffer). store_all p rest) e ∙ sym (store_append (o, at) xs rest) ∙ ap (λ (l : List ℕ). store_all (o, at) l) (sym w)
-
-pub stores_end : (o : List ℕ) (at : ℕ) (rest : List ℕ) {q : Buffer} → rest ≡ [] → store_all (o, at) rest ≡ q → (o, at) ≡ q
-unfolding store_all
-stores_end o at rest w e = ap (λ (l : List ℕ). store_all (o, at) l) (sym w) ∙ e
-
--- a field with the byte after it, then the rest of the line
-pub stores_field : (o : List ℕ) (at : ℕ) {o' o'' : List ℕ} {to r : ℕ} (f : List ℕ) (b : ℕ) (ys : List ℕ) → Stores o at (f ++ b ∷ []) o' to
-    → Stores o' to ys o'' r → Stores o at (f ++ b ∷ ys) o'' r
-stores_field o at f b ys d e = stores_then o at (f ++ b ∷ []) ys d e ∙ ap (λ (l : List ℕ). store_all (o, at) l) (append_assoc f (b ∷ []) ys)
-
--- ---- bounds
-
-pub more_room : {a b : ℕ} (o : List ℕ) (at : ℕ) {o' : List ℕ} {r : ℕ} (bs : List ℕ) → a ≤ b → StoresUpTo a o at bs o' r → StoresUpTo b o at bs o' r
-more_room o at bs h s = (s.0, omega (arith, s.1))
-
-pub up_to_then : {a b : ℕ} (o : List ℕ) (at : ℕ) {o' o'' : List ℕ} {to r : ℕ} (xs ys : List ℕ) → StoresUpTo a o at xs o' to
-    → StoresUpTo b o' to ys o'' r → StoresUpTo (a + b) o at (xs ++ ys) o'' r
-up_to_then o at xs ys e f = (stores_then o at xs ys e.0 f.0, omega (arith, e.1, f.1, length-append xs ys))
-
 -- ---- what is left of the buffer
 
 store_length : (bs : List ℕ) (o : Buffer) → length (store_all o bs).0 ≡ length o.0

@@ -1,5 +1,5 @@
 -- Document 01's "The program splitrun and its lines": the whole output of an input, as bytes. Definitions only.
-use Rattle.std.specs.Prelude.{Bool, true, false, cond, ◌||◌, ◌&&◌, List, [], ◌∷◌, ◌++◌, ℕ, zero, suc, ◌+◌, ◌-◌, ◌*◌, ◌/◌, ◌%◌, length, get_or, drop, replicate, eqb, ltb}
+use Rattle.std.specs.Prelude.{Bool, true, false, cond, ◌||◌, ◌&&◌, List, [], ◌∷◌, ◌++◌, ℕ, zero, suc, ◌+◌, ◌-◌, ◌*◌, ◌/◌, ◌%◌, length, get_or, drop, replicate, flat_map, eqb, ltb}
 use Rattle.frames.specs.declared.Frame.{Frame}
 use Rattle.frames.specs.Frames.{free_record}
 use Rattle.model.specs.Record.{little}
@@ -27,6 +27,10 @@ line [] = 10 ∷ []
 line (f ∷ []) = f ++ 10 ∷ []
 line (f ∷ g ∷ fs) = f ++ 32 ∷ line (g ∷ fs)
 
+-- numbers that are not the first of their line
+abbrev pub spaced : List ℕ → List ℕ
+spaced ns = flat_map (λ n. 32 ∷ decimal n) ns
+
 -- `unfit`, `refused`, `free`, and R-5's `reduced`
 abbrev pub unfit_word : List ℕ
 unfit_word = 117 ∷ 110 ∷ 102 ∷ 105 ∷ 116 ∷ []
@@ -43,11 +47,14 @@ reduced_word = 114 ∷ 101 ∷ 100 ∷ 117 ∷ 99 ∷ 101 ∷ 100 ∷ []
 -- ---- the input
 
 -- "workers and n (16 bits each), nodes (32 bits)", little-endian
+abbrev pub number16_at : List ℕ → ℕ → ℕ
+number16_at input at = little (get_or input at 0 ∷ get_or input (at + 1) 0 ∷ [])
+
 unfoldable pub workers_in : List ℕ → ℕ
-workers_in input = little (get_or input 0 0 ∷ get_or input 1 0 ∷ [])
+workers_in input = number16_at input 0
 
 unfoldable pub splitters_in : List ℕ → ℕ
-splitters_in input = little (get_or input 2 0 ∷ get_or input 3 0 ∷ [])
+splitters_in input = number16_at input 2
 
 -- the 32-bit number at a place
 unfoldable pub number32_at : List ℕ → ℕ → ℕ

@@ -1,5 +1,6 @@
 -- Bytes stored in a lent buffer, one after another, as far as they fit. Definitions only.
 use Rattle.std.specs.Prelude.{◌≡◌, cond, List, [], ◌∷◌, ℕ, suc, ◌≤◌, length, take, set, ltb}
+use Rattle.lines.specs.declared.text.Output.{Output}
 use Rattle.lines.specs.Lines.{lines_of}
 
 -- a buffer and the place of its next byte
@@ -21,6 +22,15 @@ Stores old at bs new r = ◌≡◌ {A = Buffer} (new, r) (store_all (old, at) bs
 -- the same, of at most so many bytes
 abbrev pub StoresUpTo : ℕ → List ℕ → ℕ → List ℕ → List ℕ → ℕ → Type 0
 StoresUpTo most old at bs new r = Stores old at bs new r × (length bs ≤ most)
+
+-- an output becomes p by storing bs from its place on, in the same lent bytes
+pub record Writes (o : Output) (bs : List ℕ) (p : Output) : Type 0 where
+  pub same : p.bytes.ghost_name ≡ o.bytes.ghost_name
+  pub stored : Stores o.bytes.now o.at bs p.bytes.now p.at
+
+-- the same, of at most so many bytes
+abbrev pub WritesUpTo : ℕ → Output → List ℕ → Output → Type 0
+WritesUpTo most o bs p = Writes o bs p × (length bs ≤ most)
 
 -- what is promised of the whole: the buffer `old` becomes `new`, with the next place r
 pub record IsOutput (input old new : List ℕ) (r : ℕ) : Type 0 where

@@ -1,9 +1,9 @@
 #![tactic(auto)]
 // What each worker remembers (R-10), in lent words: for each worker an entry for each splitter, then a base for each worker. An entry above its worker's base is
-// the base, a leaf's number and one; another remembers none. The lent words have their exact length, so no function tests an index.
-ghost use Rattle.std.specs.Prelude.{◌≡◌, ◌*◌, ◌<◌, length};
+// the base, a leaf's number and one; another remembers none. The lent words are an array, so no function tests an index.
+ghost use Rattle.std.specs.Prelude.{◌≡◌, ◌<◌};
 ghost use Rattle.frames.specs.Widths.{max_workers};
-ghost use Rattle.memory.specs.Memory.{base, entry, remembered, remember, zeroed_from, emptied, row_at, max_splitters, memory_words};
+ghost use Rattle.memory.specs.Memory.{base, entry, remembered, remember, zeroed_from, emptied, row_at, max_splitters};
 
 // The widths of specs/Memory.antt.
 pub const MAX_SPLITTERS: u32 = 256;
@@ -18,64 +18,61 @@ const MAX_NODES: u32 = 16384;
 pub const LAST_BASE: u32 = 4294950911;
 
 // What worker w's entries must be above.
-pub fn base_at(memory: &[u32], w: u32) -> u32
-    requires { (length memory.now ≡ memory_words) × (w < max_workers) }
+#[tactic(auto, unfolding(crate::specs::Memory::base))]
+pub fn base_at(memory: &[u32; MEMORY_WORDS], w: u32) -> u32
+    requires { w < max_workers }
     ensures { result ≡ base memory.now w }
 {
     memory[ENTRIES + (w as usize)]
 }
 
 // Worker w's entry for splitter x.
-pub fn entry_at(memory: &[u32], w: u32, x: u32) -> u32
-    requires { (length memory.now ≡ memory_words) × (w < max_workers) × (x < max_splitters) }
+#[tactic(auto, unfolding(crate::specs::Memory::entry))]
+pub fn entry_at(memory: &[u32; MEMORY_WORDS], w: u32, x: u32) -> u32
+    requires { (w < max_workers) × (x < max_splitters) }
     ensures { result ≡ entry memory.now w x }
 {
     memory[(MAX_SPLITTERS as usize) * (w as usize) + (x as usize)]
 }
 
 // What worker w remembers of splitter x: its leaf's number plus one, or 0.
-pub fn recall(memory: &[u32], w: u32, x: u32) -> u32
-    requires { (length memory.now ≡ memory_words) × (w < max_workers) × (x < max_splitters) }
+pub fn recall(memory: &[u32; MEMORY_WORDS], w: u32, x: u32) -> u32
+    requires { (w < max_workers) × (x < max_splitters) }
     ensures { result ≡ remembered memory.now w x }
 {
-    words::sub(entry_at(memory, w, x), base_at(memory, w))
+    entry_at(memory, w, x).saturating_sub(base_at(memory, w))
 }
 
 // Worker w remembers splitter x's leaf.
-pub fn remember(memory: &mut [u32], w: u32, x: u32, leaf: u32)
-    requires { (length memory.old ≡ memory_words) × (w < max_workers) × (x < max_splitters) }
+#[tactic(auto, unfolding(crate::specs::Memory::remember))]
+pub fn remember(memory: &mut [u32; MEMORY_WORDS], w: u32, x: u32, leaf: u32)
+    requires { (w < max_workers) × (x < max_splitters) }
     ensures { memory.new ≡ remember memory.old w x leaf }
 {
-    let b = base_at(memory, w);
-    memory[(MAX_SPLITTERS as usize) * (w as usize) + (x as usize)] = words::add(
-        b,
-        words::add(leaf, 1),
-    );
+    let word = base_at(memory, w).wrapping_add(leaf.wrapping_add(1));
+    memory[(MAX_SPLITTERS as usize) * (w as usize) + (x as usize)] = word;
 }
 
 // Zeros in worker w's row.
-fn clear_row(memory: &mut [u32], w: u32)
-    requires { (length memory.old ≡ memory_words) × (w < max_workers) }
+fn clear_row(memory: &mut [u32; MEMORY_WORDS], w: u32)
+    requires { w < max_workers }
     ensures { memory.new ≡ zeroed_from max_splitters memory.old (row_at w) }
 {
     let first = (MAX_SPLITTERS as usize) * (w as usize);
-    let mut i: usize = 0;
-    while i < MAX_SPLITTERS as usize {
-        memory[first + i] = 0;
-        i += 1;
-    }
+    memory[first..first + (MAX_SPLITTERS as usize)].fill(0);
 }
 
 // Worker w remembers nothing: its base goes past its entries, or begins again.
-pub fn empty(memory: &mut [u32], w: u32)
-    requires { (length memory.old ≡ memory_words) × (w < max_workers) }
+#[tactic(auto, unfolding(crate::specs::Memory::emptied))]
+pub fn empty(memory: &mut [u32; MEMORY_WORDS], w: u32)
+    requires { w < max_workers }
     ensures { memory.new ≡ emptied memory.old w }
 {
     let b = base_at(memory, w);
     if b <= LAST_BASE - MAX_NODES {
         memory[ENTRIES + (w as usize)] = b + MAX_NODES;
-        return;
+    } else {
+        memory[ENTRIES + (w as usize)] = 0;
+        clear_row(memory, w);
     }
-    memory[ENTRIES + (w as usize)] = 0;
-    clear_row(memory, w);
 }

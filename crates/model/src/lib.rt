@@ -13,10 +13,3 @@ pub enum Step {
     Write(u32, u32, u32),
     Fold(u32, u32, u32),
 }
-
-// What the bytes of a record are: a step, or nothing valid (refusal 7).
-#[derive(Clone, Copy)]
-pub enum Decoded {
-    Valid(Step),
-    Invalid,
-}

@@ -1,18 +1,17 @@
 -- A write as the code runs it: a turn of each loop, and the ends. Over plain variables.
 use mathlib.Core.Path.{◌≡◌, refl, sym, ap, ◌∙◌, subst}
 use mathlib.Core.Logic.{◌≢◌}
-use mathlib.Core.Bool.{Bool, true, false, cond}
 use mathlib.Core.List.{List}
 use Prim.Native.Nat.{ℕ, zero, suc, ◌-◌, ◌*◌, ◌<◌, ◌≤◌}
 use native.Mathlib.Numerals.{sub-one}
 use native.Mathlib.Omega.{arith}
 use lib.ListN.{get_or, set}
 use borrow.Author.Tests.{eq-eqb, ne_eqb, lt-ltb, le-ltb}
-use Rattle.words.specs.Tests.{true≢false}
 use Rattle.sizes.specs.Sizes.{bit}
 use Rattle.pool.specs.Links.{Link}
 use Rattle.packed.specs.Pool.{refcount, link_in, next_free, child, sibling, set_node, set_refcount, set_link, path_node, copy_path, renew, first_shared, write_from, write}
-use Rattle.packed.specs.Links.{PathIn, CopyIn, IsShared, WriteIn, Wrote}
+use Rattle.packed.specs.declared.found.Shared.{Shared}
+use Rattle.packed.specs.Links.{PathIn, CopyIn, IsShared, IsAlone, WriteIn, Wrote}
 use Rattle.packed.proofs.Theory.Halves.{link_in_is}
 use Rattle.packed.proofs.Laws.{parts, path_step, path_end}
 use Rattle.packed.proofs.Walk.{next_is, next_path}
@@ -25,9 +24,9 @@ module _ (ws : List ℕ) (above i x : ℕ) where
   first_here zero h = rw (lt-ltb 1 (refcount ws i) h, first_shared)
   first_here (suc l) h = rw (lt-ltb 1 (refcount ws i) h, first_shared)
 
-  first-none : refcount ws i ≤ 1 → first_shared zero ws above i x ≡ (0, i, above)
+  first_none : refcount ws i ≤ 1 → first_shared zero ws above i x ≡ (0, i, above)
   unfolding first_shared
-  first-none h = rw (le-ltb 1 (refcount ws i) h, first_shared)
+  first_none h = rw (le-ltb 1 (refcount ws i) h, first_shared)
 
   first_below : (l : ℕ) → refcount ws i ≤ 1 → first_shared (suc l) ws above i x ≡ first_shared l ws i (child ws i (bit l x)) x
   unfolding first_shared
@@ -93,8 +92,8 @@ pub record Walked (N l : ℕ) (ws : List ℕ) (x i : ℕ) (p : ℕ × ℕ × ℕ
   pub finds : first_shared l ws above i x ≡ p
 
 -- the root
-pub root_shared_lem : (h : ℕ) (ws : List ℕ) (root x : ℕ) {c : ℕ} → c ≡ refcount ws root → 1 < c → IsShared h true h root root (first_shared h ws root root x)
-root_shared_lem h ws root x d c = rw (first_here ws root root x h (subst (λ k. 1 < k) d c)) (record { rest = refl; found = refl; linked = λ _ b. absurd (omega arith) })
+pub root_shared_lem : (h : ℕ) (ws : List ℕ) (root x : ℕ) {c : ℕ} → c ≡ refcount ws root → 1 < c → IsShared h (record { level = h; node = root; above = root }) (first_shared h ws root root x)
+root_shared_lem h ws root x d c = rw (first_here ws root root x h (subst (λ k. 1 < k) d c)) (record { rest = refl; found = refl; linked = λ b. absurd (omega arith) })
 
 pub root_alone : (N h : ℕ) (ws : List ℕ) (root x : ℕ) {c : ℕ} → PathIn N ws h root x → c ≡ refcount ws root → c ≤ 1 → Walked N h ws x root (first_shared h ws root root x)
 root_alone N h ws root x P d c = record { above = root; path = P; one = subst (λ k. k ≤ 1) d c; finds = refl }
@@ -109,14 +108,14 @@ module _ {N l : ℕ} {ws : List ℕ} {x i : ℕ} {p : ℕ × ℕ × ℕ} (A : Wa
     goes_on_lem b = record { above = i; path = next_path N l ws i x next A.path h n e; one = subst (λ k. k ≤ 1) ec b; finds = below }
 
     -- it has more
-    pub next-shared : {k : ℕ} → 1 < c → IsShared k true (l - 1) next i p
-    next-shared b = (let f = sym (first_here ws i next x (l - 1) (subst (λ k. 1 < k) ec b)) ∙ below in
-        rw (sym f) (record { rest = refl; found = refl; linked = λ _ _. refl }))
+    pub next_shared : {k : ℕ} → 1 < c → IsShared k (record { level = l - 1; node = next; above = i }) p
+    next_shared b = (let f = sym (first_here ws i next x (l - 1) (subst (λ k. 1 < k) ec b)) ∙ below in
+        rw (sym f) (record { rest = refl; found = refl; linked = λ _. refl }))
 
 -- the leaf
-pub leaf_alone : {N l h : ℕ} {ws : List ℕ} {x i a : ℕ} {p : ℕ × ℕ × ℕ} → Walked N l ws x i p → l ≤ 0 → IsShared h false 0 i a p
-leaf_alone {N} {l} {h} {ws} {x} {i} A b = (let f = sym (first-none ws A.above i x A.one) ∙ ap (λ k. first_shared k ws A.above i x) {x = 0} {y = l} (omega arith) ∙ A.finds in
-    rw (sym f) (record { rest = refl; found = refl; linked = λ e. absurd (true≢false (sym e)) }))
+pub leaf_alone : {N l : ℕ} {ws : List ℕ} {x i : ℕ} {p : ℕ × ℕ × ℕ} → Walked N l ws x i p → l ≤ 0 → IsAlone i p
+leaf_alone {N} {l} {ws} {x} {i} A b = (let f = sym (first_none ws A.above i x A.one) ∙ ap (λ k. first_shared k ws A.above i x) {x = 0} {y = l} (omega arith) ∙ A.finds in
+    rw (sym f) (record { rest = refl; found = refl }))
 
 -- ---- the write
 
@@ -126,13 +125,19 @@ wrote e = (ap (λ p. p.0) e, ap (λ p. p.1) e, ap (λ p. p.2) e, ap (λ p. p.3) 
 less_one : (k m : ℕ) → k - m - 1 ≡ k - suc m
 less_one k m = omega arith
 
--- of a shared node: m is its level, and i the node, with a above it
-module _ (h : ℕ) (ws : List ℕ) (free k root x v : ℕ) {b : Bool} {m i a : ℕ} (shared : b ≡ true) (f : IsShared h b m i a (first_shared h ws root root x)) where
+-- of a shared node
+module _ (h : ℕ) (ws : List ℕ) (free k root x v : ℕ) {s : Shared} (f : IsShared h s (first_shared h ws root root x)) where
+  abbrev m : ℕ
+  m = s.level
+
+  abbrev i : ℕ
+  i = s.node
+
   abbrev p : ℕ × ℕ × ℕ
   p = first_shared h ws root root x
 
   rest_is : p.0 ≡ suc m
-  rest_is = f.rest ∙ ap (λ b. cond b (suc m) 0) shared
+  rest_is = f.rest
 
   from : write_from (suc m) i p.2 h ws free k root x v ≡ write h ws free k root x v
   unfolding write
@@ -142,10 +147,7 @@ module _ (h : ℕ) (ws : List ℕ) (free k root x v : ℕ) {b : Bool} {m i a : �
     pub level_in : m ≤ h
     level_in = omega (arith, rest_is, W.within)
 
-    pub node_in : i < N
-    node_in = omega (arith, f.found, W.node)
-
-    pub copies_in : CopyIn N m ws free i x
+    copies_in : CopyIn N m ws free i x
     copies_in =
         let e : p.0 - 1 ≡ m = omega (arith, rest_is) in
         subst (λ j. CopyIn N m ws free j x) (sym f.found) (subst (λ l. CopyIn N l ws free p.1 x) e (W.copies (omega (arith, rest_is))))
@@ -153,16 +155,16 @@ module _ (h : ℕ) (ws : List ℕ) (free k root x v : ℕ) {b : Bool} {m i a : �
     pub free_in_lem : free < N
     free_in_lem = copy_here N m ws free i x copies_in
 
-    pub above_in : m < h → a < N
-    above_in l = omega (arith, f.linked shared l, W.above (omega (arith, rest_is)) (omega (arith, rest_is)))
+    pub above_in : m < h → s.above < N
+    above_in l = omega (arith, f.linked l, W.above (omega (arith, rest_is)) (omega (arith, rest_is)))
 
   pub write_root : {w : List ℕ} {n : ℕ} → m ≡ h → (w ≡ (renew m ws free i x v).0) × (n ≡ (renew m ws free i x v).1) → Wrote (write h ws free k root x v) w n (k - m - 1) free
   write_root e r =
       let t = wrote (sym (from_root i p.2 h ws free k root x v m e) ∙ from) in
       rw (r.0, r.1) (t.0, t.1, less_one k m ∙ t.2, t.3)
 
-  pub write-below : {w w' : List ℕ} {n : ℕ} → m < h → (w ≡ (renew m ws free i x v).0) × (n ≡ (renew m ws free i x v).1) → w' ≡ set_link w a (bit m x) free → Wrote (write h ws free k root x v) w' n (k - m - 1) root
-  write-below {w = w} l r s =
+  pub write_below : {w w' : List ℕ} {n : ℕ} → m < h → (w ≡ (renew m ws free i x v).0) × (n ≡ (renew m ws free i x v).1) → w' ≡ set_link w s.above (bit m x) free → Wrote (write h ws free k root x v) w' n (k - m - 1) root
+  write_below {w = w} l r q =
       let t = wrote (sym (from_below i p.2 h ws free k root x v m (λ e. omega arith)) ∙ from) in
-      let g : set_link w a (bit m x) free ≡ set_link w p.2 (bit m x) free = ap (λ j. set_link w j (bit m x) free) (f.linked shared l) in
-      rw (s, g, r.0, r.1) (t.0, t.1, less_one k m ∙ t.2, t.3)
+      let g : set_link w s.above (bit m x) free ≡ set_link w p.2 (bit m x) free = ap (λ j. set_link w j (bit m x) free) (f.linked l) in
+      rw (q, g, r.0, r.1) (t.0, t.1, less_one k m ∙ t.2, t.3)

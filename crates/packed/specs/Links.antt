@@ -1,7 +1,10 @@
 -- What fast functions ask of a pool of two-word nodes: the nodes on the way are nodes, so that no index needs a test. Definitions only.
-use Rattle.std.specs.Prelude.{◌≡◌, Bool, true, false, cond, List, ℕ, zero, suc, ◌-◌, ◌≤◌, ◌<◌}
+use Rattle.std.specs.Prelude.{◌≡◌, Bool, true, false, List, ℕ, zero, suc, ◌-◌, ◌≤◌, ◌<◌}
 use Rattle.sizes.specs.Sizes.{bit}
 use Rattle.pool.specs.Links.{Link}
+use Rattle.packed.specs.declared.found.FirstShared.{FirstShared}
+use Rattle.packed.specs.declared.found.FirstShared.TheVariants.{Leaf, Node}
+use Rattle.packed.specs.declared.found.Shared.{Shared}
 use Rattle.packed.specs.Pool.{refcount, child, sibling, next_free, release, path_node}
 
 -- the walk of so many levels from node i to splitter x meets nodes only
@@ -16,12 +19,20 @@ CopyIn N (suc l) ws i old x =
     (i < N) × (old < N) × Link N (sibling ws old (bit l x))
     × CopyIn N l (path_node ws i (bit l x) (next_free ws i) (sibling ws old (bit l x))) (next_free ws i) (child ws old (bit l x)) x
 
--- what the walk tells of p, which first_shared gives: whether a node is shared and its level; the node, or the leaf; and the node above it, if
--- it is not the root
-pub record IsShared (h : ℕ) (shared : Bool) (level node above : ℕ) (p : ℕ × ℕ × ℕ) : Type 0 where
-  pub rest : p.0 ≡ cond shared (suc level) 0
-  pub found : node ≡ p.1
-  pub linked : shared ≡ true → level < h → above ≡ p.2
+-- what the walk tells of p, which first_shared gives, where a node is shared: its level, the node, and the node above it, if it is not the root
+pub record IsShared (h : ℕ) (s : Shared) (p : ℕ × ℕ × ℕ) : Type 0 where
+  pub rest : p.0 ≡ suc s.level
+  pub found : s.node ≡ p.1
+  pub linked : s.level < h → s.above ≡ p.2
+
+-- where none is shared: the leaf
+pub record IsAlone (leaf : ℕ) (p : ℕ × ℕ × ℕ) : Type 0 where
+  pub rest : p.0 ≡ 0
+  pub found : leaf ≡ p.1
+
+abbrev pub Finds : ℕ → FirstShared → ℕ × ℕ × ℕ → Type 0
+Finds h (Leaf leaf) p = IsAlone leaf p
+Finds h (Node s) p = IsShared h s p
 
 -- a write to x in a tree of height h meets nodes only, where p is what first_shared gives
 pub record WriteIn (N h : ℕ) (ws : List ℕ) (free x : ℕ) (p : ℕ × ℕ × ℕ) : Type 0 where
@@ -33,6 +44,10 @@ pub record WriteIn (N h : ℕ) (ws : List ℕ) (free x : ℕ) (p : ℕ × ℕ ×
 -- the words, the free list and the root after a write
 abbrev pub Wrote : List ℕ × ℕ × ℕ × ℕ → List ℕ → ℕ → ℕ → ℕ → Type 0
 Wrote p ws f k r = (ws ≡ p.0) × (f ≡ p.1) × (k ≡ p.2) × (r ≡ p.3)
+
+-- the words, the first free node and the number of free nodes after a release
+abbrev pub Released : List ℕ × ℕ × ℕ → List ℕ → ℕ → ℕ → Type 0
+Released p ws f k = (ws ≡ p.0) × (f ≡ p.1) × (k ≡ p.2)
 
 -- what is left to do after node i lost a holder: to free it, with nothing stored yet; or nothing, its release is done
 abbrev pub LetGo : Bool → ℕ → List ℕ → List ℕ → ℕ → Type 0

@@ -1,89 +1,83 @@
 // Reference counts: a node is freed when its last holder lets go. A half of a word that is no node is left alone, by one test.
-ghost use Rattle.std.specs.Prelude.{◌≡◌, ◌*◌, ◌<◌, ◌≤◌, length};
+ghost use Rattle.std.specs.Prelude.{◌≡◌, ◌<◌, ◌≤◌};
 ghost use Rattle.pool.specs.Links.{Link};
-ghost use Rattle.packed.specs.Links.{LetGo};
+ghost use Rattle.packed.specs.Links.{LetGo, Released};
 ghost use Rattle.packed.specs.Pool.{refcount, retain, release};
 
-use crate::node::{NONE, content_in, store_node};
+use crate::node_pool::{Free, Pool};
+use words::NONE;
 
-// One holder more; no node, no change.
-pub fn retain(pool: &mut [u32], nodes: u32, i: u32)
-    requires { (2 * nodes ≤ length pool.old) × Link nodes i }
-    ensures { pool.new ≡ retain pool.old i }
-{
-    if i != NONE {
-        let at = 2 * (i as usize);
-        pool[at] = words::add(pool[at], 1);
-    }
-}
-
-// One holder less. True if it was the last: node i is then to be freed, and nothing is stored.
-fn let_go(pool: &mut [u32], nodes: u32, i: u32) -> bool
-    requires { 2 * nodes ≤ length pool.old }
-    ensures { LetGo result nodes pool.old pool.new i }
-{
-    if i >= nodes {
-        return false;
-    }
-    let at = 2 * (i as usize);
-    let c = pool[at];
-    if c > 1 {
-        pool[at] = c - 1;
-        return false;
-    }
-    true
-}
-
-// Frees node i of this level, whose last holder let go, then releases its left link, then its right. Counts the free nodes
-// in `spare`, and gives the first.
-fn free_tree(pool: &mut [u32], nodes: u32, spare: &mut u32, free: u32, i: u32, level: u32) -> u32
-    requires { (2 * nodes ≤ length pool.old) × (nodes ≤ 16384) × (i < nodes) × (refcount pool.old i ≤ 1) }
-    ensures { (pool.new ≡ (release nodes level pool.old free spare.old i).0)
-        × (result ≡ (release nodes level pool.old free spare.old i).1)
-        × (spare.new ≡ (release nodes level pool.old free spare.old i).2) }
-{
-    let w = content_in(pool, nodes, i as usize);
-    store_node(pool, nodes, i as usize, 0, free);
-    *spare = words::add(*spare, 1);
-    if level == 0 {
-        return i;
-    }
-    let left = w & 65535;
-    let right = w >> 16;
-    if let_go(pool, nodes, left) {
-        let first = free_tree(pool, nodes, spare, i, left, level - 1);
-        if let_go(pool, nodes, right) {
-            return free_tree(pool, nodes, spare, first, right, level - 1);
+impl Pool<'_> {
+    // One holder more; no node, no change.
+    #[tactic(auto, unfolding(crate::specs::Pool::retain, crate::specs::Pool::set_refcount, crate::specs::Pool::refcount))]
+    pub fn retain(&mut self, i: u32)
+        requires { Link self.old.nodes i }
+        ensures words { self.new.words.now ≡ retain self.old.words.now i }
+        ensures nodes { self.new.nodes ≡ self.old.nodes }
+        ensures same_reference { self.new.words.ghost_name ≡ self.old.words.ghost_name }
+    {
+        if i != NONE {
+            let at = 2 * (i as usize);
+            self.words[at] = self.words[at].wrapping_add(1);
         }
-        return first;
     }
-    if let_go(pool, nodes, right) {
-        return free_tree(pool, nodes, spare, i, right, level - 1);
+
+    // One holder less. True if it was the last: node i is then to be freed, and nothing is stored.
+    #[tactic(auto, using(crate::proofs::Laws::release_none, crate::proofs::Laws::release_held), unfolding(crate::specs::Pool::refcount, crate::specs::Pool::set_refcount))]
+    fn let_go(&mut self, i: u32) -> bool
+        ensures words { LetGo result self.old.nodes self.old.words.now self.new.words.now i }
+        ensures nodes { self.new.nodes ≡ self.old.nodes }
+        ensures same_reference { self.new.words.ghost_name ≡ self.old.words.ghost_name }
+    {
+        if i >= self.nodes {
+            return false;
+        }
+        let at = 2 * (i as usize);
+        let c = self.words[at];
+        if c > 1 {
+            self.words[at] = c - 1;
+            return false;
+        }
+        true
     }
-    i
-}
 
-// What a release leaves: the free list.
-#[derive(Clone, Copy)]
-pub struct Freed {
-    pub first: u32,
-    pub count: u32,
-}
-
-// One holder less; a node with no holder left goes to the front of the free list, and its children lose a holder. `count` nodes are free.
-pub fn release(pool: &mut [u32], nodes: u32, count: u32, free: u32, i: u32, level: u32) -> Freed
-    requires { (2 * nodes ≤ length pool.old) × (nodes ≤ 16384) }
-    ensures { (pool.new ≡ (release nodes level pool.old free count i).0)
-        × (result.first ≡ (release nodes level pool.old free count i).1)
-        × (result.count ≡ (release nodes level pool.old free count i).2) }
-{
-    if let_go(pool, nodes, i) {
-        let mut spare = count;
-        let first = free_tree(pool, nodes, &mut spare, free, i, level);
-        return Freed {
-            first,
-            count: spare,
+    // Frees node i of this level, whose last holder let go, then releases its left link, then its right.
+    fn free_tree(&mut self, free: Free, i: u32, level: u32) -> Free
+        requires { (i < self.old.nodes) × (refcount self.old.words.now i ≤ 1) }
+        ensures words { Released (release self.old.nodes level self.old.words.now free.first free.count i)
+            self.new.words.now result.first result.count }
+        ensures nodes { self.new.nodes ≡ self.old.nodes }
+        ensures same_reference { self.new.words.ghost_name ≡ self.old.words.ghost_name }
+    {
+        let links = self.links(i as usize);
+        self.store(i as usize, 0, free.first);
+        let mut freed = Free {
+            first: i,
+            count: free.count.wrapping_add(1),
         };
+        if level == 0 {
+            return freed;
+        }
+        if self.let_go(links.left) {
+            freed = self.free_tree(freed, links.left, level - 1);
+        }
+        if self.let_go(links.right) {
+            return self.free_tree(freed, links.right, level - 1);
+        }
+        freed
     }
-    Freed { first: free, count }
+
+    // One holder less; a node with no holder left goes to the front of the free list, and its children lose a holder.
+    pub fn release(&mut self, free: Free, i: u32, level: u32) -> Free
+        ensures words { Released (release self.old.nodes level self.old.words.now free.first free.count i)
+            self.new.words.now result.first result.count }
+        ensures nodes { self.new.nodes ≡ self.old.nodes }
+        ensures same_reference { self.new.words.ghost_name ≡ self.old.words.ghost_name }
+    {
+        if self.let_go(i) {
+            self.free_tree(free, i, level)
+        } else {
+            free
+        }
+    }
 }

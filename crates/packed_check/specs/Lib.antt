@@ -1,5 +1,3 @@
--- Answer is what a reader must believe: the answer of the check, from soundness over nodes of two words (R-8). Algorithm is what the
--- code runs. Theory shows that the two agree.
-pub mod Answer
-pub mod Algorithm
+-- TwoWords is how nodes of two words are read; Theory shows that the check of crate pool_check answers soundness by it.
+pub mod TwoWords
 pub mod Theory

@@ -1,5 +1,3 @@
--- a definition by its ways out
-pub mod Ways
 -- trees by level; the splitters under a node of a tree
 pub mod Shape
 -- one node's word changed
@@ -14,3 +12,5 @@ pub mod Places
 pub mod FreeList
 -- the answer; the free nodes and the nodes reached
 pub mod Correct
+-- the links as the code reads them
+pub mod Halves

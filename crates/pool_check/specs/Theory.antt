@@ -12,6 +12,8 @@ pub mod Visit
 pub mod Succeeds
 -- all live frames' trees
 pub mod Places
+-- what it keeps of the work slice
+pub mod Kept
 -- the free chain
 pub mod FreeList
 -- the answer; the free nodes and the nodes reached

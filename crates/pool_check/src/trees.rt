@@ -1,53 +1,57 @@
 // The live frames' trees are visited: each node reached is stamped, and the links to it are counted.
-ghost use Rattle.std.specs.Prelude.{◌≡◌, ◌+◌, ◌*◌, ◌^◌, ◌≤◌, ◌<◌, min, length};
-ghost use Rattle.pool_check.specs.Algorithm.{shaped, visit, below, Met, Roomy, record_visited, DeadFrom, visit_places};
+ghost use Rattle.std.specs.Prelude.{◌≡◌, ◌+◌, ◌*◌, ◌^◌, ◌<◌, min, length};
+ghost use Rattle.pool_check.specs.Algorithm.{visit, below, Met, Roomy, DeadFrom, visit_places};
 ghost use Rattle.sizes.specs.Sizes.{height};
 
-use frames::{Frame, frame_at};
-use pool::NONE;
+use super::NodeLayout;
+use frames::Frame;
 
-// What comes of a link to a node: it must not be, it is done, or the node is visited for the first time and has children.
-const REFUSED: u32 = 0;
-
-const DONE: u32 = 1;
-
-const FIRST: u32 = 2;
-
-// Has node i what a node of this level has, its children aside?
-fn is_shaped(pool: &[u32], level: u32, i: u32) -> bool
-    requires { 4 * i + 4 ≤ length pool.now }
-    ensures { result ≡ shaped pool.now level i }
-{
-    let at = 4 * (i as usize);
-    if level != 0 {
-        return pool[at + 3] == 0;
-    }
-    if pool[at + 1] != NONE {
-        return false;
-    }
-    pool[at + 2] == NONE
+// What comes of a link to a node.
+#[derive(Clone, Copy, PartialEq, Eq)]
+pub enum Arrival {
+    // it must not be
+    Refused,
+    // nothing is left to do
+    Done,
+    // the node is visited for the first time, and has children
+    First,
 }
 
 // A link to node i, which is to stand at this level over k splitters.
-fn meet(pool: &[u32], work: &mut [u32], nodes: u32, level: u32, k: u32, i: u32) -> u32
-    requires { Roomy nodes pool.now work.old level k }
-    ensures { Met nodes pool.now level k i work.old work.new result }
+fn meet<L: NodeLayout>(
+    pool: &[u32],
+    work: &mut [u32],
+    nodes: u32,
+    level: u32,
+    k: u32,
+    i: u32,
+) -> Arrival
+    requires { Roomy L.reading nodes pool.now work.old level k }
+    ensures { Met L.reading nodes pool.now level k i work.old work.new result }
 {
     if i >= nodes {
-        return REFUSED;
+        return Arrival::Refused;
     }
     let at = i as usize;
     let word = work[at];
     let stamp = 512 * level + k;
     if word != 0 {
-        work[at] = words::add(word, 8192);
-        return if word % 8192 == stamp { DONE } else { REFUSED };
+        work[at] = word.wrapping_add(8192);
+        return if word % 8192 == stamp {
+            Arrival::Done
+        } else {
+            Arrival::Refused
+        };
     }
     work[at] = stamp + 8192;
-    if !is_shaped(pool, level, i) {
-        return REFUSED;
+    if !L::is_shaped(pool, level, at) {
+        return Arrival::Refused;
     }
-    if level == 0 { DONE } else { FIRST }
+    if level == 0 {
+        Arrival::Done
+    } else {
+        Arrival::First
+    }
 }
 
 // Of k splitters, those under the left child of a node of level l + 1.
@@ -55,109 +59,102 @@ fn left_part(k: u32, l: u32) -> u32
     requires { l < 32 }
     ensures { result ≡ min k (2 ^ l) }
 {
-    let half: u32 = 1 << l;
-    if k < half { k } else { half }
+    k.min(1 << l)
+}
+
+// A link to node i, which is to be a leaf over k splitters.
+fn visit_leaf<L: NodeLayout>(pool: &[u32], work: &mut [u32], nodes: u32, k: u32, i: u32) -> bool
+    requires { Roomy L.reading nodes pool.now work.old 0 k }
+    ensures { (work.new ≡ (visit L.reading nodes pool.now 0 k i work.old).0)
+        × (result ≡ (visit L.reading nodes pool.now 0 k i work.old).1) }
+{
+    match meet::<L>(pool, work, nodes, 0, k, i) {
+        Arrival::Refused => false,
+        Arrival::Done | Arrival::First => true,
+    }
 }
 
 // The leaves below node i, which is visited for the first time, at level 1 over k splitters.
-fn leaves(pool: &[u32], work: &mut [u32], nodes: u32, k: u32, i: u32) -> bool
-    requires { Roomy nodes pool.now work.old 1 k × (i < nodes) }
-    ensures { (work.new ≡ (below nodes pool.now 1 k i work.old).0)
-        × (result ≡ (below nodes pool.now 1 k i work.old).1) }
+fn leaves<L: NodeLayout>(pool: &[u32], work: &mut [u32], nodes: u32, k: u32, i: u32) -> bool
+    requires { Roomy L.reading nodes pool.now work.old 1 k × (i < nodes) }
+    ensures { (work.new ≡ (below L.reading nodes pool.now 1 k i work.old).0)
+        × (result ≡ (below L.reading nodes pool.now 1 k i work.old).1) }
 {
-    let at = 4 * (i as usize);
     let part = left_part(k, 0);
-    if meet(pool, work, nodes, 0, part, pool[at + 1]) == REFUSED {
+    let left = L::left(pool, i as usize);
+    if !visit_leaf::<L>(pool, work, nodes, part, left) {
         return false;
     }
-    let right = pool[at + 2];
+    let right = L::right(pool, i as usize);
     let rest = k - part;
     if rest == 0 {
-        return right == NONE;
+        return L::is_none(right);
     }
-    meet(pool, work, nodes, 0, rest, right) == DONE
+    visit_leaf::<L>(pool, work, nodes, rest, right)
 }
 
 // What is below node i, which is visited for the first time, at this level over k splitters.
-fn walk(pool: &[u32], work: &mut [u32], nodes: u32, level: u32, k: u32, i: u32) -> bool
-    requires { Roomy nodes pool.now work.old level k × (i < nodes) × (0 < level) }
-    ensures { (work.new ≡ (below nodes pool.now level k i work.old).0)
-        × (result ≡ (below nodes pool.now level k i work.old).1) }
+fn walk<L: NodeLayout>(
+    pool: &[u32],
+    work: &mut [u32],
+    nodes: u32,
+    mut level: u32,
+    mut k: u32,
+    mut i: u32,
+) -> bool
+    requires { Roomy L.reading nodes pool.now work.old level k × (i < nodes) × (0 < level) }
+    ensures { (work.new ≡ (below L.reading nodes pool.now level k i work.old).0)
+        × (result ≡ (below L.reading nodes pool.now level k i work.old).1) }
 {
-    let mut level = level;
-    let mut k = k;
-    let mut i = i;
     while level > 1 {
-        let at = 4 * (i as usize);
         level -= 1;
         let part = left_part(k, level);
-        let left = pool[at + 1];
-        let met = meet(pool, work, nodes, level, part, left);
-        if met == REFUSED {
+        let left = L::left(pool, i as usize);
+        let fine = match meet::<L>(pool, work, nodes, level, part, left) {
+            Arrival::Refused => false,
+            Arrival::Done => true,
+            Arrival::First if level == 1 => leaves::<L>(pool, work, nodes, part, left),
+            Arrival::First => walk::<L>(pool, work, nodes, level, part, left),
+        };
+        if !fine {
             return false;
         }
-        if met == FIRST {
-            let fine = if level == 1 {
-                leaves(pool, work, nodes, part, left)
-            } else {
-                walk(pool, work, nodes, level, part, left)
-            };
-            if !fine {
-                return false;
-            }
-        }
-        let right = pool[at + 2];
-        k = k - part;
+        let right = L::right(pool, i as usize);
+        k -= part;
         if k == 0 {
-            return right == NONE;
+            return L::is_none(right);
         }
-        let met_right = meet(pool, work, nodes, level, k, right);
-        if met_right != FIRST {
-            return met_right == DONE;
+        let arrival = meet::<L>(pool, work, nodes, level, k, right);
+        if arrival != Arrival::First {
+            return arrival == Arrival::Done;
         }
         i = right;
     }
-    leaves(pool, work, nodes, k, i)
+    leaves::<L>(pool, work, nodes, k, i)
 }
 
 // A link to node i, which is to be the root of a tree of this level over k splitters.
-fn visit(pool: &[u32], work: &mut [u32], nodes: u32, level: u32, k: u32, i: u32) -> bool
-    requires { Roomy nodes pool.now work.old level k }
-    ensures { (work.new ≡ (visit nodes pool.now level k i work.old).0)
-        × (result ≡ (visit nodes pool.now level k i work.old).1) }
-{
-    let met = meet(pool, work, nodes, level, k, i);
-    if met != FIRST {
-        return met == DONE;
-    }
-    walk(pool, work, nodes, level, k, i)
-}
-
-// The tree of the frame f, if it lives, and if all before it are trees.
-pub fn visit_place(
-    sound: bool,
+fn visit<L: NodeLayout>(
     pool: &[u32],
     work: &mut [u32],
-    n: u32,
-    height: u32,
     nodes: u32,
-    f: Frame,
+    level: u32,
+    k: u32,
+    i: u32,
 ) -> bool
-    requires { Roomy nodes pool.now work.old height n }
-    ensures { (work.new ≡ (record_visited n height nodes pool.now f (work.old, sound)).0)
-        × (result ≡ (record_visited n height nodes pool.now f (work.old, sound)).1) }
+    requires { Roomy L.reading nodes pool.now work.old level k }
+    ensures { (work.new ≡ (visit L.reading nodes pool.now level k i work.old).0)
+        × (result ≡ (visit L.reading nodes pool.now level k i work.old).1) }
 {
-    if !sound {
-        return false;
+    match meet::<L>(pool, work, nodes, level, k, i) {
+        Arrival::Refused => false,
+        Arrival::Done => true,
+        Arrival::First => walk::<L>(pool, work, nodes, level, k, i),
     }
-    if f.live != 1 {
-        return true;
-    }
-    visit(pool, work, nodes, height, n, f.root)
 }
 
 // The trees of the live frames, all of them before place end.
-pub fn visit_places(
+pub fn visit_places<L: NodeLayout>(
     frames: &[Frame],
     pool: &[u32],
     work: &mut [u32],
@@ -165,17 +162,15 @@ pub fn visit_places(
     nodes: u32,
     end: u32,
 ) -> bool
-    requires { Roomy nodes pool.now work.old (height n) n × DeadFrom frames.now end }
-    ensures { (work.new ≡ (visit_places n (height n) nodes frames.now pool.now (length frames.now) work.old).0)
-        × (result ≡ (visit_places n (height n) nodes frames.now pool.now (length frames.now) work.old).1) }
+    requires { Roomy L.reading nodes pool.now work.old (height n) n × DeadFrom frames.now end }
+    ensures { (work.new ≡ (visit_places L.reading n (height n) nodes frames.now pool.now (length frames.now) work.old).0)
+        × (result ≡ (visit_places L.reading n (height n) nodes frames.now pool.now (length frames.now) work.old).1) }
 {
     let height = sizes::height_of(n);
-    let mut sound = true;
-    let mut p: u32 = 0;
-    while p < end {
-        let f = frame_at(frames, p);
-        sound = visit_place(sound, pool, work, n, height, nodes, f);
-        p += 1;
+    for f in &frames[..end as usize] {
+        if f.live == 1 && !visit::<L>(pool, work, nodes, height, n, f.root) {
+            return false;
+        }
     }
-    sound
+    true
 }

@@ -2,8 +2,6 @@
 ghost use Rattle.std.specs.Prelude.{◌≡◌};
 ghost use Rattle.soundness.specs.Soundness.{cleared};
 
-use words::clear_first;
-
 // The first n words are zero; if there are fewer, nothing changes.
 pub fn clear(work: &mut [u32], n: u32)
     ensures { work.new ≡ cleared n work.old }
@@ -12,5 +10,5 @@ pub fn clear(work: &mut [u32], n: u32)
     if end > work.len() {
         return;
     }
-    clear_first(work, end);
+    work[..end].fill(0);
 }

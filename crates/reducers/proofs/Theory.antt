@@ -1,6 +1,3 @@
--- Shared: the law of whatever acts on words, is joined by doing one after the other, and is known by what it does. Laws: the three reducers, and views.
--- Folds: the view of a list of values folded.
-pub mod Modulo
-pub mod Shared
+-- Laws: the laws of specs/Theory, under the name by which other crates cite them. Folds: the view of a list of values folded.
 pub mod Laws
 pub mod Folds

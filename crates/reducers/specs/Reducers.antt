@@ -1,11 +1,14 @@
 -- Document 02's R-5: "Three reducers: 0, the sum modulo 4,294,967,296; 1, the minimum; 2, the affine map, multiply then add, modulo
 -- 4,294,967,296, earlier map applied first." Of each the identity and the join of two views, the earlier one on the left. Definitions only.
-use Rattle.std.specs.Prelude.{cond, List, [], ◌∷◌, map, ℕ, zero, suc, ◌/◌, ◌%◌, eqb, ltb}
+use Rattle.std.specs.Prelude.{◌≡◌, ◌<◌, Result, MatchResult, cond, List, [], ◌∷◌, map, ℕ, zero, suc, ◌/◌, ◌%◌, eqb, ltb}
 use Rattle.words.specs.Basics.{none, plus, times}
 use Rattle.reducers.specs.declared.Sum.{Sum}
 use Rattle.reducers.specs.declared.Min.{Min}
 use Rattle.reducers.specs.declared.Affine.{Affine}
 use Rattle.reducers.specs.declared.View.{View}
+use Rattle.reducers.specs.declared.Reducer.{Reducer}
+use Rattle.reducers.specs.declared.Reducer.TheVariants as reducer
+use Rattle.reducers.specs.declared.UnknownReducer.{UnknownReducer}
 
 -- ---- the sum
 
@@ -105,3 +108,14 @@ view_from w (p ∷ l) = view_from (fold_view w p.0 p.1) l
 
 abbrev pub view_of : List (ℕ × ℕ) → View
 view_of l = view_from identity_view l
+
+-- ---- the reducers' numbers
+
+abbrev pub number : Reducer → ℕ
+number (reducer.Sum) = 0
+number (reducer.Min) = 1
+number (reducer.Affine) = 2
+
+-- the reducer with this number, or an error with a number that no reducer has
+abbrev pub Numbers : ℕ → Result Reducer UnknownReducer → Type 0
+Numbers n r = MatchResult r (λ reducer. number reducer ≡ n) (λ e. (e.0 ≡ n) × (2 < n))

@@ -1,82 +1,135 @@
 #![tactic(auto)]
-// The reducers of document 02's R-5, each a type with its identity and the join of two views; a frame's view has one of each. Joined, the
-// earlier one stands on the left.
+// The reducers of document 02's R-5, each a monoid whose values are views; a frame's view has one of each. Joined, the earlier one stands on
+// the left.
 ghost use Rattle.std.specs.Prelude.{◌≡◌};
-ghost use Rattle.reducers.specs.Reducers.{join_sum, join_min, join_affine, identity_view, join_view, folded_affine, fold_view};
+ghost use Rattle.reducers.specs.Law.{Law, SumWord, MinWord, AffineWord, ViewWord};
+ghost use Rattle.reducers.specs.Reducers.{identity_sum, join_sum, identity_min, join_min, identity_affine, join_affine, folded_sum, folded_min, folded_affine, identity_view, join_view, fold_view, number, Numbers};
+ghost use Rattle.reducers.specs.Theory.Laws.{sum_law, min_law, affine_law, view_law};
 
-// 0, the sum modulo 4,294,967,296.
+// "Each operation has an identity that changes nothing when combined on either side, and grouping never matters", of the views that are words.
+pub trait Monoid: Copy {
+    ghost is_word: { Self → Type 0 };
+
+    ghost IDENTITY: { Self };
+
+    ghost op: { Self → Self → Self };
+
+    const IDENTITY: Self;
+
+    fn join(self, later: Self) -> Self
+        ensures { result ≡ op self later };
+
+    // What each `impl` must prove.
+    ghost laws: { Law Self is_word IDENTITY op };
+}
+
+// The sum modulo 4,294,967,296.
 #[repr(C)]
-#[derive(Clone, Copy)]
+#[derive(Clone, Copy, PartialEq, Eq)]
 pub struct Sum {
     pub value: u32,
 }
 
-// 1, the minimum.
+impl Monoid for Sum {
+    ghost is_word = { SumWord };
+
+    ghost IDENTITY = { identity_sum };
+
+    ghost op = { join_sum };
+
+    const IDENTITY: Sum = Sum { value: 0 };
+
+    fn join(self, later: Sum) -> Sum {
+        Sum {
+            value: self.value.wrapping_add(later.value),
+        }
+    }
+
+    ghost laws = { sum_law };
+}
+
+impl From<u32> for Sum {
+    ghost from_gives = { λ value sum. sum ≡ folded_sum value };
+
+    fn from(value: u32) -> Sum {
+        Sum { value }
+    }
+}
+
+// The minimum.
 #[repr(C)]
-#[derive(Clone, Copy)]
+#[derive(Clone, Copy, PartialEq, Eq)]
 pub struct Min {
     pub value: u32,
 }
 
-// 2, the affine map, multiply then add, modulo 4,294,967,296.
+impl Monoid for Min {
+    ghost is_word = { MinWord };
+
+    ghost IDENTITY = { identity_min };
+
+    ghost op = { join_min };
+
+    const IDENTITY: Min = Min { value: u32::MAX };
+
+    fn join(self, later: Min) -> Min {
+        if later.value < self.value {
+            later
+        } else {
+            self
+        }
+    }
+
+    ghost laws = { min_law };
+}
+
+impl From<u32> for Min {
+    ghost from_gives = { λ value min. min ≡ folded_min value };
+
+    fn from(value: u32) -> Min {
+        Min { value }
+    }
+}
+
+// The affine map, multiply then add, modulo 4,294,967,296.
 #[repr(C)]
-#[derive(Clone, Copy)]
+#[derive(Clone, Copy, PartialEq, Eq)]
 pub struct Affine {
     pub multiplier: u32,
     pub addend: u32,
 }
 
-// What a frame has folded, of each reducer.
-#[repr(C)]
-#[derive(Clone, Copy)]
-pub struct View {
-    pub sum: Sum,
-    pub min: Min,
-    pub affine: Affine,
-}
+impl Monoid for Affine {
+    ghost is_word = { AffineWord };
 
-impl Sum {
-    pub const IDENTITY: Sum = Sum { value: 0 };
+    ghost IDENTITY = { identity_affine };
 
-    pub fn join(a: Sum, b: Sum) -> Sum
-        ensures { result ≡ join_sum a b }
-    {
-        Sum {
-            value: words::add(a.value, b.value),
-        }
-    }
-}
+    ghost op = { join_affine };
 
-impl Min {
-    pub const IDENTITY: Min = Min { value: 4294967295 };
-
-    pub fn join(a: Min, b: Min) -> Min
-        ensures { result ≡ join_min a b }
-    {
-        if b.value < a.value { b } else { a }
-    }
-}
-
-impl Affine {
-    pub const IDENTITY: Affine = Affine {
+    const IDENTITY: Affine = Affine {
         multiplier: 1,
         addend: 0,
     };
 
     // "earlier map applied first"
-    pub fn join(a: Affine, b: Affine) -> Affine
-        ensures { result ≡ join_affine a b }
-    {
+    fn join(self, later: Affine) -> Affine {
+        let scaled = self.addend.wrapping_mul(later.multiplier);
         Affine {
-            multiplier: words::mul(a.multiplier, b.multiplier),
-            addend: words::add(words::mul(a.addend, b.multiplier), b.addend),
+            multiplier: self.multiplier.wrapping_mul(later.multiplier),
+            addend: scaled.wrapping_add(later.addend),
         }
     }
 
-    // "the value divided by 65,536 is the multiplier and its remainder the addend"
-    pub fn of_value(value: u32) -> Affine
-        ensures { result ≡ folded_affine value }
-    {
+    ghost laws = { affine_law };
+}
+
+// "the value divided by 65,536 is the multiplier and its remainder the addend"
+impl From<u32> for Affine {
+    ghost from_gives = { λ value affine. affine ≡ folded_affine value };
+
+    // Kept apart, so that the compiler reads a record's value with one load and not by these halves.
+    #[inline(never)]
+    fn from(value: u32) -> Affine {
         Affine {
             multiplier: value / 65536,
             addend: value % 65536,
@@ -84,27 +137,88 @@ impl Affine {
     }
 }
 
-impl View {
-    pub const IDENTITY: View = View {
-        sum: Sum::IDENTITY,
-        min: Min::IDENTITY,
-        affine: Affine::IDENTITY,
+// What a frame has folded, of each reducer.
+#[repr(C)]
+#[derive(Clone, Copy, PartialEq, Eq)]
+pub struct View {
+    pub sum: Sum,
+    pub min: Min,
+    pub affine: Affine,
+}
+
+impl Monoid for View {
+    ghost is_word = { ViewWord };
+
+    ghost IDENTITY = { identity_view };
+
+    ghost op = { join_view };
+
+    const IDENTITY: View = View {
+        sum: Sum { value: 0 },
+        min: Min { value: u32::MAX },
+        affine: Affine {
+            multiplier: 1,
+            addend: 0,
+        },
     };
 
-    // What the constants are, by contract.
-    pub fn identity() -> View
-        ensures { result ≡ identity_view }
-    {
-        View::IDENTITY
+    fn join(self, later: View) -> View {
+        View {
+            sum: self.sum.join(later.sum),
+            min: self.min.join(later.min),
+            affine: self.affine.join(later.affine),
+        }
     }
 
-    pub fn join(a: View, b: View) -> View
-        ensures { result ≡ join_view a b }
+    ghost laws = { view_law };
+}
+
+// The reducers, numbered in this order.
+#[derive(Clone, Copy, PartialEq, Eq)]
+pub enum Reducer {
+    Sum,
+    Min,
+    Affine,
+}
+
+// A number that names no reducer.
+#[derive(Clone, Copy, PartialEq, Eq)]
+pub struct UnknownReducer(pub u32);
+
+impl TryFrom<u32> for Reducer {
+    type Error = UnknownReducer;
+
+    ghost try_from_gives = { Numbers };
+
+    fn try_from(number: u32) -> Result<Reducer, UnknownReducer> {
+        match number {
+            0 => Ok(Reducer::Sum),
+            1 => Ok(Reducer::Min),
+            2 => Ok(Reducer::Affine),
+            _ => Err(UnknownReducer(number)),
+        }
+    }
+}
+
+impl View {
+    // A value folded into a reducer.
+    #[tactic(auto, unfolding(crate::specs::Reducers::fold_view))]
+    pub fn fold(self, reducer: Reducer, value: u32) -> View
+        ensures { result ≡ fold_view self (number reducer) value }
     {
-        View {
-            sum: Sum::join(a.sum, b.sum),
-            min: Min::join(a.min, b.min),
-            affine: Affine::join(a.affine, b.affine),
+        match reducer {
+            Reducer::Sum => View {
+                sum: self.sum.join(Sum::from(value)),
+                ..self
+            },
+            Reducer::Min => View {
+                min: self.min.join(Min::from(value)),
+                ..self
+            },
+            Reducer::Affine => View {
+                affine: self.affine.join(Affine::from(value)),
+                ..self
+            },
         }
     }
 
@@ -112,18 +226,9 @@ impl View {
     pub fn folded(w: View, r: u32, v: u32) -> View
         ensures { result ≡ fold_view w r v }
     {
-        let mut g = w;
-        if r == 0 {
-            g.sum = Sum::join(w.sum, Sum { value: v });
-            return g;
+        match Reducer::try_from(r) {
+            Ok(reducer) => w.fold(reducer, v),
+            Err(_) => w,
         }
-        if r == 1 {
-            g.min = Min::join(w.min, Min { value: v });
-            return g;
-        }
-        if r == 2 {
-            g.affine = Affine::join(w.affine, Affine::of_value(v));
-        }
-        g
     }
 }

@@ -1,12 +1,14 @@
 -- Document 01's words for the answers. Definitions only.
-use Rattle.std.specs.Prelude.{ℕ, ◌+◌, ◌*◌, ◌/◌, ◌%◌, ◌^◌}
+use Rattle.std.specs.Prelude.{ℕ, ◌+◌, ◌*◌, ◌/◌, ◌%◌, ◌^◌, Result, Ok, Err}
 use Rattle.frames.specs.Steps.{returned_number, synced_number}
+use Rattle.soundness.specs.declared.CheckError.{CheckError}
+use Rattle.soundness.specs.declared.CheckError.TheVariants.{NoRoom}
+use Rattle.image.specs.declared.ImageError.{ImageError}
+use Rattle.image.specs.declared.ImageError.TheVariants.{WrongLength, WrongCheck}
 use Rattle.semantics.specs.declared.Done.{Done}
 use Rattle.semantics.specs.declared.Done.TheVariants.{Spawned, Ended, Stolen, Waited, Value, Written, Folded}
 use Rattle.semantics.specs.declared.Refusal.{Refusal}
 use Rattle.semantics.specs.declared.Refusal.TheVariants.{Values, Workers, Nodes, Tape, Work, Unsound, Record, NoWorker, MainReturned, WorkerIdle, ThiefBusy, NoVictim, FramesFull, NoSplitter, PoolFull, Blocks, BlockCheck, Target, NoReducer, Places, Span, Lengths}
-use Rattle.semantics.specs.declared.Answer.{Answer}
-use Rattle.semantics.specs.declared.Answer.TheVariants.{Accepted, Refused}
 
 -- "Refused, in checking order"
 abbrev pub refusal_number : Refusal → ℕ
@@ -39,6 +41,16 @@ refusal_number Span = 22
 -- the entries' own: a lent part of the state has another length
 refusal_number Lengths = 99
 
+-- refusals 5 and 6, of the check of a state
+abbrev pub check_refusal : CheckError → Refusal
+check_refusal NoRoom = Work
+check_refusal CheckError.Unsound = Refusal.Unsound
+
+-- refusals 17 and 18, of an image's bytes
+abbrev pub image_refusal : ImageError → Refusal
+image_refusal WrongLength = Blocks
+image_refusal WrongCheck = BlockCheck
+
 -- "100 plus the kind, then a number: spawn the child's depth, steal the stolen frame's depth, return and sync the outcome,
 -- read the value, write the free nodes left"
 abbrev pub done_words : Done → ℕ × ℕ
@@ -51,10 +63,14 @@ done_words (Written k) = (106, k)
 -- R-5: "answers 107 0"
 done_words Folded = (107, 0)
 
+-- the answer to one step or record
+abbrev pub Answer : Type 0
+Answer = Result Done Refusal
+
 -- "A refused record gives its refusal and 0"
 abbrev pub answer_words : Answer → ℕ × ℕ
-answer_words (Accepted d) = done_words d
-answer_words (Refused r) = (refusal_number r, 0)
+answer_words (Ok d) = done_words d
+answer_words (Err r) = (refusal_number r, 0)
 
 -- a step's result in one number: the first answer word in the low half, the second in the high half
 abbrev pub both_words : ℕ × ℕ → ℕ

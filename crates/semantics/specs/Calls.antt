@@ -1,11 +1,9 @@
 -- A run: an accepted start, then calls, each a step entered from outside, a tape, a save or a reading of an image; what it feeds to the
 -- plain machine, and what its frames have read. Everything is in terms of the entries, as a host calls them. Definitions only.
-use Rattle.std.specs.Prelude.{Bool, false, cond, not, ◌||◌, List, [], ◌∷◌, ◌++◌, map, ℕ, zero, suc, ◌+◌, get_or, take, eqb, leb}
+use Rattle.std.specs.Prelude.{Bool, false, cond, not, ◌||◌, List, [], ◌∷◌, ◌++◌, map, ℕ, zero, suc, ◌+◌, get_or, take, eqb, leb, None, Some}
 use Rattle.sizes.specs.Sizes.{height}
 use Rattle.model.specs.declared.Step.TheVariants.{Spawn, Return, Steal, Sync, Read, Write, Fold}
-use Rattle.model.specs.declared.Decoded.{Decoded}
-use Rattle.model.specs.declared.Decoded.TheVariants.{Valid, Invalid}
-use Rattle.model.specs.Record.{record_of}
+use Rattle.model.specs.Record.{Decoded, record_of}
 use Rattle.model.specs.Machine.{Frame, Machine, deque}
 use Rattle.model.specs.Steps.{Action, spawn, return, sync, read, write, fold, Turn, acting, stealing, turn_of, step}
 use Rattle.model.specs.Run.{Entry}
@@ -91,14 +89,14 @@ pub record PoolAt : Type 0 where
 
 -- of a worker's bottom frame, whatever it is
 abbrev pub rest_in : Layout → Core → Decoded → ℕ
-rest_in L c Invalid = 0
-rest_in L c (Valid (Spawn w)) = 0
-rest_in L c (Valid (Return w)) = 0
-rest_in L c (Valid (Steal w v)) = 0
-rest_in L c (Valid (Sync w)) = 0
-rest_in L c (Valid (Read w x)) = 0
-rest_in L c (Valid (Write w x v)) = L.rest (height c.head.numbers.splitters) c.pool (acting_in c w).root x
-rest_in L c (Valid (Fold w r v)) = 0
+rest_in L c None = 0
+rest_in L c (Some (Spawn w)) = 0
+rest_in L c (Some (Return w)) = 0
+rest_in L c (Some (Steal w v)) = 0
+rest_in L c (Some (Sync w)) = 0
+rest_in L c (Some (Read w x)) = 0
+rest_in L c (Some (Write w x v)) = L.rest (height c.head.numbers.splitters) c.pool (acting_in c w).root x
+rest_in L c (Some (Fold w r v)) = 0
 
 abbrev pub pool_at : Layout → Core → Decoded → PoolAt
 pool_at L c d = record { rest = rest_in L c d; free = chain_free L (state_of (record_on L c d).core) (record_on L c d).core.pool }
@@ -218,5 +216,5 @@ turn_entry M (stealing w v) a = []
 -- the trace of a run by the engine's answers, from the machine M
 abbrev pub trace_from : Machine → List Exchange → List Entry
 trace_from M [] = []
-trace_from M ((Valid st, a) ∷ es) = cond (says_accepted a) (turn_entry M (turn_of st) a) [] ++ trace_from (step M st) es
-trace_from M ((Invalid, a) ∷ es) = trace_from M es
+trace_from M ((Some st, a) ∷ es) = cond (says_accepted a) (turn_entry M (turn_of st) a) [] ++ trace_from (step M st) es
+trace_from M ((None, a) ∷ es) = trace_from M es

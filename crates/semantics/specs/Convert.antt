@@ -1,8 +1,9 @@
 -- R-9: the change-over from four-word nodes to two-word nodes. What it returns and leaves, on all inputs, and runs with one. Definitions only.
-use Rattle.std.specs.Prelude.{cond, List, [], ℕ}
+use Rattle.soundness.specs.Soundness.{Checked}
+use Rattle.soundness.specs.declared.CheckError.{CheckError}
+use Rattle.soundness.specs.declared.CheckError.TheVariants.{NoRoom}
+use Rattle.std.specs.Prelude.{cond, List, [], ℕ, Err, Ok}
 use Rattle.packed.specs.Pack.{converted}
-use Rattle.soundness.specs.declared.Checked.{Checked}
-use Rattle.soundness.specs.declared.Checked.TheVariants.{NoRoom, Sound}
 use Rattle.soundness.specs.Layout.{four_words, two_words}
 use Rattle.soundness.specs.Soundness.{cleared}
 use Rattle.semantics.specs.declared.Refusal.{Refusal}
@@ -25,9 +26,9 @@ convert_refused ws work r = record { pool = ws; work = work; result = refusal_nu
 
 -- the check's answer, then the change-over
 abbrev pub convert_checked : Checked → State → List ℕ → List ℕ → ConvertResult
-convert_checked NoRoom s ws work = convert_refused ws work Work
-convert_checked Checked.Unsound s ws work = convert_refused ws (cleared (numbers_of s).nodes work) Refusal.Unsound
-convert_checked (Sound k) s ws work = record { pool = converted (numbers_of s).nodes ws; work = cleared (numbers_of s).nodes work; result = 0 }
+convert_checked (Err NoRoom) s ws work = convert_refused ws work Work
+convert_checked (Err CheckError.Unsound) s ws work = convert_refused ws (cleared (numbers_of s).nodes work) Refusal.Unsound
+convert_checked (Ok k) s ws work = record { pool = converted (numbers_of s).nodes ws; work = cleared (numbers_of s).nodes work; result = 0 }
 
 -- "The call checks 5, then 6": "Take a sound state with four-word nodes in a lent pool"
 unfoldable pub convert_with : State → List ℕ → List ℕ → ConvertResult

@@ -1,6 +1,7 @@
 -- What a step does to the state and the pool, and what it answers: refusals 8 to 16 and 20 in checking order, then the step.
 -- L is the layout of the pool (crate soundness, Layout): R-8. Definitions only; every one is total.
-use Rattle.std.specs.Prelude.{Bool, cond, not, ◌||◌, List, [], ◌∷◌, ◌++◌, ℕ, zero, suc, eqb, ltb}
+use Rattle.semantics.specs.Answers.{Answer}
+use Rattle.std.specs.Prelude.{Bool, cond, not, ◌||◌, List, [], ◌∷◌, ◌++◌, ℕ, zero, suc, eqb, ltb, Err, Ok}
 use Rattle.words.specs.Basics.{none, plus, all}
 use Rattle.reducers.specs.Reducers.{view_words}
 use Rattle.frames.specs.declared.Frame.{Frame}
@@ -17,8 +18,6 @@ use Rattle.semantics.specs.declared.Head.{Head}
 use Rattle.semantics.specs.declared.Done.TheVariants.{Spawned, Ended, Stolen, Waited, Value, Written, Folded}
 use Rattle.semantics.specs.declared.Refusal.{Refusal}
 use Rattle.semantics.specs.declared.Refusal.TheVariants.{NoWorker, MainReturned, WorkerIdle, ThiefBusy, NoVictim, FramesFull, NoSplitter, PoolFull, NoReducer}
-use Rattle.semantics.specs.declared.Answer.{Answer}
-use Rattle.semantics.specs.declared.Answer.TheVariants.{Accepted, Refused}
 use Rattle.soundness.specs.Layout.{Layout}
 
 -- what steps act on: the numbers, the words of the totals and of the deques, the frame table, and the pool's words
@@ -73,7 +72,7 @@ all_idle c = all c.head.numbers.workers (idle c)
 -- the first test that holds refuses, and nothing changes
 abbrev pub judged : List (Bool × Refusal) → Core → StepResult → StepResult
 judged [] c d = d
-judged (t ∷ ts) c d = cond t.0 (record { core = c; answer = Refused t.1 }) (judged ts c d)
+judged (t ∷ ts) c d = cond t.0 (record { core = c; answer = Err t.1 }) (judged ts c d)
 
 -- refusals 8, 9 and 10
 abbrev pub acting_tests : Core → ℕ → List (Bool × Refusal)
@@ -84,11 +83,11 @@ acting_tests c w = (no_worker c w, NoWorker) ∷ (all_idle c, MainReturned) ∷ 
 unfoldable pub spawn_on : Layout → Core → ℕ → StepResult
 spawn_on L c w =
     let t : Table = spawn (table_of c) w in
-    step_result (with_free_place c.head t.free_place) c.totals t.deques t.frames (L.retain c.pool (acting_in c w).root) (Accepted (Spawned (plus (acting_in c w).depth 1)))
+    step_result (with_free_place c.head t.free_place) c.totals t.deques t.frames (L.retain c.pool (acting_in c w).root) (Ok (Spawned (plus (acting_in c w).depth 1)))
 
 -- a return that left the core c, with the outcome o
 abbrev pub returned : Core → Returned → StepResult
-returned c o = record { core = c; answer = Accepted (Ended o) }
+returned c o = record { core = c; answer = Ok (Ended o) }
 
 -- R-5: "Once Main has returned, each total is ..": Main's view, at its end
 abbrev pub totals_after : Core → Frame → List ℕ
@@ -136,25 +135,25 @@ return_on L c w =
 unfoldable pub steal_on : Core → ℕ → ℕ → StepResult
 steal_on c w v =
     let t : Table = steal (table_of c) w v in
-    step_result c.head c.totals t.deques c.frames c.pool (Accepted (Stolen (stolen (table_of c) v).depth))
+    step_result c.head c.totals t.deques c.frames c.pool (Ok (Stolen (stolen (table_of c) v).depth))
 
 unfoldable pub sync_on : Core → ℕ → StepResult
 sync_on c w =
     let t : Table = sync (table_of c) w in
-    step_result c.head c.totals t.deques t.frames c.pool (Accepted (Waited (synced (table_of c) w)))
+    step_result c.head c.totals t.deques t.frames c.pool (Ok (Waited (synced (table_of c) w)))
 
 unfoldable pub read_on : Layout → Core → ℕ → ℕ → StepResult
-read_on L c w x = record { core = c; answer = Accepted (Value (L.read c.head.height c.pool (acting_in c w).root x)) }
+read_on L c w x = record { core = c; answer = Ok (Value (L.read c.head.height c.pool (acting_in c w).root x)) }
 
 unfoldable pub write_on : Layout → Core → ℕ → ℕ → ℕ → StepResult
 write_on L c w x v =
     let p : List ℕ × ℕ × ℕ × ℕ = L.write c.head.height c.pool c.head.numbers.free_node c.head.free_count (acting_in c w).root x v in
     step_result (with_free_nodes c.head p.1 p.2) c.totals c.deques (set_frame c.frames (bottom c.deques w) (with_root (acting_in c w) p.3)) p.0
-    (Accepted (Written p.2))
+    (Ok (Written p.2))
 
 -- R-5: "Record kind 7 folds its value into the reducer named in its splitter field and answers 107 0"
 unfoldable pub fold_on : Core → ℕ → ℕ → ℕ → StepResult
-fold_on c w r v = step_result c.head c.totals c.deques (fold (table_of c) w r v).frames c.pool (Accepted Folded)
+fold_on c w r v = step_result c.head c.totals c.deques (fold (table_of c) w r v).frames c.pool (Ok Folded)
 
 -- ---- a step
 

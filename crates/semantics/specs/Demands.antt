@@ -1,5 +1,6 @@
 -- Demands 1 to 3 of document 01 over the entries, as a host calls them, for a layout L of the pool (R-8). Statements only; Theory proves them, for both layouts.
-use Rattle.std.specs.Prelude.{◌≡◌, ◌↔◌, ◌≢◌, Bool, true, false, cond, ◌||◌, List, [], ◌∷◌, map, ℕ, suc, ◌+◌, ◌-◌, ◌*◌, ◌/◌, ◌<◌, length, take, drop, eqb, ltb}
+use Rattle.model.specs.Record.{Decoded}
+use Rattle.std.specs.Prelude.{◌≡◌, ◌↔◌, ◌≢◌, Bool, true, false, cond, ◌||◌, List, [], ◌∷◌, map, ℕ, suc, ◌+◌, ◌-◌, ◌*◌, ◌/◌, ◌<◌, length, take, drop, eqb, ltb, None, Some}
 use mathlib.Core.List.{Memᴰ as In}
 use Rattle.words.specs.Basics.{count}
 use Rattle.words.specs.Below.{Words, Bytes}
@@ -8,8 +9,6 @@ use Rattle.reducers.specs.Reducers.{values_into, total_sum, total_min, total_aff
 use Rattle.soundness.specs.Soundness.{cleared}
 use Rattle.model.specs.declared.Step.{Step}
 use Rattle.model.specs.declared.Step.TheVariants.{Spawn, Return, Steal, Sync, Read, Write, Fold}
-use Rattle.model.specs.declared.Decoded.{Decoded}
-use Rattle.model.specs.declared.Decoded.TheVariants.{Valid, Invalid}
 use Rattle.model.specs.Machine.{Name, Frame, Machine, start, live, deque, in_use}
 use Rattle.model.specs.Machine.{free_nodes as plainFree}
 use Rattle.model.specs.Steps.{refusal, step, answer, after_write}
@@ -33,16 +32,16 @@ pub record Plain : Type 0 where
 
 -- "A refused step alters nothing"; a record that is no step is refused by 7
 abbrev pub plain_after : Machine → Decoded → Machine
-plain_after M (Valid st) = step M st
-plain_after M Invalid = M
+plain_after M (Some st) = step M st
+plain_after M None = M
 
 abbrev pub views_by : Plain → Decoded → Views
-views_by P (Valid st) = views_after P.machine P.views st
-views_by P Invalid = P.views
+views_by P (Some st) = views_after P.machine P.views st
+views_by P None = P.views
 
 abbrev pub plain_answer : Machine → Decoded → ℕ × ℕ
-plain_answer M (Valid st) = answer M st
-plain_answer M Invalid = (7, 0)
+plain_answer M (Some st) = answer M st
+plain_answer M None = (7, 0)
 
 -- what answers are compared with: of a machine with its views and a record, with the engine's pool at the record
 pub record Specification : Type 0 where
@@ -142,7 +141,7 @@ RestIsCounted L b calls =
     let M : Machine = plain_now L b calls in
     let h : StateAndPool = (run_from L b calls).now in
     (w x v : ℕ) (q : Frame) (d : List Frame) → deque M w ≡ q ∷ d → x < M.splitters →
-    Counted M (chain_free L h.state h.pool) (rest_in L (core_in L h) (Valid (Write w x v))) (after_write M w q d x v)
+    Counted M (chain_free L h.state h.pool) (rest_in L (core_in L h) (Some (Write w x v))) (after_write M w q d x v)
 
 -- R-2: "Layout searches write the same block many times in one branch": after an accepted write of a worker its next one to the same
 -- splitter is accepted and takes no node
@@ -342,7 +341,7 @@ total_words fs =
 pub record OneWorker (L : Layout) (trace : List Entry) (r : Run) (b₁ : Start) (cs₁ : List Call) : Type 0 where
   pub starts : (start_result L b₁).result ≡ 0
   -- each step of the list is fed to the machine, and none is refused
-  pub all_entered : records_in (run_from L b₁ cs₁).past.exchanges ≡ map Valid (one_worker_steps trace)
+  pub all_entered : records_in (run_from L b₁ cs₁).past.exchanges ≡ map Some (one_worker_steps trace)
   pub none_refused : all_accepted (answers_in (run_from L b₁ cs₁).past.exchanges)
   pub same-frames : (p : Name) → IsFrame (trace_of L b₁ cs₁) p ↔ IsFrame trace p
   pub same_steps : (p : Name) → steps_of p (trace_of L b₁ cs₁) ≡ steps_of p trace

@@ -1,23 +1,21 @@
 -- The entries: start, a step from outside, a tape. What each returns and leaves, on all inputs. Definitions only.
-use Rattle.std.specs.Prelude.{Bool, cond, not, ◌||◌, ◌&&◌, List, [], ◌∷◌, ℕ, zero, suc, ◌+◌, ◌*◌, ◌/◌, ◌%◌, length, set, replicate, eqb, ltb}
+use Rattle.semantics.specs.Answers.{Answer}
+use Rattle.soundness.specs.Soundness.{Checked}
+use Rattle.soundness.specs.declared.CheckError.{CheckError}
+use Rattle.soundness.specs.declared.CheckError.TheVariants.{NoRoom}
+use Rattle.std.specs.Prelude.{Bool, cond, not, ◌||◌, ◌&&◌, List, [], ◌∷◌, ℕ, zero, suc, ◌+◌, ◌*◌, ◌/◌, ◌%◌, length, set, replicate, eqb, ltb, Err, None, Ok, Some}
 use Rattle.sizes.specs.Sizes.{height, tree_nodes}
 use Rattle.frames.specs.Widths.{max_places, deque_words}
 use Rattle.frames.specs.declared.Frame.{Frame}
 use Rattle.frames.specs.Frames.{init_frames, first_free}
 use Rattle.frames.specs.Deques.{init_deques}
 use Rattle.soundness.specs.declared.Numbers.{Numbers}
-use Rattle.soundness.specs.declared.Checked.{Checked}
-use Rattle.soundness.specs.declared.Checked.TheVariants.{NoRoom, Sound}
 use Rattle.soundness.specs.Numbers.{numbers_in, number_words, number_count, total_count, totals_in}
 use Rattle.soundness.specs.Soundness.{sound, count_of_free, checked, cleared}
-use Rattle.model.specs.declared.Decoded.{Decoded}
-use Rattle.model.specs.declared.Decoded.TheVariants.{Valid, Invalid}
-use Rattle.model.specs.Record.{decode_at}
+use Rattle.model.specs.Record.{Decoded, decode_at}
 use Rattle.semantics.specs.declared.Head.{Head}
 use Rattle.semantics.specs.declared.Refusal.{Refusal}
 use Rattle.semantics.specs.declared.Refusal.TheVariants.{Values, Workers, Places, Nodes, Tape, Work, Record, Lengths}
-use Rattle.semantics.specs.declared.Answer.{Answer}
-use Rattle.semantics.specs.declared.Answer.TheVariants.{Refused}
 use Rattle.semantics.specs.Answers.{refusal_number, answer_words, both_words}
 use Rattle.semantics.specs.Core.{Core, StepResult, step_on}
 use Rattle.soundness.specs.Layout.{Layout}
@@ -113,8 +111,8 @@ start_on L s workers vs ws = cond (fits s) (start_with L workers vs s.frames ws)
 
 -- a record's step, or refusal 7
 abbrev pub record_on : Layout → Core → Decoded → StepResult
-record_on L c (Valid st) = step_on L c st
-record_on L c Invalid = record { core = c; answer = Refused Record }
+record_on L c (Some st) = step_on L c st
+record_on L c None = record { core = c; answer = Err Record }
 
 -- what a step leaves: the state, the pool's words and the work slice; and its result, the two answer words in one number
 pub record OutsideResult : Type 0 where
@@ -130,13 +128,13 @@ abbrev pub outside_done : StepResult → List ℕ → OutsideResult
 outside_done d work = record { state = state_of d.core; pool = d.core.pool; work = work; result = answer_result d.answer }
 
 abbrev pub outside_refused : State → List ℕ → List ℕ → Refusal → OutsideResult
-outside_refused s ws work r = record { state = s; pool = ws; work = work; result = answer_result (Refused r) }
+outside_refused s ws work r = record { state = s; pool = ws; work = work; result = answer_result (Err r) }
 
 -- the check's answer, then the step
 abbrev pub outside_checked : Layout → Checked → State → List ℕ → List ℕ → Decoded → OutsideResult
-outside_checked L NoRoom s ws work d = outside_refused s ws work Work
-outside_checked L Checked.Unsound s ws work d = outside_refused s ws (cleared (numbers_of s).nodes work) Refusal.Unsound
-outside_checked L (Sound k) s ws work d = outside_done (record_on L (core_of s ws k) d) (cleared (numbers_of s).nodes work)
+outside_checked L (Err NoRoom) s ws work d = outside_refused s ws work Work
+outside_checked L (Err CheckError.Unsound) s ws work d = outside_refused s ws (cleared (numbers_of s).nodes work) Refusal.Unsound
+outside_checked L (Ok k) s ws work d = outside_done (record_on L (core_of s ws k) d) (cleared (numbers_of s).nodes work)
 
 -- "A step entered from outside checks soundness first"
 unfoldable pub outside_with : Layout → State → List ℕ → List ℕ → Decoded → OutsideResult
@@ -187,9 +185,9 @@ abbrev pub tape_refused : State → List ℕ → List ℕ → List ℕ → Refus
 tape_refused s ws work answers r = record { state = s; pool = ws; work = work; answers = answers; result = refusal_number r }
 
 abbrev pub tape_checked : Layout → Checked → State → List ℕ → List ℕ → List ℕ → List ℕ → TapeResult
-tape_checked L NoRoom s ws work tape answers = tape_refused s ws work answers Work
-tape_checked L Checked.Unsound s ws work tape answers = tape_refused s ws (cleared (numbers_of s).nodes work) answers Refusal.Unsound
-tape_checked L (Sound k) s ws work tape answers = tape_done (run_on L (records_result (core_of s ws k) answers) 0 (records_of tape)) (cleared (numbers_of s).nodes work)
+tape_checked L (Err NoRoom) s ws work tape answers = tape_refused s ws work answers Work
+tape_checked L (Err CheckError.Unsound) s ws work tape answers = tape_refused s ws (cleared (numbers_of s).nodes work) answers Refusal.Unsound
+tape_checked L (Ok k) s ws work tape answers = tape_done (run_on L (records_result (core_of s ws k) answers) 0 (records_of tape)) (cleared (numbers_of s).nodes work)
 
 -- 4. "The tape is not a multiple of 8 bytes, or the answer slice has fewer than two words per record."
 abbrev pub unfit_tape : List ℕ → List ℕ → Bool

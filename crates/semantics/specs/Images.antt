@@ -1,12 +1,13 @@
 -- Saving and reading an image: document 02's R-1, as R-3, R-5 and R-6 change it. What each returns and leaves, on all inputs. Definitions only.
-use Rattle.std.specs.Prelude.{cond, ◌&&◌, List, ◌++◌, ℕ, ◌*◌, length, drop, replicate, eqb, leb, ltb}
+use Rattle.image.specs.Image.{ImageCheck}
+use Rattle.image.specs.declared.ImageError.TheVariants.{WrongLength, WrongCheck}
+use Rattle.soundness.specs.Soundness.{Checked}
+use Rattle.soundness.specs.declared.CheckError.{CheckError}
+use Rattle.soundness.specs.declared.CheckError.TheVariants.{NoRoom}
+use Rattle.std.specs.Prelude.{cond, ◌&&◌, List, ◌++◌, ℕ, ◌*◌, length, drop, replicate, eqb, leb, ltb, Err, Ok}
 use Rattle.frames.specs.declared.Frame.{Frame}
 use Rattle.frames.specs.Frames.{free_record}
-use Rattle.soundness.specs.declared.Checked.{Checked}
-use Rattle.soundness.specs.declared.Checked.TheVariants.{NoRoom, Sound}
 use Rattle.soundness.specs.Soundness.{cleared}
-use Rattle.image.specs.declared.ImageCheck.{ImageCheck}
-use Rattle.image.specs.declared.ImageCheck.TheVariants.{WrongLength, WrongCheck, Good}
 use Rattle.image.specs.Image.{image_of, image_bytes, image_check, nodes_in, places_in, number_words_in, deques_in, frames_in, pool_in, stored}
 use Rattle.semantics.specs.declared.Refusal.{Refusal}
 use Rattle.semantics.specs.declared.Refusal.TheVariants.{Work, Lengths, Blocks, BlockCheck, Target}
@@ -39,9 +40,9 @@ save_sound L s ws work target =
     cond (ltb (length target) (saved_bytes L s)) (save_refused work target Target) (record { work = work; target = stored (saved_image L s ws) target; result = 0 })
 
 abbrev pub save_checked : Layout → Checked → State → List ℕ → List ℕ → List ℕ → SaveResult
-save_checked L NoRoom s ws work target = save_refused work target Work
-save_checked L Checked.Unsound s ws work target = save_refused (cleared (numbers_of s).nodes work) target Refusal.Unsound
-save_checked L (Sound k) s ws work target = save_sound L s ws (cleared (numbers_of s).nodes work) target
+save_checked L (Err NoRoom) s ws work target = save_refused work target Work
+save_checked L (Err CheckError.Unsound) s ws work target = save_refused (cleared (numbers_of s).nodes work) target Refusal.Unsound
+save_checked L (Ok k) s ws work target = save_sound L s ws (cleared (numbers_of s).nodes work) target
 
 unfoldable pub save_with : Layout → State → List ℕ → List ℕ → List ℕ → SaveResult
 save_with L s ws work target = save_checked L (checked_state L s ws work) s ws work target
@@ -87,9 +88,9 @@ load_read L fs ws work image =
 
 -- "reading checks 17, 18, 5, 6"
 abbrev pub load_checked : Layout → ImageCheck → List Frame → List ℕ → List ℕ → List ℕ → LoadResult
-load_checked L WrongLength fs ws work image = load_refused fs ws work Blocks
-load_checked L WrongCheck fs ws work image = load_refused fs ws work BlockCheck
-load_checked L Good fs ws work image = cond (ltb (length work) (nodes_in image)) (load_refused fs ws work Work) (load_read L fs ws (cleared (nodes_in image) work) image)
+load_checked L (Err WrongLength) fs ws work image = load_refused fs ws work Blocks
+load_checked L (Err WrongCheck) fs ws work image = load_refused fs ws work BlockCheck
+load_checked L (Ok _) fs ws work image = cond (ltb (length work) (nodes_in image)) (load_refused fs ws work Work) (load_read L fs ws (cleared (nodes_in image) work) image)
 
 unfoldable pub load_with : Layout → List Frame → List ℕ → List ℕ → List ℕ → LoadResult
 load_with L fs ws work image = load_checked L (image_check L image) fs ws work image

@@ -1,8 +1,8 @@
 -- R-8: the two layouts beside one another. "After starts with as many nodes, unpacking the new pool gives the old one node for node. From sound pools that
 -- match so, with equal state and table, every tape must give the same answer words in both layouts and leave them matching. Images have the new nodes."
 -- ws₂ is a new pool, of two-word nodes, ws₄ an old one, of four-word nodes. Statements only; Theory proves them.
+use Rattle.model.specs.Record.{Decoded}
 use Rattle.std.specs.Prelude.{◌≡◌, ◌⊎◌, true, List, ℕ, ◌*◌, ◌≤◌, length, take}
-use Rattle.model.specs.declared.Decoded.{Decoded}
 use Rattle.soundness.specs.Layout.{Layout, four_words, two_words}
 use Rattle.soundness.specs.Soundness.{live_roots}
 use Rattle.soundness.specs.Unpacked.{unpacked}

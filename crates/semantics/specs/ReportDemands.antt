@@ -1,8 +1,7 @@
 -- R-7's demands over the report's entry, as a host calls it. Statements only; Theory.Reports and Theory.SameReports prove them.
-use Rattle.std.specs.Prelude.{◌≡◌, ◌↔◌, ◌≢◌, ◌⊎◌, true, false, List, [], ◌∷◌, map, ℕ, ◌+◌, ◌*◌, ◌/◌, ◌≤◌, ◌<◌, length, get_or}
+use Rattle.model.specs.Record.{Decoded}
+use Rattle.std.specs.Prelude.{◌≡◌, ◌↔◌, ◌≢◌, ◌⊎◌, true, false, List, [], ◌∷◌, map, ℕ, ◌+◌, ◌*◌, ◌/◌, ◌≤◌, ◌<◌, length, get_or, None, Some}
 use Rattle.model.specs.declared.Step.{Step}
-use Rattle.model.specs.declared.Decoded.{Decoded}
-use Rattle.model.specs.declared.Decoded.TheVariants.{Valid, Invalid}
 use Rattle.model.specs.Machine.{Name}
 use Rattle.model.specs.Run.{steps_of, one_worker_steps}
 use Rattle.model.specs.Clocks.{pair_of}
@@ -56,8 +55,8 @@ pub record SameRun (L : Layout) (b : Start) (bytes : List ℕ) (l : Lent) : Type
 -- the records that are steps; the others are refused by 7
 abbrev pub valids : List Decoded → List Step
 valids [] = []
-valids (Valid st ∷ ds) = st ∷ valids ds
-valids (Invalid ∷ ds) = valids ds
+valids (Some st ∷ ds) = st ∷ valids ds
+valids (None ∷ ds) = valids ds
 
 -- work and span beside the plain machine fed the tape's records
 abbrev pub pair_after : Layout → Start → List ℕ → ℕ × ℕ
@@ -97,7 +96,7 @@ pub record AloneFits (L : Layout) (b : Start) (bytes : List ℕ) (l : Lent) (par
   pub fits : fits_report parts l₁ ≡ true
   pub same_places : length parts.frames ≡ length b.parts.frames
   pub as_many : whole_nodes L ws ≡ whole_nodes L b.pool
-  pub records : records_of bytes₁ ≡ map Valid (one_worker_steps (trace_of L b (report_calls bytes l)))
+  pub records : records_of bytes₁ ≡ map Some (one_worker_steps (trace_of L b (report_calls bytes l)))
   pub fit_tape : unfit_tape bytes₁ l₁.answers ≡ false
   pub long : whole_nodes L ws ≤ length l₁.work
 

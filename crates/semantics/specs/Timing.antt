@@ -1,13 +1,12 @@
 -- R-7: clocks beside a run of the engine, two words for each place of the frame table; work and span. Definitions only; every one is total.
-use Rattle.std.specs.Prelude.{Bool, false, cond, ◌&&◌, List, [], ◌∷◌, ℕ, zero, suc, ◌*◌, max, length, get_or, set, replicate, eqb, leb}
+use Rattle.model.specs.Record.{Decoded}
+use Rattle.std.specs.Prelude.{Bool, false, cond, ◌&&◌, List, [], ◌∷◌, ℕ, zero, suc, ◌*◌, max, length, get_or, set, replicate, eqb, leb, None, Some}
 use Rattle.words.specs.Basics.{none}
 use Rattle.frames.specs.declared.Frame.{Frame}
 use Rattle.frames.specs.Frames.{frame_at}
 use Rattle.frames.specs.Deques.{bottom}
 use Rattle.model.specs.declared.Step.{Step}
 use Rattle.model.specs.declared.Step.TheVariants.{Spawn, Return, Steal, Sync, Read, Write, Fold}
-use Rattle.model.specs.declared.Decoded.{Decoded}
-use Rattle.model.specs.declared.Decoded.TheVariants.{Valid, Invalid}
 use Rattle.semantics.specs.declared.Rise.{Rise}
 use Rattle.semantics.specs.Answers.{answer_words}
 use Rattle.semantics.specs.Core.{Core}
@@ -116,8 +115,8 @@ worker_of (Fold w r v) = w
 
 -- a record that is no step is refused, and moves no clock
 abbrev pub worker_in : Decoded → ℕ
-worker_in (Valid st) = worker_of st
-worker_in Invalid = 0
+worker_in (Some st) = worker_of st
+worker_in None = 0
 
 abbrev pub timed_record : Layout → Core → Decoded → Timing → Timing
 timed_record L c d t = timed_by c (worker_in d) (answer_words (record_on L c d).answer) t

@@ -1,5 +1,7 @@
 #![tactic(auto)]
 // The types of answers and refusals, and the numbers that steps work on.
+mod refusals; // conversions of refusals
+
 use frames::{Returned, Synced};
 use soundness::Numbers;
 
@@ -28,7 +30,7 @@ pub enum Done {
 }
 
 // Document 01's refusals, 1 to 16 without 14, which no longer occurs (R-3), document 02's, 17 to 22, and the entries' own, 99.
-#[derive(Clone, Copy)]
+#[derive(Clone, Copy, PartialEq, Eq)]
 pub enum Refusal {
     Values,
     Workers,
@@ -57,13 +59,6 @@ pub enum Refusal {
     Span,
     // a lent part of the state has not the length that it must have
     Lengths,
-}
-
-// The answer to one step or record.
-#[derive(Clone, Copy)]
-pub enum Answer {
-    Accepted(Done),
-    Refused(Refusal),
 }
 
 // R-7: the ends that a return begins: when the last of them is, where the parent of the frame that ended last is (none: it was Main), and whether that parent

@@ -7,13 +7,7 @@ ghost use Rattle.sizes.specs.Sizes.{height, width, tree_nodes};
 pub fn height_of(n: u32) -> u32
     ensures { result ≡ height n }
 {
-    let mut h: u32 = 0;
-    let mut room: u64 = 1;
-    while room < n as u64 {
-        room *= 2;
-        h += 1;
-    }
-    h
+    u32::BITS - n.saturating_sub(1).leading_zeros()
 }
 
 // The nodes of level l: n / 2^l, rounded up.
@@ -33,12 +27,9 @@ pub fn width_of(n: u32, l: u32) -> u32
 pub fn tree_nodes(n: u32) -> u64
     ensures { result ≡ tree_nodes n }
 {
-    let h = height_of(n);
     let mut total: u64 = 0;
-    let mut l: u32 = 0;
-    while l <= h {
+    for l in 0..=height_of(n) {
         total += width_of(n, l) as u64;
-        l += 1;
     }
     total
 }

@@ -1,7 +1,7 @@
 -- Document 01's paragraph "Soundness", sentence by sentence, R-3's sentence on the word of frames that wait in their return, R-5's on the totals and the
 -- links between siblings, and R-6's on the length of the frame table, as tests. Definitions only.
 -- A state is its numbers (`Numbers`), the words ts of the four totals, the words ds of the 8 deques and the frame table fs; ws are the lent pool's words.
-use Rattle.std.specs.Prelude.{Bool, cond, not, ◌||◌, ◌&&◌, List, [], ◌∷◌, ◌++◌, ℕ, zero, suc, ◌-◌, ◌*◌, length, get_or, replicate, drop, eqb, leb, ltb}
+use Rattle.std.specs.Prelude.{Bool, cond, not, ◌||◌, ◌&&◌, List, [], ◌∷◌, ◌++◌, ℕ, zero, suc, ◌-◌, ◌*◌, length, get_or, replicate, drop, eqb, leb, ltb, Result, Ok, Err}
 use Rattle.words.specs.Basics.{none, sum, all, some, how_many, implies, count, follow, below}
 use Rattle.sizes.specs.Sizes.{tree_nodes}
 use Rattle.frames.specs.Widths.{max_workers, max_places, deque_places}
@@ -14,8 +14,8 @@ use Rattle.soundness.specs.Numbers.{total_count}
 use Rattle.soundness.specs.Sentence.{Sentence, says, all_of}
 use Rattle.soundness.specs.Layout.{Layout, pool_sound}
 use Rattle.soundness.specs.declared.Numbers.{Numbers}
-use Rattle.soundness.specs.declared.Checked.{Checked}
-use Rattle.soundness.specs.declared.Checked.TheVariants.{NoRoom, Unsound, Sound}
+use Rattle.soundness.specs.declared.CheckError.{CheckError}
+use Rattle.soundness.specs.declared.CheckError.TheVariants.{NoRoom, Unsound}
 
 -- ---- numbers
 
@@ -198,10 +198,14 @@ count_of_free L s ws = length (L.free_nodes s.nodes ws s.free_node)
 
 -- ---- the check's answer, and what it leaves in the work slice
 
+-- the number of free nodes of a sound state, or why the check refuses it
+abbrev pub Checked : Type 0
+Checked = Result ℕ CheckError
+
 -- refusal 5: "The work slice has fewer words than the recorded node count."
 unfoldable pub checked : Layout → Numbers → List ℕ → List ℕ → List Frame → List ℕ → List ℕ → Checked
 checked L s ts ds fs ws work =
-    cond (leb s.nodes (length work)) (cond (sound L s ts ds fs ws) (Sound (count_of_free L s ws)) Unsound) NoRoom
+    cond (leb s.nodes (length work)) (cond (sound L s ts ds fs ws) (Ok (count_of_free L s ws)) (Err Unsound)) (Err NoRoom)
 
 -- "its first words, one per recorded node, are zero and the others are unchanged"
 unfoldable pub cleared : ℕ → List ℕ → List ℕ

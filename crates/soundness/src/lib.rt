@@ -15,12 +15,10 @@ pub struct Numbers {
     pub places: u32,
 }
 
-// What the check finds.
-#[derive(Clone, Copy)]
-pub enum Checked {
+// Why the check refuses a state and its pool; if it does not, it finds the number of free nodes.
+#[derive(Clone, Copy, PartialEq, Eq)]
+pub enum CheckError {
     // the work slice has fewer words than the recorded nodes
     NoRoom,
     Unsound,
-    // sound, with this many free nodes
-    Sound(u32),
 }

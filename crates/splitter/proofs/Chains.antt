@@ -1,20 +1,16 @@
 -- A chain followed in a loop: k nodes are behind, and the rest is followed from a on.
-use mathlib.Core.Path.{◌≡◌, ap, ◌∙◌}
+use mathlib.Core.Path.{◌≡◌, ap}
 use mathlib.Core.Logic.{◌≢◌}
 use mathlib.Core.List.{List}
 use Prim.Native.Nat.{ℕ, suc, ◌+◌, ◌-◌, ◌/◌, ◌<◌, ◌≤◌}
 use native.Mathlib.Omega.{arith}
-use native.Mathlib.Numerals.{add-one}
 use lib.ListN.{length, get_or}
 use borrow.Author.Tests.{eq-eqb, ne_eqb, le-leb, lt-leb}
 use Rattle.words.specs.Basics.{none, follow}
 use Rattle.words.specs.Loops.{follow-none, follow-step}
-use Rattle.packed.specs.Pool.{next_free}
-use Rattle.soundness.specs.Numbers.{numbers_in}
-use Rattle.soundness.specs.Soundness.{count_of_free}
+use Rattle.soundness.specs.PackedTrees.{free_nodes}
 use Rattle.soundness.specs.Numbers.{number_count}
 use Rattle.splitter.specs.Queries.{free_on}
-use Rattle.soundness.specs.Layout.{two_words}
 
 module _ (next : ℕ → ℕ) (m k a : ℕ) where
   pub chain_none : a ≡ none → k ≡ k + length (follow (m - k) next a)
@@ -42,8 +38,6 @@ module _ (ns ws : List ℕ) where
   unfolding free_on
   free_short l h = rw (eq-eqb (length ns) number_count l, lt-leb (get_or ns 2 0) (length ws / 2) h)
 
-  pub free_counted : (r : ℕ) → length ns ≡ number_count → get_or ns 2 0 ≤ length ws / 2 → r ≡ length (follow (get_or ns 2 0 + 1) (next_free ws) (get_or ns 3 0)) → r ≡ free_on ns ws
+  pub free_counted : (r : ℕ) → length ns ≡ number_count → get_or ns 2 0 ≤ length ws / 2 → r ≡ length (free_nodes (get_or ns 2 0) ws (get_or ns 3 0)) → r ≡ free_on ns ws
   unfolding free_on
-  free_counted r l h e =
-      let f : r ≡ count_of_free two_words (numbers_in ns) ws = e ∙ ap (λ (m : ℕ). length (follow m (next_free ws) (get_or ns 3 0))) (add-one (get_or ns 2 0)) in
-      rw (eq-eqb (length ns) number_count l, le-leb (get_or ns 2 0) (length ws / 2) h) f
+  free_counted r l h e = rw (eq-eqb (length ns) number_count l, le-leb (get_or ns 2 0) (length ws / 2) h) e

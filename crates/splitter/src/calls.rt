@@ -1,6 +1,6 @@
 // The entries, over the state's lent parts: its numbers, its deques and its frame table. Numbers or deques of another length than they must have are
 // refused first, by a number of their own, and nothing changes.
-ghost use Rattle.std.specs.Prelude.{◌≡◌, ◌%◌, ◌^◌, min};
+ghost use Rattle.std.specs.Prelude.{◌≡◌, min};
 ghost use Rattle.sizes.specs.Sizes.{tree_nodes};
 ghost use Rattle.model.specs.Record.{record_of, decode_at};
 ghost use Rattle.semantics.specs.Entries.{start_on, outside_on, tape_on};
@@ -9,12 +9,24 @@ ghost use Rattle.semantics.specs.Convert.{convert_on};
 ghost use Rattle.semantics.specs.Images.{save_on, load_on};
 ghost use Rattle.semantics.specs.Promises.{parts, lent, IsStart, IsOutside, IsTape, IsSave, IsLoad, IsReport, IsConvert};
 ghost use Rattle.semantics.specs.Report.{report_on};
-ghost use Rattle.splitter.specs.OneRecord.{bytes_of, result_words};
+ghost use Rattle.engine.specs.Promises.{result_number};
+ghost use Rattle.splitter.specs.OneRecord.{result_words};
 ghost use Rattle.soundness.specs.Layout.{two_words};
 
 use conversion::convert;
 use engine::{load, save, start, tape};
 use frames::Frame;
+use semantics::Refusal;
+
+// The number of a call's result: 0, or that of its refusal.
+pub fn number_of(done: Result<(), Refusal>) -> u32
+    ensures { result ≡ result_number done }
+{
+    match done {
+        Ok(()) => 0,
+        Err(refusal) => u32::from(refusal),
+    }
+}
 
 pub fn splitter_start(
     numbers: &mut [u32],
@@ -27,49 +39,25 @@ pub fn splitter_start(
     ensures { IsStart (start_on two_words (parts numbers.old deques.old frames.old) workers values.now pool.old)
         numbers.new deques.new frames.new pool.new result }
 {
-    start(numbers, deques, frames, workers, values, pool)
+    number_of(start(numbers, deques, frames, workers, values, pool))
 }
 
-// The lesser of the two.
-fn least(a: u32, b: u32) -> u32
-    ensures { result ≡ min a b }
-{
-    if a < b { a } else { b }
-}
-
-// The low 8 bits.
-fn low_byte(x: u32) -> u8
-    ensures { result ≡ x % 2 ^ 8 }
-{
-    (x & 255) as u8
-}
-
-// The bytes of a record, the lowest first.
-fn bytes_of(kind: u32, worker: u32, field: u32, value: u32) -> [u8; 8]
-    ensures { result ≡ bytes_of kind worker field value }
-{
-    [
-        low_byte(kind),
-        low_byte(worker),
-        low_byte(field),
-        low_byte(field >> 8),
-        low_byte(value),
-        low_byte(value >> 8),
-        low_byte(value >> 16),
-        low_byte(value >> 24),
-    ]
-}
-
-// A record for these numbers. One that its field cannot hold becomes the field's largest: it is refused alike.
+// A record for these numbers, the lowest byte of each first. One that its field cannot hold becomes the field's largest: it is refused alike.
 pub fn record_of(kind: u32, worker: u32, field: u32, value: u32) -> [u8; 8]
     ensures { decode_at result 0 ≡ record_of (min kind 255) (min worker 255) (min field 65535) value }
 {
-    bytes_of(
-        least(kind, 255),
-        least(worker, 255),
-        least(field, 65535),
-        value,
-    )
+    let [low, high] = (field.min(65535) as u16).to_le_bytes();
+    let [first, second, third, fourth] = value.to_le_bytes();
+    [
+        kind.min(255) as u8,
+        worker.min(255) as u8,
+        low,
+        high,
+        first,
+        second,
+        third,
+        fourth,
+    ]
 }
 
 // The number that the tape was refused by, or both answer words, the first in the low half.
@@ -99,8 +87,8 @@ pub fn splitter_step(
 {
     let bytes = record_of(kind, worker, field, value);
     let mut answers = [0u32; 2];
-    let refused = tape(numbers, deques, frames, pool, work, &bytes, &mut answers);
-    result_words(refused, answers[0], answers[1])
+    let done = tape(numbers, deques, frames, pool, work, &bytes, &mut answers);
+    result_words(number_of(done), answers[0], answers[1])
 }
 
 pub fn splitter_tape(
@@ -115,7 +103,7 @@ pub fn splitter_tape(
     ensures { IsTape (tape_on two_words (parts numbers.old deques.old frames.old) pool.old work.old bytes.now answers.old)
         numbers.new deques.new frames.new pool.new work.new answers.new result }
 {
-    tape(numbers, deques, frames, pool, work, bytes, answers)
+    number_of(tape(numbers, deques, frames, pool, work, bytes, answers))
 }
 
 // R-7: a start, a tape and the report of its work and span.
@@ -136,9 +124,9 @@ pub fn splitter_report(
         (lent work.old answers.old clocks.old report.old))
         numbers.new deques.new frames.new pool.new work.new answers.new clocks.new report.new result }
 {
-    engine::report(
+    number_of(engine::report(
         numbers, deques, frames, workers, values, pool, work, bytes, answers, clocks, report,
-    )
+    ))
 }
 
 // R-1: the state and its pool as an image in the front of the target.
@@ -153,7 +141,7 @@ pub fn splitter_save(
     ensures { IsSave (save_on two_words (parts numbers.now deques.now frames.now) pool.now work.old target.old)
         work.new target.new result }
 {
-    save(numbers, deques, frames, pool, work, target)
+    number_of(save(numbers, deques, frames, pool, work, target))
 }
 
 // R-1: an image back into a state and a pool.
@@ -168,7 +156,7 @@ pub fn splitter_load(
     ensures { IsLoad (load_on two_words (parts numbers.old deques.old frames.old) pool.old work.old image.now)
         numbers.new deques.new frames.new pool.new work.new result }
 {
-    load(numbers, deques, frames, pool, work, image)
+    number_of(load(numbers, deques, frames, pool, work, image))
 }
 
 // R-9: a pool of nodes of four words becomes one of nodes of two words, in the middle of a search.
@@ -182,7 +170,7 @@ pub fn splitter_convert(
     ensures { IsConvert (convert_on (parts numbers.now deques.now frames.now) pool.old work.old)
         pool.new work.new result }
 {
-    convert(numbers, deques, frames, pool, work)
+    number_of(convert(numbers, deques, frames, pool, work))
 }
 
 // The bytes of an image of so many places and nodes.

@@ -8,4 +8,4 @@ pub use calls::{
     splitter_convert, splitter_image_bytes, splitter_load, splitter_report, splitter_save,
     splitter_start, splitter_step, splitter_tape, splitter_tree_nodes,
 };
-pub use queries::splitter_free_nodes;
+pub use queries::{count_free, splitter_free_nodes};

@@ -1,17 +1,16 @@
 -- The entries in fewer steps, for computed tables. Where the state is known to be sound, as after a start (demand 2), the check need not be
 -- computed to know what they do.
-use Rattle.std.specs.Prelude.{◌≡◌, refl, Bool, true, cond, List, [], ◌∷◌, map, ℕ, zero, suc, ◌+◌, ◌/◌, length, get_or, drop, eqb, leb, ltb}
+use Rattle.soundness.specs.Soundness.{Checked}
+use Rattle.soundness.specs.declared.CheckError.{CheckError}
+use Rattle.soundness.specs.declared.CheckError.TheVariants.{NoRoom}
+use Rattle.std.specs.Prelude.{◌≡◌, refl, Bool, true, cond, List, [], ◌∷◌, map, ℕ, zero, suc, ◌+◌, ◌/◌, length, get_or, drop, eqb, leb, ltb, Err, None, Ok}
 use Rattle.std.proofs.Common.{sym, ap, ap₂, ◌∙◌, inl, inr, arith, length-drop, get_or-drop, drop-drop, eqb-true}
 use Rattle.words.specs.Tests.{decided, ltb_same}
-use Rattle.soundness.specs.declared.Checked.{Checked}
-use Rattle.soundness.specs.declared.Checked.TheVariants.{NoRoom, Sound}
 use Rattle.soundness.specs.Soundness.{checked, cleared}
 use Rattle.soundness.specs.Sentence.{all_of}
 use Rattle.soundness.proofs.Example.{rest_quick, rest_quick_lem, free_quick, free_quick_lem, sentences_by}
 use Rattle.soundness.proofs.Theory.Sentences.{sound_is_all}
-use Rattle.model.specs.declared.Decoded.{Decoded}
-use Rattle.model.specs.declared.Decoded.TheVariants.{Invalid}
-use Rattle.model.specs.Record.{little, record_of, decode_at}
+use Rattle.model.specs.Record.{Decoded, little, record_of, decode_at}
 use Rattle.semantics.specs.declared.Refusal.{Refusal}
 use Rattle.semantics.specs.declared.Refusal.TheVariants.{Tape, Work, Lengths}
 use Rattle.semantics.specs.Entries.{State, fits, numbers_of, totals_of, core_of, is_sound, chain_free, OutsideResult, outside_refused, outside_checked, outside_with, outside_on, records_from, records_result, run_on, TapeResult, tape_done, tape_refused, tape_checked, unfit_tape, tape_with, tape_on}
@@ -34,7 +33,7 @@ records_quick (suc k) bytes = decode_at bytes 0 ∷ records_quick k (drop 8 byte
 decode_drop : (bytes : List ℕ) (at : ℕ) → decode_at bytes at ≡ decode_at (drop at bytes) 0
 unfolding decode_at
 decode_drop bytes at i =
-    cond (long i) Invalid (record_of (kind i) (byte 1 i) (little (byte 2 i ∷ byte 3 i ∷ [])) (little (byte 4 i ∷ byte 5 i ∷ byte 6 i ∷ byte 7 i ∷ [])))
+    cond (long i) None (record_of (kind i) (byte 1 i) (little (byte 2 i ∷ byte 3 i ∷ [])) (little (byte 4 i ∷ byte 5 i ∷ byte 6 i ∷ byte 7 i ∷ [])))
   where
     byte : (j : ℕ) → get_or bytes (at + j) 0 ≡ get_or (drop at bytes) j 0
     byte j = sym (get_or-drop at bytes j 0)
@@ -66,19 +65,19 @@ sound_quick_lem s ws =
 -- ---- the check's answer, given whether state and pool are sound
 
 abbrev pub checked_by : Bool → StateAndPool → List ℕ → Checked
-checked_by b h work = cond (leb (numbers_of h.state).nodes (length work)) (cond b (Sound (chain_free two_words h.state h.pool)) Checked.Unsound) NoRoom
+checked_by b h work = cond (leb (numbers_of h.state).nodes (length work)) (cond b (Ok (chain_free two_words h.state h.pool)) (Err CheckError.Unsound)) (Err NoRoom)
 
 -- what a tape of these records does then
 abbrev tape_after : Checked → StateAndPool → List Decoded → (work answers : List ℕ) → TapeResult
-tape_after NoRoom h ds work answers = tape_refused h.state h.pool work answers Work
-tape_after Checked.Unsound h ds work answers = tape_refused h.state h.pool (cleared (numbers_of h.state).nodes work) answers Refusal.Unsound
-tape_after (Sound k) h ds work answers = tape_done (run_on two_words (records_result (core_of h.state h.pool k) answers) 0 ds) (cleared (numbers_of h.state).nodes work)
+tape_after (Err NoRoom) h ds work answers = tape_refused h.state h.pool work answers Work
+tape_after (Err CheckError.Unsound) h ds work answers = tape_refused h.state h.pool (cleared (numbers_of h.state).nodes work) answers Refusal.Unsound
+tape_after (Ok k) h ds work answers = tape_done (run_on two_words (records_result (core_of h.state h.pool k) answers) 0 ds) (cleared (numbers_of h.state).nodes work)
 
 tape-after : (k : Checked) (h : StateAndPool) (bytes work answers : List ℕ)
     → tape_checked two_words k h.state h.pool work bytes answers ≡ tape_after k h (records_quick (length bytes / 8) bytes) work answers
-tape-after NoRoom h bytes work answers = refl
-tape-after Checked.Unsound h bytes work answers = refl
-tape-after (Sound k) h bytes work answers = ap (λ ds. tape_after (Sound k) h ds work answers) (records_quick_lem (length bytes / 8) bytes 0)
+tape-after (Err NoRoom) h bytes work answers = refl
+tape-after (Err CheckError.Unsound) h bytes work answers = refl
+tape-after (Ok k) h bytes work answers = ap (λ ds. tape_after (Ok k) h ds work answers) (records_quick_lem (length bytes / 8) bytes 0)
 
 abbrev pub tape_by : Bool → StateAndPool → (bytes work answers : List ℕ) → TapeResult
 tape_by b h bytes work answers =

@@ -1,7 +1,9 @@
 -- The images of R-1 as R-3, R-5, R-6 and R-8 change them, word by word, and their refusals, each at its condition and beside an accepted call or the next
 -- refusal, with what they leave: saves of short states, and readings of their images into other memory. (That an image reads back as the state is
 -- shown for every sound one: reads-back of semantics.)
-use Rattle.std.specs.Prelude.{◌≡◌, refl, Bool, true, cond, not, ◌||◌, ◌&&◌, List, [], ◌∷◌, ◌++◌, map, ℕ, zero, suc, ◌+◌, ◌-◌, ◌*◌, ◌%◌, ◌^◌, length, get_or, take, drop, set, replicate, eqb, ltb}
+use Rattle.image.specs.Image.{ImageCheck}
+use Rattle.image.specs.declared.ImageError.TheVariants.{WrongLength, WrongCheck}
+use Rattle.std.specs.Prelude.{◌≡◌, refl, Bool, true, cond, not, ◌||◌, ◌&&◌, List, [], ◌∷◌, ◌++◌, map, ℕ, zero, suc, ◌+◌, ◌-◌, ◌*◌, ◌%◌, ◌^◌, length, get_or, take, drop, set, replicate, eqb, ltb, Err, Ok}
 use Rattle.std.proofs.Common.{ap, ap₂, ◌∙◌, arith}
 use Rattle.words.specs.Basics.{none, same, sum, δ, count}
 use Rattle.words.specs.Counting.{sum_cong, sum_first}
@@ -13,8 +15,6 @@ use Rattle.frames.specs.Siblings.{chained}
 use Rattle.frames.specs.Deques.{size, place}
 use Rattle.soundness.specs.Soundness.{one_main, parents_live, counts_right, placed_once, returning_right, links_right, totals_right, hold_live, absent_empty, linked, only_below, roots_below, checked, cleared}
 use Rattle.soundness.specs.PackedTrees.{tree_at, nodes_on, is_on}
-use Rattle.image.specs.declared.ImageCheck.{ImageCheck}
-use Rattle.image.specs.declared.ImageCheck.TheVariants.{WrongLength, WrongCheck, Good}
 use Rattle.image.specs.Image.{deques_of, table_words, image_words, word_bytes, bytes_of, words_of, word_at, check, blocks_of, filled, as_blocks, nodes_in, places_in, blocks_called, wrong_length, data_of, checks_hold, all_zero, rest_of, wrong_check, image_check, lent_deques, records_in}
 use Rattle.semantics.specs.declared.Refusal.{Refusal}
 use Rattle.semantics.specs.declared.Refusal.TheVariants.{Work, Lengths, Blocks, BlockCheck}
@@ -296,25 +296,25 @@ save_refusals = (λ i. map (λ (r : Saving). saved_by r (save_quick_lem r i)) sa
 
 -- with the checks in one pass
 abbrev image_quick : List ℕ → ImageCheck
-image_quick i = cond (wrong_length two_words i) WrongLength (cond (not (checks_quick (blocks_called two_words i) i) || not (all_zero (rest_of two_words i))) WrongCheck Good)
+image_quick i = cond (wrong_length two_words i) (Err WrongLength) (cond (not (checks_quick (blocks_called two_words i) i) || not (all_zero (rest_of two_words i))) (Err WrongCheck) (Ok tt))
 
 image_quick_lem : (i : List ℕ) → image_check two_words i ≡ image_quick i
 unfolding image_check wrong_check
-image_quick_lem i = ap (λ b. cond (wrong_length two_words i) WrongLength (cond (not b || not (all_zero (rest_of two_words i))) WrongCheck Good)) (checks_quick_lem (blocks_called two_words i) i)
+image_quick_lem i = ap (λ b. cond (wrong_length two_words i) (Err WrongLength) (cond (not b || not (all_zero (rest_of two_words i))) (Err WrongCheck) (Ok tt))) (checks_quick_lem (blocks_called two_words i) i)
 
 -- given whether what is read is sound
 abbrev load_by : Bool → ImageCheck → List Frame → List ℕ → List ℕ → List ℕ → LoadResult
-load_by b WrongLength fs ws work i = load_refused fs ws work Blocks
-load_by b WrongCheck fs ws work i = load_refused fs ws work BlockCheck
-load_by b Good fs ws work i =
+load_by b (Err WrongLength) fs ws work i = load_refused fs ws work Blocks
+load_by b (Err WrongCheck) fs ws work i = load_refused fs ws work BlockCheck
+load_by b (Ok _) fs ws work i =
     cond (ltb (length work) (nodes_in i)) (load_refused fs ws work Work)
     (cond (eqb (length fs) (places_in i) && b) (record { state = state_in two_words i; pool = pool_with two_words ws i; work = cleared (nodes_in i) work; result = 0 })
     (load_refused (records_zero fs) (nodes_zero two_words ws) (cleared (nodes_in i) work) Refusal.Unsound))
 
 load_by_lem : (k : ImageCheck) (fs : List Frame) (ws work i : List ℕ) → load_checked two_words k fs ws work i ≡ load_by (is_sound two_words (state_in two_words i) (pool_with two_words ws i)) k fs ws work i
-load_by_lem WrongLength fs ws work i = refl
-load_by_lem WrongCheck fs ws work i = refl
-load_by_lem Good fs ws work i = refl
+load_by_lem (Err WrongLength) fs ws work i = refl
+load_by_lem (Err WrongCheck) fs ws work i = refl
+load_by_lem (Ok _) fs ws work i = refl
 
 abbrev or_lengths : State → List ℕ → List ℕ → LoadResult → LoadResult
 or_lengths s ws work o = cond (fits s) o (record { state = s; pool = ws; work = work; result = 99 })

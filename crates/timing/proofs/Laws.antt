@@ -2,44 +2,21 @@
 use mathlib.Core.Path.{◌≡◌, refl, sym, ap, ◌∙◌}
 use mathlib.Core.Logic.{◌≢◌}
 use mathlib.Core.Bool.{Bool, true, false, cond, ◌&&◌}
-use mathlib.Core.List.{List, [], ◌∷◌}
+use mathlib.Core.List.{List}
 use Prim.Native.Nat.{ℕ, suc, ◌+◌, ◌-◌, ◌*◌, ◌^◌, ◌≤◌, ◌<◌, max}
 use native.Mathlib.Numerals.{add-one}
 use native.Mathlib.Omega.{arith}
-use lib.ListN.{length, get_or, set, take, drop, length-set, length-drop}
-use lib.Seq.{get_or-drop}
+use lib.ListN.{length, set, length-set}
 use lib.Dec.{eqb, leb}
 use borrow.Author.Tests.{eq-eqb, ne_eqb, le-leb, lt-leb}
 use Rattle.words.specs.Basics.{none}
 use Rattle.words.specs.Below.{below_set}
-use Rattle.frames.specs.Widths.{deque_stride}
 use Rattle.frames.specs.declared.Frame.{Frame}
 use Rattle.frames.specs.Frames.{frame_at}
-use Rattle.frames.specs.Deques.{size, place, bottom}
-use Rattle.frames.proofs.Theory.Sizes.{rest_is, bottom_is}
+use Rattle.frames.specs.Deques.{bottom}
 use Rattle.semantics.specs.declared.Rise.{Rise}
-use Rattle.semantics.specs.Timing.{own_clock, child_clock, latest, ticked, passed, heard, begun, waits_for_one, rise, Timing, costing, ended, timed_with}
+use Rattle.semantics.specs.Timing.{own_clock, latest, ticked, waits_for_one, rise, Timing, costing}
 use Rattle.timing.specs.Turns.{RoomFor, timing, worker_at, first_at, ticks_over}
-
--- ---- the report's four words
-
-pub four_words_lem : (ws : List ℕ) (a b c d : ℕ) → length ws ≡ 4 → set (set (set (set ws 0 a) 1 b) 2 c) 3 d ≡ a ∷ b ∷ c ∷ d ∷ []
-four_words_lem [] a b c d e = absurd (omega arith)
-four_words_lem (u ∷ []) a b c d e = absurd (omega arith)
-four_words_lem (u ∷ v ∷ []) a b c d e = absurd (omega arith)
-four_words_lem (u ∷ v ∷ x ∷ []) a b c d e = absurd (omega arith)
-four_words_lem (u ∷ v ∷ x ∷ y ∷ []) a b c d e = refl
-four_words_lem (u ∷ v ∷ x ∷ y ∷ z ∷ ws) a b c d e = absurd (omega arith)
-
--- ---- a frame's two words
-
-pub latest_is : (ks : List ℕ) (p own children r : ℕ) → own ≡ get_or ks (2 * p) 0 → children ≡ get_or ks (2 * p + 1) 0 → r ≡ max own children → r ≡ latest ks p
-latest_is ks p own children r eo ec er = rw (er, eo, ec, add-one (2 * p))
-
--- ---- a child's clock
-
-pub begun_is : (ks : List ℕ) (p g t : ℕ) (ks₁ ks₂ ks₃ : List ℕ) → t ≡ own_clock ks p → ks₁ ≡ set ks (2 * p) (t + 1) → ks₂ ≡ set ks₁ (2 * g) (t + 1) → ks₃ ≡ set ks₂ (2 * g + 1) 0 → ks₃ ≡ begun ks p g
-begun_is ks p g t ks₁ ks₂ ks₃ e e₁ e₂ e₃ = rw (e₃, e₂, e₁, e, add-one (own_clock ks p), add-one (2 * g))
 
 -- ---- room in the clock words
 
@@ -49,43 +26,8 @@ room_set n ks k v h b i = omega (arith, below_set (2 ^ 64 - n) ks k v (λ j. ome
 pub room_less : (n m : ℕ) (ks : List ℕ) → m ≤ n → RoomFor n ks → RoomFor m ks
 room_less n m ks b h i = omega (arith, h i)
 
-pub room_heard : (ks ks' : List ℕ) (q t : ℕ) → RoomFor 1 ks → t + 1 < 2 ^ 64 → ks' ≡ heard ks q t → RoomFor 1 ks'
-room_heard ks ks' q t h b e = rw e (room_set 1 ks (suc (2 * q)) (max (child_clock ks q) t) h (omega (arith, h (suc (2 * q)))))
-
 pub room_ticked : (n m : ℕ) (ks ks' : List ℕ) (p : ℕ) → m < n → RoomFor n ks → ks' ≡ ticked ks p → RoomFor m ks'
 room_ticked n m ks ks' p b h e = rw e (room_set m ks (2 * p) (suc (own_clock ks p)) (room_less n m ks (omega arith) h) (omega (arith, h (2 * p))))
-
--- ---- the bottom frame's place
-
-module _ (ds : List ℕ) (w n r : ℕ) where
-  -- of a worker that has none: what stands at its top
-  pub bottom-idle : n ≡ get_or ds (deque_stride * w) 0 → n ≡ 0 → r ≡ get_or ds (deque_stride * w + 1) 0 → r ≡ bottom ds w
-  unfolding bottom place size
-  bottom-idle en z er =
-      let i : deque_stride * w + 1 ≡ deque_stride * w + (1 + (get_or ds (deque_stride * w) 0 - 1)) = omega arith in
-      er ∙ ap (λ (k : ℕ). get_or ds k 0) i
-
-  pub bottom_busy : n ≡ get_or ds (deque_stride * w) 0 → n ≢ 0 → r ≡ get_or ds (deque_stride * w + n) 0 → r ≡ bottom ds w
-  unfolding size
-  bottom_busy en z er = er ∙ bottom_is ds w n en (omega arith)
-
--- a worker's words, from its length on
-module _ (ds : List ℕ) (w : ℕ) where
-  abbrev part : List ℕ
-  part = take (length ds - deque_stride * w) (drop (deque_stride * w) ds)
-
-  pub part_length : length part ≡ length ds - deque_stride * w
-  part_length = ap (λ (l : List ℕ). length l) (rest_is (deque_stride * w) ds) ∙ length-drop (deque_stride * w) ds
-
-  part_at : (k : ℕ) → get_or part k 0 ≡ get_or ds (deque_stride * w + k) 0
-  part_at k = ap (λ (l : List ℕ). get_or l k 0) (rest_is (deque_stride * w) ds) ∙ get_or-drop (deque_stride * w) ds k 0
-
-  pub part_size : get_or part 0 0 ≡ size ds w
-  unfolding size
-  part_size = part_at 0 ∙ (let e : deque_stride * w + 0 ≡ deque_stride * w = omega arith in ap (λ (k : ℕ). get_or ds k 0) e)
-
-  pub part_bottom : 0 < size ds w → get_or part (get_or part 0 0) 0 ≡ bottom ds w
-  part_bottom h = part_at (get_or part 0 0) ∙ bottom_is ds w (get_or part 0 0) part_size (omega (arith, part_size))
 
 -- ---- where the ends of a return stop: q is the place of the parent of the frame at p, and f its record
 
@@ -115,58 +57,6 @@ module _ (fs : List Frame) (ks : List ℕ) (p t more q : ℕ) (f : Frame) (w : B
   rise_ends l t' y e el et =
       ap (rise (more - 1) fs ks q) (et ∙ ap (λ (k : ℕ). max k t) el) ∙ rise-step true true y (eq-eqb f.returning 1 e)
 
--- ---- a return's ends
-
-module _ (ks : List ℕ) (work span : ℕ) (r : Rise) where
-  pub ended-main : r.place ≡ none → timing ks work r.clock ≡ ended (timing ks work span) r
-  ended-main e = rw (eq-eqb r.place none e)
-
-  module _ (ks₁ : List ℕ) (m : r.place ≢ none) (e₁ : ks₁ ≡ heard ks r.place r.clock) where
-    pub ended_passes : (ks₂ : List ℕ) → r.passes ≡ true → ks₂ ≡ passed ks₁ r.place → timing ks₂ work span ≡ ended (timing ks work span) r
-    ended_passes ks₂ t e₂ = rw (ne_eqb r.place none m, t, e₂, e₁)
-
-    pub ended_waits : r.passes ≡ false → timing ks₁ work span ≡ ended (timing ks work span) r
-    ended_waits t = rw (ne_eqb r.place none m, t, e₁)
-
--- ---- what a step does, by its answer words
-
-module _ (a b p g : ℕ) (r : Rise) (ks : List ℕ) (work span : ℕ) where
-  abbrev after : Timing
-  after = timed_with (a, b) p g r (timing ks work span)
-
-  -- one that costs 1
-  module _ (work' span' : ℕ) (ew : work' ≡ suc work) (es : span' ≡ span) where
-    pub timed_data : (ks' : List ℕ) → 105 ≤ a → ks' ≡ ticked ks p → timing ks' work' span' ≡ after
-    unfolding timed_with
-    timed_data ks' h e = rw (le-leb 105 a h, e, ew, es)
-
-    pub timed_spawn : (ks' : List ℕ) → a ≡ 101 → ks' ≡ begun ks p g → timing ks' work' span' ≡ after
-    unfolding timed_with
-    timed_spawn ks' is e = rw (lt-leb 105 a (omega arith), eq-eqb a 101 is, e, ew, es)
-
-    pub timed_pass : (ks' : List ℕ) → a ≡ 104 → b ≡ 0 → ks' ≡ passed ks p → timing ks' work' span' ≡ after
-    unfolding timed_with
-    timed_pass ks' is o e = rw (lt-leb 105 a (omega arith), ne_eqb a 101 (λ z. omega arith), ne_eqb a 102 (λ z. omega arith), eq-eqb a 104 is, eq-eqb b 0 o, e, ew, es)
-
-    -- a sync that waits
-    pub timed_sync : a ≡ 104 → b ≢ 0 → timing ks work' span' ≡ after
-    unfolding timed_with
-    timed_sync is o = rw (lt-leb 105 a (omega arith), ne_eqb a 101 (λ z. omega arith), ne_eqb a 102 (λ z. omega arith), eq-eqb a 104 is, ne_eqb b 0 o, ew, es)
-
-  -- a return that waits
-  pub timed_wait : a ≡ 102 → b ≡ 4 → timing ks work span ≡ after
-  unfolding timed_with
-  timed_wait is o = rw (lt-leb 105 a (omega arith), ne_eqb a 101 (λ z. omega arith), eq-eqb a 102 is, eq-eqb b 4 o)
-
-  pub timed_ends : (t : Timing) → a ≡ 102 → b ≢ 4 → t ≡ ended (timing ks work span) r → t ≡ after
-  unfolding timed_with
-  timed_ends t is o e = e ∙ rw (lt-leb 105 a (omega arith), ne_eqb a 101 (λ z. omega arith), eq-eqb a 102 is, ne_eqb b 4 o)
-
-  -- a steal, or a refusal
-  pub timed_none : a < 105 → a ≢ 101 → a ≢ 102 → a ≢ 104 → timing ks work span ≡ after
-  unfolding timed_with
-  timed_none low n m o = rw (lt-leb 105 a low, ne_eqb a 101 n, ne_eqb a 102 m, ne_eqb a 104 o)
-
 -- ---- records in turn: the i-th, and those from it up to `to`
 
 module _ (ds tape answers : List ℕ) (i : ℕ) (t : Timing) where
@@ -194,9 +84,6 @@ pub record Turned (ds tape answers ks₀ : List ℕ) (from to work : ℕ) (ks : 
   pub left : (span : ℕ) → ticks_over ds tape answers i (to - i) (timing ks sum span) ≡ ticks_over ds tape answers from (to - from) (timing ks₀ work span)
 
 module _ (ds tape answers ks₀ : List ℕ) (from to work : ℕ) where
-  pub turn_begins : from ≤ to → RoomFor (to - from) ks₀ → work + (to - from) < 2 ^ 64 → Turned ds tape answers ks₀ from to work ks₀ work from
-  turn_begins h room fits = record { low = omega arith; high = h; same = refl; room = room; fits = fits; left = λ span. refl }
-
   module _ (ks : List ℕ) (sum i : ℕ) (T : Turned ds tape answers ks₀ from to work ks sum i) where
     pub turn_ticks : (p : ℕ) (ks₁ ks' : List ℕ) (sum' : ℕ) → i < to → 100 ≤ first_at answers i → p ≡ bottom ds (worker_at tape i) → ks₁ ≡ ticked ks p → ks' ≡ ks₁ → sum' ≡ sum + 1
         → Turned ds tape answers ks₀ from to work ks' sum' (i + 1)

@@ -1,45 +1,22 @@
 // The clock words of single frames, and the report's words.
-ghost use Rattle.std.specs.Prelude.{◌≡◌, cond, suc, ◌+◌, ◌*◌, ◌<◌, max, eqb, length, get_or, set, replicate};
+ghost use Rattle.std.specs.Prelude.{◌≡◌, cond, suc, ◌+◌, ◌*◌, ◌<◌, eqb, length, replicate, Ok, Err};
 ghost use Rattle.semantics.specs.declared.Refusal.TheVariants.{Span};
-ghost use Rattle.semantics.specs.Answers.{refusal_number};
 ghost use Rattle.semantics.specs.Timing.{latest, ticked, passed, heard, begun, waits_for_one};
 ghost use Rattle.semantics.specs.Report.{report_words};
 ghost use Rattle.timing.specs.Turns.{RoomFor, timing};
 
 use crate::Tally;
 use frames::Frame;
-
-// The clock word at `at`, and 0 past the end.
-pub fn clock_at(clocks: &[u64], at: usize) -> u64
-    ensures { result ≡ get_or clocks.now at 0 }
-{
-    if at < clocks.len() { clocks[at] } else { 0 }
-}
-
-// Stores a clock word; past the end, nothing.
-pub fn put_clock(clocks: &mut [u64], at: usize, t: u64)
-    ensures { clocks.new ≡ set clocks.old at t }
-{
-    if at < clocks.len() {
-        clocks[at] = t;
-    }
-}
-
-// The later of two times.
-pub fn later(a: u64, b: u64) -> u64
-    ensures { result ≡ max a b }
-{
-    if a < b { b } else { a }
-}
+use semantics::Refusal;
 
 // "the latest of its own and its ended children's"
 pub fn latest_at(clocks: &[u64], p: u32) -> u64
     ensures { result ≡ latest clocks.now p }
 {
     let at = 2 * (p as usize);
-    let own = clock_at(clocks, at);
-    let children = clock_at(clocks, at + 1);
-    later(own, children)
+    let own = words::at_or(clocks, at, 0);
+    let children = words::at_or(clocks, at + 1, 0);
+    own.max(children)
 }
 
 // A step of the frame at p.
@@ -48,7 +25,7 @@ pub fn tick(clocks: &mut [u64], p: u32)
     ensures { clocks.new ≡ ticked clocks.old p }
 {
     let at = 2 * (p as usize);
-    clocks[at] = clocks[at] + 1;
+    clocks[at] += 1;
 }
 
 // The frame at p passes a sync.
@@ -57,7 +34,7 @@ pub fn pass_sync(clocks: &mut [u64], p: u32)
     ensures { clocks.new ≡ passed clocks.old p }
 {
     let t = latest_at(clocks, p);
-    put_clock(clocks, 2 * (p as usize), t + 1);
+    words::put(clocks, 2 * (p as usize), t + 1);
 }
 
 // A child of the frame at q has ended at the time t.
@@ -65,8 +42,8 @@ pub fn hear(clocks: &mut [u64], q: u32, t: u64)
     ensures { clocks.new ≡ heard clocks.old q t }
 {
     let at = 2 * (q as usize) + 1;
-    let before = clock_at(clocks, at);
-    put_clock(clocks, at, later(before, t));
+    let before = words::at_or(clocks, at, 0);
+    words::put(clocks, at, before.max(t));
 }
 
 // The frame at p spawns a child at g.
@@ -74,11 +51,11 @@ pub fn begin_child(clocks: &mut [u64], p: u32, g: u32)
     requires { RoomFor 1 clocks.old }
     ensures { clocks.new ≡ begun clocks.old p g }
 {
-    let before = clock_at(clocks, 2 * (p as usize));
+    let before = words::at_or(clocks, 2 * (p as usize), 0);
     let t = before + 1;
-    put_clock(clocks, 2 * (p as usize), t);
-    put_clock(clocks, 2 * (g as usize), t);
-    put_clock(clocks, 2 * (g as usize) + 1, 0);
+    words::put(clocks, 2 * (p as usize), t);
+    words::put(clocks, 2 * (g as usize), t);
+    words::put(clocks, 2 * (g as usize) + 1, 0);
 }
 
 // Does the frame wait for one child?
@@ -92,25 +69,21 @@ pub fn waits_for_one(f: Frame) -> bool
 pub fn clear_clocks(clocks: &mut [u64])
     ensures { clocks.new ≡ replicate (length clocks.old) 0 }
 {
-    let mut i: usize = 0;
-    while i < clocks.len() {
-        clocks[i] = 0;
-        i += 1;
-    }
+    clocks.fill(0);
 }
 
 // Work, span, quotient and remainder, or 22.
-pub fn put_report(report: &mut [u64], t: Tally) -> u32
+pub fn put_report(report: &mut [u64], t: Tally) -> Result<(), Refusal>
     requires { length report.old ≡ 4 }
     ensures { (report.new ≡ cond (eqb t.span 0) report.old (report_words (timing report.old t.work t.span)))
-        × (result ≡ cond (eqb t.span 0) (refusal_number Span) 0) }
+        × (result ≡ cond (eqb t.span 0) (Err Span) (Ok tt)) }
 {
     if t.span == 0 {
-        return 22;
+        return Err(Refusal::Span);
     }
     report[0] = t.work;
     report[1] = t.span;
     report[2] = t.work / t.span;
     report[3] = t.work % t.span;
-    0
+    Ok(())
 }

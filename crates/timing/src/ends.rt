@@ -4,7 +4,7 @@ ghost use Rattle.frames.specs.Frames.{frame_at};
 ghost use Rattle.semantics.specs.Timing.{latest, rise};
 ghost use Rattle.timing.specs.Turns.{kind_at};
 
-use crate::clocks::{later, latest_at, waits_for_one};
+use crate::clocks::{latest_at, waits_for_one};
 use crate::turns::kind_at;
 use frames::{Frame, NONE, frame_or_zero};
 use semantics::Rise;
@@ -26,8 +26,7 @@ pub fn rise(clocks: &[u64], frames: &[Frame], first: u32, t: u64) -> Rise
 {
     let mut p = first;
     let mut clock = t;
-    let mut more = frame_or_zero(frames, first).depth;
-    while more > 0 {
+    for _ in 0..frame_or_zero(frames, first).depth {
         let q = frame_or_zero(frames, p).parent;
         let f = frame_or_zero(frames, q);
         if !waits_for_one(f) {
@@ -36,9 +35,8 @@ pub fn rise(clocks: &[u64], frames: &[Frame], first: u32, t: u64) -> Rise
         if f.returning != 1 {
             return stops_at(q, true, clock);
         }
-        clock = later(latest_at(clocks, q), clock);
+        clock = latest_at(clocks, q).max(clock);
         p = q;
-        more -= 1;
     }
     stops_at(NONE, false, clock)
 }

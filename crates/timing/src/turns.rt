@@ -19,19 +19,18 @@ pub fn kind_at(tape: &[u8], i: usize) -> u8
 }
 
 // The place of the frame that the i-th record's worker executes, whatever worker that is.
+#[tactic(auto, unfolding(frames::specs::Deques::bottom, frames::specs::Deques::place, frames::specs::Deques::size))]
 pub fn bottom_of(deques: &[u32], tape: &[u8], i: usize) -> u32
     requires { 8 * i + 8 ≤ length tape.now }
     ensures { result ≡ bottom deques.now (worker_at tape.now i) }
 {
     let at = DEQUE_STRIDE * (tape[8 * i + 1] as usize);
-    let n = words::word(deques, at) as usize;
-    if n == 0 {
-        return words::word(deques, at + 1);
-    }
-    words::word(deques, at + n)
+    let n = words::at_or(deques, at, 0) as usize;
+    words::at_or(deques, at + n.max(1), 0)
 }
 
 // The same of a worker that has a frame.
+#[tactic(auto, unfolding(frames::specs::Deques::bottom, frames::specs::Deques::place, frames::specs::Deques::size))]
 fn bottom_in(deques: &[u32], w: u8) -> u32
     requires { (length deques.now ≡ deque_words) × (w < max_workers) × (0 < size deques.now w) × (size deques.now w ≤ deque_places) }
     ensures { result ≡ bottom deques.now w }
@@ -46,14 +45,12 @@ pub fn turn_end(tape: &[u8], from: usize, records: usize) -> usize
     requires { (from ≤ records) × (8 * records ≤ length tape.now) }
     ensures { (from ≤ result) × (result ≤ records) × ((j : ℕ) → from ≤ j → j < result → 5 ≤ kind_at tape.now j) }
 {
-    let mut to = from;
-    while to < records {
+    for to in from..records {
         if kind_at(tape, to) < 5 {
             return to;
         }
-        to += 1;
     }
-    to
+    records
 }
 
 // A return's ends.
@@ -62,10 +59,7 @@ fn end_clocks(clocks: &mut [u64], r: Rise, t: Tally) -> Tally
     ensures { timing clocks.new result.work result.span ≡ ended (timing clocks.old t.work t.span) r }
 {
     if r.place == NONE {
-        return Tally {
-            work: t.work,
-            span: r.clock,
-        };
+        return Tally { span: r.clock, ..t };
     }
     hear(clocks, r.place, r.clock);
     if r.passes {
@@ -74,18 +68,8 @@ fn end_clocks(clocks: &mut [u64], r: Rise, t: Tally) -> Tally
     t
 }
 
-// A step that costs 1.
-fn costing(t: Tally) -> Tally
-    requires { t.work + 1 < 2 ^ 64 }
-    ensures { (result.work ≡ suc t.work) × (result.span ≡ t.span) }
-{
-    Tally {
-        work: t.work + 1,
-        span: t.span,
-    }
-}
-
 // What a step with these answer words, of the frame at p, does to the clocks.
+#[tactic(auto, unfolding(semantics::specs::Timing::timed_with))]
 pub fn time_first(
     clocks: &mut [u64],
     first: u32,
@@ -98,28 +82,26 @@ pub fn time_first(
     requires { RoomFor 1 clocks.old × (t.work + 1 < 2 ^ 64) × (105 ≤ first → suc (2 * p) < length clocks.old) × (first ≡ 102 → r.clock + 1 < 2 ^ 64) }
     ensures { timing clocks.new result.work result.span ≡ timed_with (first, second) p g r (timing clocks.old t.work t.span) }
 {
-    let more = costing(t);
-    if first >= 105 {
-        tick(clocks, p);
-        return more;
-    }
-    if first == 101 {
-        begin_child(clocks, p, g);
-        return more;
-    }
-    if first == 102 {
-        if second == 4 {
-            return t;
+    let more = t.costing();
+    match first {
+        105.. => {
+            tick(clocks, p);
+            more
         }
-        return end_clocks(clocks, r, t);
-    }
-    if first == 104 {
-        if second == 0 {
-            pass_sync(clocks, p);
+        101 => {
+            begin_child(clocks, p, g);
+            more
         }
-        return more;
+        102 if second == 4 => t,
+        102 => end_clocks(clocks, r, t),
+        104 => {
+            if second == 0 {
+                pass_sync(clocks, p);
+            }
+            more
+        }
+        _ => t,
     }
-    t
 }
 
 // The reads, writes and folds from the record `from` up to `to`, which are done: their deques are as they were. The work with theirs.
@@ -137,13 +119,11 @@ pub fn time_data(
     ensures { (span : ℕ) → timing clocks.new result span ≡ ticks_over deques.now tape.now answers.now from (to - from) (timing clocks.old work span) }
 {
     let mut total = work;
-    let mut i = from;
-    while i < to {
+    for i in from..to {
         if answers[2 * i] >= 100 {
             tick(clocks, bottom_in(deques, tape[8 * i + 1]));
             total += 1;
         }
-        i += 1;
     }
     total
 }

@@ -1,12 +1,12 @@
 -- R-1's promises about images, as R-6 changes them: what 17 and 18 refuse, and what saving and reading give together.
-use Rattle.std.specs.Prelude.{◌≡◌, ◌⊎◌, ◌≢◌, ◌↔◌, List, ◌++◌, ℕ, ◌+◌, ◌*◌, ◌<◌, ◌≤◌, length, take, drop}
+use Rattle.image.specs.declared.ImageError.TheVariants.{WrongLength, WrongCheck}
+use Rattle.std.specs.Prelude.{◌≡◌, ◌⊎◌, ◌≢◌, ◌↔◌, List, ◌++◌, ℕ, ◌+◌, ◌*◌, ◌<◌, ◌≤◌, length, take, drop, Err, Ok}
 use Rattle.std.proofs.Common.{ap, ◌∙◌, inl, inr, arith, take_at, drop_at, length-take-le}
 use Rattle.std.proofs.lemmas.List.{take-append-le}
 use Rattle.frames.specs.declared.Frame.{Frame}
 use Rattle.frames.specs.Widths.{max_places}
 use Rattle.soundness.specs.Numbers.{numbers_in}
 use Rattle.soundness.proofs.Theory.Facts.{FramesFacts}
-use Rattle.image.specs.declared.ImageCheck.TheVariants.{WrongLength, WrongCheck, Good}
 use Rattle.image.specs.Widths.{block_bytes, version, version_step}
 use Rattle.image.specs.Image.{node_count, place_count, versioned, deques_for, table_words, as_blocks, image_of, image_bytes, first_in, nodes_in, places_in, blocks_called, image_check, number_words_in, deques_in, frames_in, pool_in, Lengths, ZeroPast, stored, IsRead}
 use Rattle.image.proofs.Theory.Bytes.{Bytes}
@@ -20,16 +20,16 @@ use Rattle.soundness.specs.Layout.{Layout}
 module _ (L : Layout) (low_version : L.version ≤ 4) where
   -- "17, the image is not just as many whole blocks as its first block calls for, or has no whole block"; "A first word of no readable
   -- form gives 17."
-  pub refused_17 : (image : List ℕ) → (image_check L image ≡ WrongLength)
+  pub refused_17 : (image : List ℕ) → (image_check L image ≡ (Err WrongLength))
       ↔ ((length image < block_bytes) ⊎ (first_in image < version L) ⊎ (version L + version_step ≤ first_in image) ⊎ (length image ≢ block_bytes * blocks_called L image))
   refused_17 image = refused.when_17 L low_version image
 
   -- "Each later change of the image adds 256 again and reads only its own form": images of the three forms before are refused
-  pub refused_before : (image : List ℕ) → first_in image < version L → image_check L image ≡ WrongLength
+  pub refused_before : (image : List ℕ) → first_in image < version L → image_check L image ≡ (Err WrongLength)
   refused_before image h = (refused_17 image).1 (inr (inl h))
 
   -- "18, a check is wrong or the rest of the last block is not zero", where 17 does not refuse it
-  pub refused_18 : (image : List ℕ) → (image_check L image ≡ WrongCheck) ↔ (RightLength L low_version image × (SomeCheckWrong L low_version image ⊎ RestNotZero L low_version image))
+  pub refused_18 : (image : List ℕ) → (image_check L image ≡ (Err WrongCheck)) ↔ (RightLength L low_version image × (SomeCheckWrong L low_version image ⊎ RestNotZero L low_version image))
   refused_18 image = refused.when_18 L low_version image
 
   -- in a sound state the deque places past the table's length are zero
@@ -69,7 +69,7 @@ module _ (L : Layout) (low_version : L.version ≤ 4) where
           )
 
   -- an image that 17 and 18 do not refuse
-  module _ (image : List ℕ) (good : image_check L image ≡ Good) where
+  module _ (image : List ℕ) (good : image_check L image ≡ (Ok tt)) where
     pub whole_block : block_bytes ≤ length image
     whole_block = round.good_whole L low_version image good
 

@@ -1,5 +1,7 @@
 -- When an image is refused by 17 and by 18.
-use Rattle.std.specs.Prelude.{◌≡◌, true, cond, not, ◌||◌, ◌⊎◌, ◌≢◌, ◌↔◌, length, get_or, take, drop, ltb}
+use Rattle.image.specs.Image.{ImageCheck}
+use Rattle.image.specs.declared.ImageError.TheVariants.{WrongLength, WrongCheck}
+use Rattle.std.specs.Prelude.{◌≡◌, true, cond, not, ◌||◌, ◌⊎◌, ◌≢◌, ◌↔◌, length, get_or, take, drop, ltb, Err, Ok}
 use Rattle.std.proofs.Math.Path.{refl, sym, subst}
 use Rattle.std.proofs.Common.{ap, ◌∙◌, take-take, drop-drop}
 use Rattle.std.proofs.Math.Bool.{Bool, false}
@@ -10,8 +12,6 @@ use native.Mathlib.Omega.{arith}
 use Rattle.std.proofs.Math.Dec.{eqb}
 use borrow.Author.Tests.{eq-eqb, ne_eqb, eqb-true, eqb-false, lt-ltb, le-ltb, ltb-true, ltb-false}
 use Rattle.words.specs.Tests.{decided, neither, not-false, true≢false}
-use Rattle.image.specs.declared.ImageCheck.{ImageCheck}
-use Rattle.image.specs.declared.ImageCheck.TheVariants.{WrongLength, WrongCheck, Good}
 use Rattle.image.specs.Widths.{block_bytes, data_bytes, version, version_step}
 use Rattle.image.specs.Image.{word_at, check, first_in, no_form, blocks_called, wrong_length, checks_hold, all_zero, rest_of, wrong_check, image_check}
 use Rattle.image.proofs.Theory.Version.{Readable}
@@ -139,11 +139,11 @@ module _ (L : Layout) (low_version : L.version ≤ 4) where
 
     -- what each answer says of the two tests
     abbrev pub Means : ImageCheck → Type 0
-    Means WrongLength = wrong_length L image ≡ true
-    Means WrongCheck = (wrong_length L image ≡ false) × (wrong_check L image ≡ true)
-    Means Good = (wrong_length L image ≡ false) × (wrong_check L image ≡ false)
+    Means (Err WrongLength) = wrong_length L image ≡ true
+    Means (Err WrongCheck) = (wrong_length L image ≡ false) × (wrong_check L image ≡ true)
+    Means (Ok _) = (wrong_length L image ≡ false) × (wrong_check L image ≡ false)
 
-    tested : (a b : Bool) → wrong_length L image ≡ a → wrong_check L image ≡ b → Means (cond a WrongLength (cond b WrongCheck Good))
+    tested : (a b : Bool) → wrong_length L image ≡ a → wrong_check L image ≡ b → Means (cond a (Err WrongLength) (cond b (Err WrongCheck) (Ok tt)))
     tested true b ea eb = ea
     tested false true ea eb = (ea, eb)
     tested false false ea eb = (ea, eb)
@@ -169,10 +169,10 @@ module _ (L : Layout) (low_version : L.version ≤ 4) where
         let z : all_zero (rest_of L image) ≡ false = byte_some (rest_of L image) w.0 w.1 in
         elim (decided (checks_hold (blocks_called L image) image)) [ inl c ↦ rw (c, z) | inr c ↦ rw c ]
 
-    pub when_17 : (image_check L image ≡ WrongLength) ↔ NotRightLength image
+    pub when_17 : (image_check L image ≡ (Err WrongLength)) ↔ NotRightLength image
     unfolding image_check
-    when_17 = (λ e. wrong_length_lem (means WrongLength e), λ h. rw (length_wrong h))
+    when_17 = (λ e. wrong_length_lem (means (Err WrongLength) e), λ h. rw (length_wrong h))
 
-    pub when_18 : (image_check L image ≡ WrongCheck) ↔ (RightLength image × (SomeCheckWrong image ⊎ RestNotZero image))
+    pub when_18 : (image_check L image ≡ (Err WrongCheck)) ↔ (RightLength image × (SomeCheckWrong image ⊎ RestNotZero image))
     unfolding image_check
-    when_18 = (λ e. (length-right (means WrongCheck e).0, which_18 (means WrongCheck e).1), λ h. rw (right-length h.0, one_18 h.1))
+    when_18 = (λ e. (length-right (means (Err WrongCheck) e).0, which_18 (means (Err WrongCheck) e).1), λ h. rw (right-length h.0, one_18 h.1))

@@ -1,5 +1,5 @@
 -- Reading what was written gives the same words; an accepted image written again is the same image.
-use Rattle.std.specs.Prelude.{◌≡◌, false, not, take, drop, replicate, eqb}
+use Rattle.std.specs.Prelude.{◌≡◌, false, not, take, drop, replicate, eqb, Ok}
 use Rattle.std.proofs.Math.Path.{refl, ap, ap₂}
 use Rattle.std.proofs.Common.{sym, subst, ◌∙◌, length-append, length-set, length-drop, take-append-drop, take_at, drop_at, get_or-take, take-add, take-take, eqb-true}
 use Rattle.std.proofs.Math.Bool.{true}
@@ -13,7 +13,6 @@ use Rattle.words.specs.Tests.{both, neither, not-false}
 use Rattle.frames.specs.declared.Frame.{Frame}
 use Rattle.frames.specs.Widths.{max_workers, max_places, record_words}
 use Rattle.soundness.specs.Numbers.{number_count}
-use Rattle.image.specs.declared.ImageCheck.TheVariants.{Good}
 use Rattle.image.specs.Widths.{deques_words, state_words, words_for}
 use Rattle.image.specs.Image.{node_count, place_count, versioned, deques_for, table_words, bytes_of, words_of, blocks_of, blocks_for, filled, as_blocks, first_in, nodes_in, places_in, words_called, blocks_called, wrong_length, data_of, checks_hold, all_zero, rest_of, wrong_check, image_check, words_in, lent_deques, records_in, number_words_in, deques_in, frames_in, pool_in, Lengths}
 use Rattle.image.proofs.Theory.Version.{Readable, nodes-unversioned, places_unversioned, version_on}
@@ -117,7 +116,7 @@ module _ (L : Layout) (low_version : L.version ≤ 4) where
             let c : checks_hold (blocks_called L (as_blocks W)) (as_blocks W) ≡ true = ap₂ checks_hold (ap blocks_for size) blocks ∙ checks_back (blocks_for w) (bytes_of (filled (blocks_for w) W)) fit in
             rw (c, rest)
 
-        accepted : image_check L (as_blocks W) ≡ Good
+        accepted : image_check L (as_blocks W) ≡ (Ok tt)
         unfolding image_check
         accepted = rw (not_17, not_18)
 
@@ -180,7 +179,7 @@ module _ (L : Layout) (low_version : L.version ≤ 4) where
         form_parts = subst (Readable L low_version) (sym (number_first 0 (omega arith))) form
 
         -- 17 and 18 do not refuse it,
-        pub parts-accepted : image_check L (as_blocks (ns ++ ds ++ fs ++ ks)) ≡ Good
+        pub parts-accepted : image_check L (as_blocks (ns ++ ds ++ fs ++ ks)) ≡ (Ok tt)
         parts-accepted = accepted parts size length-parts (omega arith) all form_parts called
 
         abbrev tail : List ℕ
@@ -224,7 +223,7 @@ module _ (L : Layout) (low_version : L.version ≤ 4) where
   below_data zero image h = λ i. omega arith
   below_data (suc n) image h = below-append 256 (take 508 image) (data_of n (drop 512 image)) (below-take 256 508 image (omega arith) h) (below_data n (drop 512 image) (below-drop 256 512 image h))
 
-  module _ (image : List ℕ) (good : image_check L image ≡ Good) where
+  module _ (image : List ℕ) (good : image_check L image ≡ (Ok tt)) where
     abbrev n : ℕ
     n = blocks_called L image
 
@@ -232,7 +231,7 @@ module _ (L : Layout) (low_version : L.version ≤ 4) where
     w = words_called L image
 
     good_right : RightLength L low_version image
-    good_right = length-right L low_version image (means L low_version image Good good).0
+    good_right = length-right L low_version image (means L low_version image (Ok tt) good).0
 
     pub good_length : length image ≡ 512 * n
     good_length = good_right.long
@@ -243,7 +242,7 @@ module _ (L : Layout) (low_version : L.version ≤ 4) where
     good_checks_rest : (checks_hold n image ≡ true) × (all_zero (rest_of L image) ≡ true)
     unfolding wrong_check
     good_checks_rest =
-        let e = neither (not (checks_hold n image)) (not (all_zero (rest_of L image))) (means L low_version image Good good).1 in
+        let e = neither (not (checks_hold n image)) (not (all_zero (rest_of L image))) (means L low_version image (Ok tt) good).1 in
         (not-false (checks_hold n image) e.0, not-false (all_zero (rest_of L image)) e.1)
 
     length_d : length (data_of n image) ≡ 4 * (127 * n)

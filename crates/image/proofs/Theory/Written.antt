@@ -1,12 +1,11 @@
 -- An image as it is written: its length, what it says, and an accepted image written again.
-use Rattle.std.specs.Prelude.{◌≡◌, List, ◌++◌, ℕ, ◌*◌, ◌<◌, ◌≤◌, length, get_or, take}
+use Rattle.std.specs.Prelude.{◌≡◌, List, ◌++◌, ℕ, ◌*◌, ◌<◌, ◌≤◌, length, get_or, take, Ok}
 use Rattle.std.proofs.Common.{sym, ap, ap₂, ◌∙◌, arith, length-take-le}
 use Rattle.words.specs.Below.{Words, Bytes, below-take, below-append}
 use Rattle.frames.specs.declared.Frame.{Frame}
 use Rattle.frames.specs.Widths.{max_workers, max_places, record_words}
 use Rattle.frames.specs.Deques.{place}
 use Rattle.frames.proofs.Theory.RecordWords.{RecordWords}
-use Rattle.image.specs.declared.ImageCheck.TheVariants.{Good}
 use Rattle.image.specs.Widths.{deques_words, state_words, words_for, version_step}
 use Rattle.image.specs.Image.{node_count, place_count, versioned, deques_for, table_words, image_words, bytes_of, blocks_of, filled, as_blocks, image_of, image_blocks, image_bytes, nodes_in, places_in, words_called, image_check, words_in, unversioned, number_words_in, records_in, deques_in, frames_in, pool_in, Lengths, ZeroPast}
 use Rattle.image.proofs.Theory.Version.{Readable, length-versioned, nodes-versioned, places_versioned, words-versioned, first-versioned, version_off}
@@ -17,7 +16,7 @@ use Rattle.soundness.specs.Layout.{Layout}
 module _ (L : Layout) (low_version : L.version ≤ 4) where
   -- an image says just this
   pub record Says (image ns ds : List ℕ) (fs : List Frame) (ws : List ℕ) : Type 0 where
-    pub good : image_check L image ≡ Good
+    pub good : image_check L image ≡ (Ok tt)
     pub nodes : nodes_in image ≡ node_count ns
     pub places : places_in image ≡ place_count ns
     pub numbers : number_words_in L image ≡ ns
@@ -101,7 +100,7 @@ module _ (L : Layout) (low_version : L.version ≤ 4) where
 
   -- ---- an accepted image, written again
 
-  module _ (image : List ℕ) (good : image_check L image ≡ Good) (most : places_in image ≤ max_places) where
+  module _ (image : List ℕ) (good : image_check L image ≡ (Ok tt)) (most : places_in image ≤ max_places) where
     words-written : image_words L (number_words_in L image) (deques_in L image) (frames_in L image) (pool_in L image) ≡ take (words_called L image) (words_in L image)
     words-written =
         ap₂ (λ (n k : ℕ). versioned L (number_words_in L image) ++ deques_for k (deques_in L image) ++ table_words (frames_in L image) ++ take (L.words * n) (pool_in L image)) (good_nodes L low_version image good) (good_places L low_version image good)

@@ -1,6 +1,7 @@
 -- R-5: "Once Main has returned, each total is the identity joined with the values folded into its reducer, in the order of Main's child-first list, as in the
 -- one-worker run. Only then splitrun prints" the totals. Its test, of the answer words, is that a return of the run was answered with outcome 3, and
 -- what it prints then are those totals.
+use Rattle.model.specs.Record.{Decoded}
 use Rattle.std.specs.Prelude.{◌≡◌, refl, true, List, [], ◌∷◌, ℕ, suc, ◌+◌, ◌*◌, ◌/◌, length, get_or, drop, replicate, eqb}
 use Rattle.std.proofs.Common.{sym, ap, ◌∙◌, inl, inr, arith, add-one, eqb-true, eq-eqb}
 use mathlib.Core.List.Memᴰ.{cases_cons as In-cons}
@@ -11,7 +12,6 @@ use mathlib.Core.List.{Memᴰ as In}
 use Rattle.std.proofs.lemmas.List.{length-replicate}
 use Rattle.words.specs.Below.{Words, Bytes}
 use Rattle.words.specs.Tests.{true≢false, both, decided}
-use Rattle.model.specs.declared.Decoded.{Decoded}
 use Rattle.model.specs.Views.{main_folds}
 use Rattle.semantics.specs.Entries.{zeros, totals_of, whole_nodes, records_of}
 use Rattle.semantics.specs.Calls.{Start, start_result, tape, after_start, tape_result, Call, call, exchanges_from, answers_in}

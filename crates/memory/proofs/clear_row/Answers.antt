@@ -1,23 +1,20 @@
-use Rattle.std.proofs.Common.{◌≡◌, List, ℕ, suc, ◌+◌, ◌-◌, ◌≤◌, ◌<◌, set, sym, ap, ◌∙◌, arith}
-use Rattle.memory.specs.Memory.{zeroed_from, max_splitters, row_at}
+-- Zeros stored one after the other are a run of zeros.
+use Rattle.std.proofs.Common.{◌≡◌, List, ℕ, zero, suc, ◌+◌, ◌≤◌, ◌++◌, length, set, take, drop, replicate, refl, sym, ◌∙◌, length-take, length-drop, drop-drop, append_assoc, arith}
+use Rattle.std.proofs.lemmas.List.{length-replicate}
+use Rattle.std.proofs.lemmas.List.Edits.{sets, sets-eq}
+use Rattle.memory.specs.Memory.{zeroed_from, row_at}
 use Rattle.memory.proofs.clear_row.Goals as goal
 
-one_less : (ms : List ℕ) (first i : ℕ) → i < max_splitters → zeroed_from (max_splitters - (i + 1)) (set ms (first + i) 0) (first + (i + 1)) ≡ zeroed_from (max_splitters - i) ms (first + i)
+zeros_in_turn : (c : ℕ) (ms : List ℕ) (i : ℕ) → zeroed_from c ms i ≡ sets ms i (replicate c 0)
 unfolding zeroed_from
-one_less ms first i h =
-    let left : max_splitters - i ≡ suc (max_splitters - (i + 1)) = omega arith in
-    let next : first + (i + 1) ≡ suc (first + i) = omega arith in
-    rw (left, next)
+zeros_in_turn zero ms i = refl
+zeros_in_turn (suc c) ms i = zeros_in_turn c (set ms i 0) (suc i)
 
-none_left : (ms : List ℕ) (first i : ℕ) → max_splitters ≤ i → zeroed_from (max_splitters - i) ms (first + i) ≡ ms
-unfolding zeroed_from
-none_left ms first i h = (let e : max_splitters - i ≡ 0 = omega arith in rw e)
-
-pub loop-i-init : goal.loop-i-init
-loop-i-init c = ap (zeroed_from max_splitters c.args.memory.now) (omega arith)
-
-pub loop-i-preserved : goal.loop-i-preserved
-loop-i-preserved c = one_less c.loop-i.memory (row_at c.args.w) c.loop-i.i c.loop-i-test.true ∙ c.loop-i.invariant
+part_filled : (ms row : List ℕ) (i c k : ℕ) → k ≡ c → i + c ≤ length ms → row ≡ replicate (length (take k (drop i ms))) 0 → take i ms ++ (row ++ drop k (drop i ms)) ≡ zeroed_from c ms i
+part_filled ms row i c k e h f =
+    let n : length (take k (drop i ms)) ≡ c = omega (arith, length-take k (drop i ms), length-drop i ms) in
+    let r : length {A = ℕ} (replicate c 0) ≡ c = length-replicate c 0 in
+    sym (zeros_in_turn c ms i ∙ sets-eq (replicate c 0) ms i (omega (arith, r)) ∙ rw (f, n, r, e, drop-drop c i ms) (append_assoc (take i ms) (replicate c 0) (drop (i + c) ms)))
 
 pub returns : goal.returns
-returns c = sym (none_left c.loop-i.memory (row_at c.args.w) c.loop-i.i c.loop-i-test.false) ∙ c.loop-i.invariant
+returns c = part_filled c.args.memory.now c.fill.new.self (row_at c.args.w) 256 _ (omega arith) (omega (arith, c.told-memory, c.requires)) (c.fill.ensures.after (λ y e. e))

@@ -1,9 +1,7 @@
 -- Records, as bytes, to steps.
-use Rattle.std.specs.Prelude.{◌≡◌, refl, List, [], ◌∷◌, map, ℕ}
+use Rattle.std.specs.Prelude.{◌≡◌, refl, List, [], ◌∷◌, map, ℕ, None, Some}
 use Rattle.model.specs.declared.Step.TheVariants.{Steal, Write, Fold}
-use Rattle.model.specs.declared.Decoded.{Decoded}
-use Rattle.model.specs.declared.Decoded.TheVariants.{Valid, Invalid}
-use Rattle.model.specs.Record.{record_of, decode_at}
+use Rattle.model.specs.Record.{Decoded, record_of, decode_at}
 use Rattle.model.specs.Examples.Tape.{tape}
 
 -- document 01's tape
@@ -20,7 +18,7 @@ bytes =
     ∷ 2 ∷ 0 ∷ 0 ∷ 0 ∷ 0 ∷ 0 ∷ 0 ∷ 0
     ∷ []
 
-decoded : map (decode_at bytes) (0 ∷ 8 ∷ 16 ∷ 24 ∷ 32 ∷ 40 ∷ 48 ∷ 56 ∷ 64 ∷ []) ≡ map Valid tape
+decoded : map (decode_at bytes) (0 ∷ 8 ∷ 16 ∷ 24 ∷ 32 ∷ 40 ∷ 48 ∷ 56 ∷ 64 ∷ []) ≡ map Some tape
 unfolding bytes record_of decode_at
 decoded = refl
 
@@ -28,7 +26,7 @@ abbrev record8 : List ℕ → Decoded
 record8 bs = decode_at bs 0
 
 -- "little-endian": splitter 258 and value 16909060, victim 258
-wide : map record8 ((6 ∷ 255 ∷ 2 ∷ 1 ∷ 4 ∷ 3 ∷ 2 ∷ 1 ∷ []) ∷ (3 ∷ 1 ∷ 2 ∷ 1 ∷ 0 ∷ 0 ∷ 0 ∷ 0 ∷ []) ∷ (7 ∷ 1 ∷ 2 ∷ 0 ∷ 4 ∷ 3 ∷ 2 ∷ 1 ∷ []) ∷ []) ≡ Valid (Write 255 258 16909060) ∷ Valid (Steal 1 258) ∷ Valid (Fold 1 2 16909060) ∷ []
+wide : map record8 ((6 ∷ 255 ∷ 2 ∷ 1 ∷ 4 ∷ 3 ∷ 2 ∷ 1 ∷ []) ∷ (3 ∷ 1 ∷ 2 ∷ 1 ∷ 0 ∷ 0 ∷ 0 ∷ 0 ∷ []) ∷ (7 ∷ 1 ∷ 2 ∷ 0 ∷ 4 ∷ 3 ∷ 2 ∷ 1 ∷ []) ∷ []) ≡ Some (Write 255 258 16909060) ∷ Some (Steal 1 258) ∷ Some (Fold 1 2 16909060) ∷ []
 unfolding record_of decode_at
 wide = refl
 
@@ -49,6 +47,6 @@ none_of_these =
     ∷ (6 ∷ 1 ∷ 4 ∷ 0 ∷ 99 ∷ 0 ∷ 0 ∷ [])
     ∷ []
 
-invalid : map record8 none_of_these ≡ map (λ bs. Invalid) none_of_these
+invalid : map record8 none_of_these ≡ map (λ bs. None) none_of_these
 unfolding none_of_these record_of decode_at
 invalid = refl

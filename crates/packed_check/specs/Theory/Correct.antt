@@ -1,7 +1,7 @@
 -- The check's answer is the definition's, and the check leaves the length and the words from N on.
-use Rattle.std.specs.Prelude.{◌≡◌, refl, Bool, true, false, cond, not, ◌||◌, ◌&&◌, List, ℕ, ◌+◌, ◌-◌, ◌*◌, ◌≤◌, ◌<◌, eqb, leb, length, get_or}
+use Rattle.std.specs.Prelude.{◌≡◌, refl, Bool, true, false, cond, not, ◌||◌, ◌&&◌, List, ℕ, ◌+◌, ◌-◌, ◌*◌, ◌≤◌, ◌<◌, eqb, leb, length, get_or, None, Some}
 use Rattle.std.proofs.Common.{sym, ap, ◌∙◌, inl, inr, arith, leb-true, eqb-true, eq-eqb, ne_eqb}
-use Rattle.std.proofs.Math.Bool.{or-false, and-false}
+use Rattle.std.proofs.Math.Bool.{or-false}
 use Rattle.words.specs.Basics.{count, all, how_many, below}
 use Rattle.words.specs.Counting.{sum_cong, sum_add, sum_const, all_at, all_of}
 use Rattle.words.specs.Loops.{count-sum}
@@ -13,15 +13,14 @@ use Rattle.frames.specs.Widths.{max_places}
 use Rattle.soundness.specs.PackedTrees.{trees_at, is_reached, holders, free_nodes, node_sound}
 use Rattle.soundness.specs.Layout.{two_words, pool_sound}
 use Rattle.soundness.specs.Soundness.{live_roots, cleared}
-use Rattle.pool_check.specs.Algorithm.{mark, links, fresh, unvisited}
-use Rattle.pool_check.specs.Theory.Ways.{Keeps, keeps_refl, keeps_trans}
-use Rattle.pool_check.specs.Theory.Cleared.{clear_no, clear_keeps, clear_same, clear_zeros}
+use Rattle.pool_check.specs.Algorithm.{mark, links, fresh, unvisited, visit_places, node_right, chain_from, settle, run_check}
+use Rattle.pool_check.specs.Theory.Kept.{run_work}
+use Rattle.pool_check.specs.Theory.Cleared.{clear_keeps, clear_zeros}
 use Rattle.pool_check.specs.Theory.FreeList.{unvisited_le}
-use Rattle.packed_check.specs.declared.PoolChecked.TheVariants.{Bad, Good}
-use Rattle.packed_check.specs.Answer.{in_bounds, pool_checked}
-use Rattle.packed_check.specs.Algorithm.{visit_places, node_right, chain_from, settle, run_check}
-use Rattle.packed_check.specs.Theory.Ways.{settle_off, settle_on, run_out, run_off, run_on_lem}
-use Rattle.packed_check.specs.Theory.Places.{places_keeps, on_one_level, places_tree, Tallied, places_tallied}
+use Rattle.pool_check.specs.Answer.{in_bounds, pool_checked}
+use Rattle.packed_check.specs.TwoWords.{two}
+use Rattle.pool_check.specs.Theory.Ways.{settle_off, settle_on, run_out, run_off, run_on_lem}
+use Rattle.packed_check.specs.Theory.Places.{on_one_level, places_tree, Tallied, places_tallied}
 use Rattle.packed_check.specs.Theory.FreeList.{chain_sound, chain_complete, chained, chained-length, vacants}
 
 -- ---- one node: is it reached; its holders, its places on the chain; its mark, its links counted, its reference count
@@ -64,42 +63,42 @@ module _ (n N : ℕ) (ws rs w : List ℕ) (few : N ≤ 16384) (tally : Tallied n
   chain = free_nodes N ws first
 
   -- node i, by the definition and by the algorithm
-  sound_at : (i : ℕ) → i < N → node_right ws w i ≡ true → count i chain ≡ fresh w i → node_sound n N ws first rs i ≡ true
+  sound_at : (i : ℕ) → i < N → node_right two ws w i ≡ true → count i chain ≡ fresh w i → node_sound n N ws first rs i ≡ true
   unfolding node_right
   sound_at i b = node-sound (is_reached n ws rs i) (holders n N ws rs i) (count i chain) (mark w i) (links w i) (refcount ws i) (tally.marks i b) (tally.counts i b)
 
-  right_at : (i : ℕ) → i < N → node_sound n N ws first rs i ≡ true → (node_right ws w i ≡ true) × (count i chain ≡ fresh w i)
+  right_at : (i : ℕ) → i < N → node_sound n N ws first rs i ≡ true → (node_right two ws w i ≡ true) × (count i chain ≡ fresh w i)
   unfolding node_right
   right_at i b = node-right (is_reached n ws rs i) (holders n N ws rs i) (count i chain) (mark w i) (links w i) (refcount ws i) (tally.marks i b) (tally.counts i b)
 
-  settle-sound : all N (node_right ws w) ≡ true → chain_from N ws w (unvisited N w) first ≡ true → (pool_sound two_words n N ws first rs ≡ true) × (length chain ≡ unvisited N w)
+  settle-sound : all N (node_right two ws w) ≡ true → chain_from two N ws w (unvisited N w) first ≡ true → (pool_sound two_words n N ws first rs ≡ true) × (length chain ≡ unvisited N w)
   unfolding pool_sound
   settle-sound a f =
       let C = chained N w chain (chain_sound N ws w few (unvisited N w) N first (unvisited_le N w) f) in (
-        rw (t, o, C.within) (all_of N (node_sound n N ws first rs) (λ i b. sound_at i b (all_at N (node_right ws w) a i b) (C.once i b))),
+        rw (t, o, C.within) (all_of N (node_sound n N ws first rs) (λ i b. sound_at i b (all_at N (node_right two ws w) a i b) (C.once i b))),
         chained-length N w chain C,
       )
 
-  settle_complete : pool_sound two_words n N ws first rs ≡ true → (all N (node_right ws w) ≡ true) × (chain_from N ws w (unvisited N w) first ≡ true)
+  settle_complete : pool_sound two_words n N ws first rs ≡ true → (all N (node_right two ws w) ≡ true) × (chain_from two N ws w (unvisited N w) first ≡ true)
   unfolding pool_sound
   settle_complete s =
       let p = both (below N chain) (all N (node_sound n N ws first rs)) (both (on_one_level n N ws rs) _ (both (trees_at n N ws rs) _ s).1).1 in
-      let nodes : (i : ℕ) → i < N → (node_right ws w i ≡ true) × (count i chain ≡ fresh w i) = λ i b. right_at i b (all_at N (node_sound n N ws first rs) p.1 i b) in (
-        all_of N (node_right ws w) (λ i b. (nodes i b).0),
+      let nodes : (i : ℕ) → i < N → (node_right two ws w i ≡ true) × (count i chain ≡ fresh w i) = λ i b. right_at i b (all_at N (node_sound n N ws first rs) p.1 i b) in (
+        all_of N (node_right two ws w) (λ i b. (nodes i b).0),
         chain_complete N ws w few (unvisited N w) N first (unvisited_le N w) (vacants N w chain (record { within = p.0; once = λ i b. (nodes i b).1 })),
       )
 
-  settle-answer : settle N ws first w ≡ cond (pool_sound two_words n N ws first rs) (Good (length chain)) Bad
+  settle-answer : settle two N ws first w ≡ cond (pool_sound two_words n N ws first rs) (Some (length chain)) None
   settle-answer = elim (decided (pool_sound two_words n N ws first rs)) [
     | inl s ↦ (
         let p = settle_complete s in
-        rw (s, settle_on N ws first w p.0, p.1) (ap Good (sym (settle-sound p.0 p.1).1)))
-    | inr s ↦ elim (decided (all N (node_right ws w))) [
-      | inl a ↦ elim (decided (chain_from N ws w (unvisited N w) first)) [
+        rw (s, settle_on two N ws first w p.0, p.1) (ap Some (sym (settle-sound p.0 p.1).1)))
+    | inr s ↦ elim (decided (all N (node_right two ws w))) [
+      | inl a ↦ elim (decided (chain_from two N ws w (unvisited N w) first)) [
         | inl b ↦ absurd (true≢false (sym (settle-sound a b).0 ∙ s))
-        | inr b ↦ rw (s, settle_on N ws first w a, b)
+        | inr b ↦ rw (s, settle_on two N ws first w a, b)
       ]
-      | inr a ↦ rw (s, settle_off N ws first w a)
+      | inr a ↦ rw (s, settle_off two N ws first w a)
     ]
   ]
 
@@ -112,49 +111,34 @@ no_trees n N ws rs first t = elim (decided (trees_at n N ws rs)) [
   | inr e ↦ rw e
 ]
 
-pub run_keeps : (n N first : ℕ) (fs : List Frame) (ws w : List ℕ) → Keeps N w (run_check n N first fs ws w).0
-run_keeps n N first fs ws w = elim (decided (in_bounds n N ws w)) [
-  | inl e ↦ elim (decided (visit_places n (height n) N fs ws (length fs) w).1) [
-    | inl t ↦ rw (run_on_lem n N first fs ws w e t) (places_keeps n N fs ws (length fs) w)
-    | inr t ↦ rw (run_off n N first fs ws w e t) (places_keeps n N fs ws (length fs) w)
-  ]
-  | inr e ↦ rw (run_out n N first fs ws w e) keeps_refl
-]
-
-pub run-answer : (n N first : ℕ) (fs : List Frame) (ws w : List ℕ) → length fs ≤ max_places → (N ≤ length w → (x : ℕ) → x < N → get_or w x 0 ≡ 0) → (run_check n N first fs ws w).1 ≡ pool_checked n N first fs ws w
+pub run-answer : (n N first : ℕ) (fs : List Frame) (ws w : List ℕ) → length fs ≤ max_places → (N ≤ length w → (x : ℕ) → x < N → get_or w x 0 ≡ 0) → (run_check two n N first fs ws w).1 ≡ pool_checked two_words n N first fs ws w
 unfolding pool_checked
-run-answer n N first fs ws w table zeros = elim (decided (in_bounds n N ws w)) [
+run-answer n N first fs ws w table zeros = elim (decided (in_bounds two_words n N ws w)) [
   | inl e ↦ (
       let p = both (leb n 256) _ e in
       let q = both (leb N 16384) _ p.1 in
       let small : n ≤ 256 = leb-true n 256 p.0 in
       let few : N ≤ 16384 = leb-true N 16384 q.0 in
       let long : N ≤ length w = leb-true N (length w) (both (leb (2 * N) (length ws)) _ q.1).1 in
-      let is : (visit_places n (height n) N fs ws (length fs) w).1 ≡ trees_at n N ws (live_roots fs) && on_one_level n N ws (live_roots fs) = places_tree n N fs ws w table small few long (zeros long) in
+      let is : (visit_places two n (height n) N fs ws (length fs) w).1 ≡ trees_at n N ws (live_roots fs) && on_one_level n N ws (live_roots fs) = places_tree n N fs ws w table small few long (zeros long) in
       elim (decided (trees_at n N ws (live_roots fs) && on_one_level n N ws (live_roots fs))) [
         | inl t ↦ (
             let s = both (trees_at n N ws (live_roots fs)) (on_one_level n N ws (live_roots fs)) t in
-            rw (e, run_on_lem n N first fs ws w e (is ∙ t))
-            (settle-answer n N ws (live_roots fs) (visit_places n (height n) N fs ws (length fs) w).0 few (places_tallied n N fs ws w table small few long (zeros long) (is ∙ t)) s.0 s.1 first))
-        | inr t ↦ rw (e, run_off n N first fs ws w e (is ∙ t), no_trees n N ws (live_roots fs) first t)
+            rw (e, run_on_lem two n N first fs ws w e (is ∙ t))
+            (settle-answer n N ws (live_roots fs) (visit_places two n (height n) N fs ws (length fs) w).0 few (places_tallied n N fs ws w table small few long (zeros long) (is ∙ t)) s.0 s.1 first))
+        | inr t ↦ rw (e, run_off two n N first fs ws w e (is ∙ t), no_trees n N ws (live_roots fs) first t)
       ])
-  | inr e ↦ rw (run_out n N first fs ws w e, e)
+  | inr e ↦ rw (run_out two n N first fs ws w e, e)
 ]
 
 -- ---- from any work slice
 
-pub check-answer : (n N first : ℕ) (fs : List Frame) (ws w : List ℕ) → length fs ≤ max_places → (run_check n N first fs ws (cleared N w)).1 ≡ pool_checked n N first fs ws w
+pub check-answer : (n N first : ℕ) (fs : List Frame) (ws w : List ℕ) → length fs ≤ max_places → (run_check two n N first fs ws (cleared N w)).1 ≡ pool_checked two_words n N first fs ws w
 unfolding pool_checked
 check-answer n N first fs ws w table = run-answer n N first fs ws (cleared N w) table (λ h x b. clear_zeros N w x (omega (arith, (clear_keeps N w).size)) b) ∙ rw (clear_keeps N w).size
 
-pub check_work : (n N first : ℕ) (fs : List Frame) (ws w : List ℕ) → cleared N (run_check n N first fs ws (cleared N w)).0 ≡ cleared N w
-check_work n N first fs ws w = elim (decided (leb N (length w))) [
-  | inl e ↦ clear_same N w (run_check n N first fs ws (cleared N w)).0 (leb-true N (length w) e) (keeps_trans (clear_keeps N w) (run_keeps n N first fs ws (cleared N w)))
-  | inr e ↦ rw (clear_no N w e, run_out n N first fs ws w (out e)) (clear_no N w e)
-]
-  where
-    out : leb N (length w) ≡ false → in_bounds n N ws w ≡ false
-    out e = rw (e, and-false (leb (2 * N) (length ws)), and-false (leb N 16384), and-false (leb n 256))
+pub check_work : (n N first : ℕ) (fs : List Frame) (ws w : List ℕ) → cleared N (run_check two n N first fs ws (cleared N w)).0 ≡ cleared N w
+check_work = run_work two
 
 -- ---- the free nodes and the nodes reached are all nodes
 

@@ -16,12 +16,12 @@ use Rattle.frames.specs.Widths.{max_places}
 use Rattle.frames.specs.Frames.{frame_at}
 use Rattle.soundness.specs.PackedTrees.{tree_at, trees_at, nodes_on, reached_on, is_on, levels_of, is_reached, is_inner, holders}
 use Rattle.soundness.specs.Soundness.{lives, roots_below, live_roots}
-use Rattle.pool_check.specs.Algorithm.{mark, links}
-use Rattle.pool_check.specs.Theory.Ways.{Keeps, keeps_refl, keeps_trans}
+use Rattle.pool_check.specs.Algorithm.{mark, links, visit_place, visit_places}
+use Rattle.pool_check.specs.Theory.Kept.{places_keeps}
 use Rattle.pool_check.specs.Theory.Shape.{Fits}
 use Rattle.pool_check.specs.Theory.Places.{root_at, count_roots}
-use Rattle.packed_check.specs.Algorithm.{visit_place, visit_places}
-use Rattle.packed_check.specs.Theory.Ways.{place-live, place_free_lem, visit_keeps}
+use Rattle.packed_check.specs.TwoWords.{two}
+use Rattle.pool_check.specs.Theory.Ways.{place-live, place_free_lem}
 use Rattle.packed_check.specs.Theory.Shape.{tree, tree_is, nodes_is, nodes-above}
 use Rattle.packed_check.specs.Theory.Stamps.{level_of, on, on_zero, on_one, on_le, on_back, inner, link_to, links_to}
 use Rattle.packed_check.specs.Theory.Visit.{Adds, Settled, tally, visit_shows}
@@ -94,24 +94,10 @@ shown_append n N ws rs ss w w' w'' p q = record {
 module _ (n N : ℕ) (fs : List Frame) (ws : List ℕ) where
   -- one place, and those below c
   abbrev place : ℕ → List ℕ → List ℕ × Bool
-  place = visit_place n (height n) N fs ws
+  place = visit_place two n (height n) N fs ws
 
   abbrev places : ℕ → List ℕ → List ℕ × Bool
-  places = visit_places n (height n) N fs ws
-
-  place_keeps : (p : ℕ) (w : List ℕ) → Keeps N w (place p w).0
-  place_keeps p w = elim (decided (lives fs p)) [
-    | inl e ↦ rw (place-live n (height n) N fs ws p w e) (visit_keeps N ws (height n) n (frame_at fs p).root w)
-    | inr e ↦ rw (place_free_lem n (height n) N fs ws p w e) keeps_refl
-  ]
-
-  pub places_keeps : (c : ℕ) (w : List ℕ) → Keeps N w (visit_places n (height n) N fs ws c w).0
-  unfolding visit_places
-  places_keeps zero w = keeps_refl
-  places_keeps (suc c) w = elim (decided (places c w).1) [
-    | inl e ↦ rw e (keeps_trans (places_keeps c w) (place_keeps c (places c w).0))
-    | inr e ↦ rw e (places_keeps c w)
-  ]
+  places = visit_places two n (height n) N fs ws
 
   all_fit : Fits n (height n) n
   all_fit = record { some = omega arith; most = omega arith; covered = height_covers n }
@@ -129,7 +115,7 @@ module _ (n N : ℕ) (fs : List Frame) (ws : List ℕ) where
         → (place p w).1 ≡ true → Shown n N ws (root_at fs p) w (place p w).0
     place_shows p w r h S = elim (decided (lives fs p)) [
       | inl e ↦
-          rw (place-live n (height n) N fs ws p w e, e) (λ t.
+          rw (place-live two n (height n) N fs ws p w e, e) (λ t.
           let root = (frame_at fs p).root in
           let v = visit_shows n N ws small few (height n) n root w all_fit level r (λ x b. omega (arith, h x b, δ_le x root)) S t in
           record {
@@ -137,7 +123,7 @@ module _ (n N : ℕ) (fs : List Frame) (ws : List ℕ) where
             adds = adds_root n N ws root w _ v.1.adds;
             settled = v.1.settled;
           })
-      | inr e ↦ rw (place_free_lem n (height n) N fs ws p w e, e) (λ t. record { trees = refl; adds = adds_nil n N ws w; settled = S })
+      | inr e ↦ rw (place_free_lem two n (height n) N fs ws p w e, e) (λ t. record { trees = refl; adds = adds_nil n N ws w; settled = S })
     ]
 
     places_shows : (c : ℕ) (w : List ℕ) → c ≤ max_places → N ≤ length w → ((x : ℕ) → x < N → get_or w x 0 ≡ 0) → (places c w).1 ≡ true → Shown n N ws (roots_below fs c) w (places c w).0
@@ -148,7 +134,7 @@ module _ (n N : ℕ) (fs : List Frame) (ws : List ℕ) where
           let w₁ = (places c w).0 in
           let P = places_shows c w (omega arith) r z e in
           let room : (x : ℕ) → x < N → links w₁ x < max_places + links_to N ws w₁ x = λ x b. omega (arith, P.adds.counts x b, z x b, count_roots fs c x) in
-          rw e (shown_append n N ws (roots_below fs c) (root_at fs c) w w₁ _ P (place_shows c w₁ (omega (arith, (places_keeps c w).size)) room P.settled (rw e at t))))
+          rw e (shown_append n N ws (roots_below fs c) (root_at fs c) w w₁ _ P (place_shows c w₁ (omega (arith, (places_keeps two n N fs ws c w).size)) room P.settled (rw e at t))))
       | inr e ↦ absurd (true≢false (sym (rw e at t)))
     ]
 
@@ -162,11 +148,11 @@ module _ (n N : ℕ) (fs : List Frame) (ws : List ℕ) where
       place_succeeds : (p : ℕ) (w : List ℕ) → N ≤ length w → Honest n N ws On w → trees_at n N ws (root_at fs p) ≡ true → OnAll (root_at fs p) → ((place p w).1 ≡ true) × Honest n N ws On (place p w).0
       place_succeeds p w r H = elim (decided (lives fs p)) [
         | inl e ↦
-            rw (place-live n (height n) N fs ws p w e, e) (λ t O.
+            rw (place-live two n (height n) N fs ws p w e, e) (λ t O.
             let root = (frame_at fs p).root in
             visit_succeeds n N ws small few On one (height n) n root w all_fit level r H (root_tree root ∙ (both (tree_at n N ws (height n) 0 root) true t).0)
             (λ j x b. O j x (omega (arith, count_one n ws root j x, ap (count x) (nodes_is n ws j (height n) 0 n root (all-leaves n))))))
-        | inr e ↦ rw (place_free_lem n (height n) N fs ws p w e, e) (λ t O. (refl, H))
+        | inr e ↦ rw (place_free_lem two n (height n) N fs ws p w e, e) (λ t O. (refl, H))
       ]
 
       places_succeeds : (c : ℕ) (w : List ℕ) → N ≤ length w → Honest n N ws On w → trees_at n N ws (roots_below fs c) ≡ true → OnAll (roots_below fs c) → ((places c w).1 ≡ true) × Honest n N ws On (places c w).0
@@ -175,7 +161,7 @@ module _ (n N : ℕ) (fs : List Frame) (ws : List ℕ) where
       places_succeeds (suc c) w r H t O =
           let q = both (trees_at n N ws (roots_below fs c)) (trees_at n N ws (root_at fs c)) (sym (trees_append n N ws (roots_below fs c) (root_at fs c)) ∙ t) in
           let P = places_succeeds c w r H q.0 (λ j x b. O j x (omega (arith, count-reached n ws (roots_below fs c) (root_at fs c) j x))) in
-          rw P.0 (place_succeeds c (places c w).0 (omega (arith, (places_keeps c w).size)) P.1 q.1 (λ j x b. O j x (omega (arith, count-reached n ws (roots_below fs c) (root_at fs c) j x))))
+          rw P.0 (place_succeeds c (places c w).0 (omega (arith, (places_keeps two n N fs ws c w).size)) P.1 q.1 (λ j x b. O j x (omega (arith, count-reached n ws (roots_below fs c) (root_at fs c) j x))))
 
 -- ---- all of them, from a work slice of zeros
 
@@ -251,13 +237,13 @@ abbrev pub on_one_level : ℕ → ℕ → List ℕ → List ℕ → Bool
 on_one_level n N ws rs = all N (λ i. leb (levels_of n ws rs i) 1)
 
 module _ (n N : ℕ) (fs : List Frame) (ws w : List ℕ) (table : length fs ≤ max_places) (small : n ≤ 256) (few : N ≤ 16384) (r : N ≤ length w) (z : (x : ℕ) → x < N → get_or w x 0 ≡ 0) where
-  shows : (visit_places n (height n) N fs ws (length fs) w).1 ≡ true → Shown n N ws (live_roots fs) w (visit_places n (height n) N fs ws (length fs) w).0
+  shows : (visit_places two n (height n) N fs ws (length fs) w).1 ≡ true → Shown n N ws (live_roots fs) w (visit_places two n (height n) N fs ws (length fs) w).0
   shows t = places_shows n N fs ws small few (length fs) w table r z t
 
-  pub places_tallied : (visit_places n (height n) N fs ws (length fs) w).1 ≡ true → Tallied n N ws (live_roots fs) (visit_places n (height n) N fs ws (length fs) w).0
-  places_tallied t = tallied n N ws (live_roots fs) w (visit_places n (height n) N fs ws (length fs) w).0 z (shows t).adds
+  pub places_tallied : (visit_places two n (height n) N fs ws (length fs) w).1 ≡ true → Tallied n N ws (live_roots fs) (visit_places two n (height n) N fs ws (length fs) w).0
+  places_tallied t = tallied n N ws (live_roots fs) w (visit_places two n (height n) N fs ws (length fs) w).0 z (shows t).adds
 
-  succeeds : trees_at n N ws (live_roots fs) ≡ true → on_one_level n N ws (live_roots fs) ≡ true → (visit_places n (height n) N fs ws (length fs) w).1 ≡ true
+  succeeds : trees_at n N ws (live_roots fs) ≡ true → on_one_level n N ws (live_roots fs) ≡ true → (visit_places two n (height n) N fs ws (length fs) w).1 ≡ true
   succeeds t o = (places_succeeds n N fs ws small few On one (length fs) w r (λ x b m. absurd (omega (arith, z x b))) t (λ j x b. b)).0
     where
       On : ℕ → ℕ → Type 0
@@ -269,7 +255,7 @@ module _ (n N : ℕ) (fs : List Frame) (ws w : List ℕ) (table : length fs ≤ 
           (reached_within n ws (live_roots fs) j x p) (reached_within n ws (live_roots fs) j' x q) (on_test n ws (live_roots fs) x j p) (on_test n ws (live_roots fs) x j' q)
 
   -- the visits succeed if and only if they are of trees, in which no node is reached on two levels
-  pub places_tree : (visit_places n (height n) N fs ws (length fs) w).1 ≡ trees_at n N ws (live_roots fs) && on_one_level n N ws (live_roots fs)
+  pub places_tree : (visit_places two n (height n) N fs ws (length fs) w).1 ≡ trees_at n N ws (live_roots fs) && on_one_level n N ws (live_roots fs)
   places_tree = same_tests _ _
       (λ e. and_of (shows e).trees (all_of N (λ i. leb (levels_of n ws (live_roots fs) i) 1) (λ x b. le-leb (levels_of n ws (live_roots fs) x) 1 ((places_tallied e).one_level x b))))
       (λ e. let p = both (trees_at n N ws (live_roots fs)) (on_one_level n N ws (live_roots fs)) e in succeeds p.0 p.1)

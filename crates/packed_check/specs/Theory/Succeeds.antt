@@ -7,11 +7,11 @@ use Rattle.std.proofs.Math.ListN.{length, length-set}
 use Rattle.words.specs.Basics.{none, plus, count}
 use Rattle.words.specs.Counting.{δ_same}
 use Rattle.packed.specs.Pool.{left, right}
-use Rattle.pool_check.specs.Algorithm.{mark, stamp, stamped, linked}
+use Rattle.pool_check.specs.Algorithm.{mark, stamp, stamped, linked, visit, below}
 use Rattle.pool_check.specs.Theory.Shape.{Fits, fits-left, fits-right}
 use Rattle.pool_check.specs.Theory.Stamps.{stamp_of, linked-stamp}
-use Rattle.packed_check.specs.Algorithm.{visit, below}
-use Rattle.packed_check.specs.Theory.Ways.{on_left, visit_again, visit-below, below_end, below_right, visit_keeps}
+use Rattle.packed_check.specs.TwoWords.{two}
+use Rattle.pool_check.specs.Theory.Ways.{on_left, visit_again, visit-below, below_end, below_right, visit_keeps}
 use Rattle.packed_check.specs.Theory.Shape.{tree, nodes, tree-node, tree-left, tree_end, tree-right, root_on, leaf_count, end_count, inner-count, unique}
 
 -- node x stands as its stamp says; On tells the level of each node reached
@@ -82,27 +82,27 @@ module _ (n N : ℕ) (ws : List ℕ) (small : n ≤ 256) (few : N ≤ 16384) (On
         let ek : s.part ≡ k = unique n N ws few l s.part k i (rw el at s.fits) f (rw el at s.is_tree) t in
         omega (arith, s.is, el, ek)
 
-    met_succeeds : (Honest n N ws On (stamped w i (stamp l k)) → Succeeds (below N ws l k i (stamped w i (stamp l k)))) → Succeeds (visit N ws l k i w)
+    met_succeeds : (Honest n N ws On (stamped w i (stamp l k)) → Succeeds (below two N ws l k i (stamped w i (stamp l k)))) → Succeeds (visit two N ws l k i w)
     met_succeeds deep = elim (ℕ_discrete (get_or w i 0) 0) [
-      | yes u ↦ rw (visit-below N ws k i w b u l) (deep (honest_first u))
-      | no u ↦ rw (visit_again N ws k i w b l u) (eq-eqb (stamp_of w i) (stamp l k) (same-stamp u), honest_again u)
+      | yes u ↦ rw (visit-below two N ws k i w b u l refl) (deep (honest_first u))
+      | no u ↦ rw (visit_again two N ws k i w b l u) (eq-eqb (stamp_of w i) (stamp l k) (same-stamp u), honest_again u)
     ]
 
   -- from the visits of the children
-  below_succeeds : (l k i : ℕ) (w : List ℕ) → tree N ws (suc l) k i ≡ true → Succeeds (on_left N ws l k i w) → (k - 2 ^ l ≢ 0 → Succeeds (visit N ws l (k - 2 ^ l) (right ws i) (on_left N ws l k i w).0))
-      → Succeeds (below N ws (suc l) k i w)
+  below_succeeds : (l k i : ℕ) (w : List ℕ) → tree N ws (suc l) k i ≡ true → Succeeds (on_left two N ws l k i w) → (k - 2 ^ l ≢ 0 → Succeeds (visit two N ws l (k - 2 ^ l) (right ws i) (on_left two N ws l k i w).0))
+      → Succeeds (below two N ws (suc l) k i w)
   below_succeeds l k i w t L R = elim (ℕ_discrete (k - 2 ^ l) 0) [
-    | yes e ↦ rw (below_end N ws l k i w L.0 e) (eq-eqb (right ws i) none (tree_end N ws k i l t e), L.1)
-    | no e ↦ rw (below_right N ws l k i w L.0 e) (R e)
+    | yes e ↦ rw (below_end two N ws l k i w L.0 e) (eq-eqb (right ws i) none (tree_end N ws k i l t e), L.1)
+    | no e ↦ rw (below_right two N ws l k i w L.0 e) (R e)
   ]
 
-  pub visit_succeeds : (l k i : ℕ) (w : List ℕ) → Fits n l k → l ≤ 8 → N ≤ length w → Honest n N ws On w → tree N ws l k i ≡ true → AllOn ws On l k i → Succeeds (visit N ws l k i w)
+  pub visit_succeeds : (l k i : ℕ) (w : List ℕ) → Fits n l k → l ≤ 8 → N ≤ length w → Honest n N ws On w → tree N ws l k i ≡ true → AllOn ws On l k i → Succeeds (visit two N ws l k i w)
   unfolding below
   visit_succeeds zero k i w f level r H t O = met_succeeds 0 k i w f level r H t O (λ H₁. (refl, H₁))
   visit_succeeds (suc l) k i w f level r H t O = met_succeeds (suc l) k i w f level r H t O (λ H₁.
       let w₁ = stamped w i (stamp (suc l) k) in
-      let w₂ = (on_left N ws l k i w₁).0 in
+      let w₂ = (on_left two N ws l k i w₁).0 in
       let r₁ : N ≤ length w₁ = omega (arith, length-set w i (stamp (suc l) k + 8192)) in
-      let r₂ : N ≤ length w₂ = omega (arith, (visit_keeps N ws l (min k (2 ^ l)) (left ws i) w₁).size) in
+      let r₂ : N ≤ length w₂ = omega (arith, (visit_keeps two N ws l (min k (2 ^ l)) (left ws i) w₁).size) in
       let L = visit_succeeds l (min k (2 ^ l)) (left ws i) w₁ (fits-left n l k f) (omega arith) r₁ H₁ (tree-left N ws k i l t) (left_on ws On k i l O) in
       below_succeeds l k i w₁ t L (λ e. visit_succeeds l (k - 2 ^ l) (right ws i) w₂ (fits-right n l k f e) (omega arith) r₂ L.1 (tree-right N ws k i l t e) (right_on ws On k i l e O)))

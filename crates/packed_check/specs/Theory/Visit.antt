@@ -10,11 +10,11 @@ use Rattle.words.specs.Counting.{δ_other}
 use Rattle.words.specs.Tests.{decided, true≢false}
 use Rattle.packed.specs.Pool.{left, right}
 use Rattle.frames.specs.Widths.{max_places}
-use Rattle.pool_check.specs.Algorithm.{mark, links, stamp, stamped, linked}
+use Rattle.pool_check.specs.Algorithm.{mark, links, stamp, stamped, linked, visit, below}
 use Rattle.pool_check.specs.Theory.Shape.{Fits, fits-left, fits-right}
 use Rattle.pool_check.specs.Theory.Stamps.{stamp_of, linked-stamp, linked-mark, linked-links, stamped_word, stamped_other, stamped-links}
-use Rattle.packed_check.specs.Algorithm.{visit, below}
-use Rattle.packed_check.specs.Theory.Ways.{on_left, visit_off, visit_again, visit-below, below_left, below_end, below_right, visit_keeps}
+use Rattle.packed_check.specs.TwoWords.{two}
+use Rattle.pool_check.specs.Theory.Ways.{on_left, visit_off, visit_again, visit-below, below_left, below_end, below_right, visit_keeps}
 use Rattle.packed_check.specs.Theory.Shape.{tree, nodes, leaf_tree, end_tree, inner-tree, at_root, leaf_count, end_count, inner-count}
 use Rattle.packed_check.specs.Theory.Stamps.{on, on_le, links_to, links_to_le, linked-links_to, linked_on, stamped_on, stamped-links_to, leaf_links_to}
 
@@ -174,13 +174,13 @@ module _ (n N : ℕ) (ws : List ℕ) (small : n ≤ 256) (few : N ≤ 16384) whe
 
   -- by whether node i exists and was visited
   met_shows : (l k i : ℕ) (w : List ℕ) → Fits n l k → l ≤ 8 → N ≤ length w → Room N ws i w → Settled n N ws (suc l) w
-      → (i < N → get_or w i 0 ≡ 0 → Shows l k i w (below N ws l k i (stamped w i (stamp l k)))) → Shows l k i w (visit N ws l k i w)
+      → (i < N → get_or w i 0 ≡ 0 → Shows l k i w (below two N ws l k i (stamped w i (stamp l k)))) → Shows l k i w (visit two N ws l k i w)
   met_shows l k i w f level r h S deep = elim (dec_lt i N) [
     | yes b ↦ elim (ℕ_discrete (get_or w i 0) 0) [
-      | yes u ↦ rw (visit-below N ws k i w b u l) (deep b u)
-      | no u ↦ rw (visit_again N ws k i w b l u) (λ t. visited_again l k i w f level b r h S u (eqb-true (stamp_of w i) (stamp l k) t))
+      | yes u ↦ rw (visit-below two N ws k i w b u l refl) (deep b u)
+      | no u ↦ rw (visit_again two N ws k i w b l u) (λ t. visited_again l k i w f level b r h S u (eqb-true (stamp_of w i) (stamp l k) t))
     ]
-    | no b ↦ rw (visit_off N ws k i w l (omega arith)) (λ t. absurd (true≢false (sym t)))
+    | no b ↦ rw (visit_off two N ws k i w l (omega arith)) (λ t. absurd (true≢false (sym t)))
   ]
 
   -- a leaf, which has no links
@@ -196,26 +196,26 @@ module _ (n N : ℕ) (ws : List ℕ) (small : n ≤ 256) (few : N ≤ 16384) whe
       (leaf_tree N ws k i b)
       (λ j x. omega (arith, leaf_count ws j x k i))
 
-  pub visit_shows : (l k i : ℕ) (w : List ℕ) → Fits n l k → l ≤ 8 → N ≤ length w → Room N ws i w → Settled n N ws (suc l) w → Shows l k i w (visit N ws l k i w)
+  pub visit_shows : (l k i : ℕ) (w : List ℕ) → Fits n l k → l ≤ 8 → N ≤ length w → Room N ws i w → Settled n N ws (suc l) w → Shows l k i w (visit two N ws l k i w)
   unfolding below
   visit_shows zero k i w f level r h S = met_shows 0 k i w f level r h S (λ b u t. leaf_shows k i w f level r h S b u)
   visit_shows (suc l) k i w f level r h S = met_shows (suc l) k i w f level r h S (λ b u.
       let w₁ = stamped w i (stamp (suc l) k) in
-      let w₂ = (on_left N ws l k i w₁).0 in
+      let w₂ = (on_left two N ws l k i w₁).0 in
       let r₁ : N ≤ length w₁ = omega (arith, length-set w i (stamp (suc l) k + 8192)) in
-      let r₂ : N ≤ length w₂ = omega (arith, (visit_keeps N ws l (min k (2 ^ l)) (left ws i) w₁).size) in
+      let r₂ : N ≤ length w₂ = omega (arith, (visit_keeps two N ws l (min k (2 ^ l)) (left ws i) w₁).size) in
       let ls : (x : ℕ) → x < N → links_to N ws w₁ x ≡ links_to N ws w x + (δ x (left ws i) + δ x (right ws i))
       = λ x bx. stamped-links_to w i (suc l) k (omega arith) u level (omega (arith, f.most)) N ws x b (omega arith) in
       let L = visit_shows l (min k (2 ^ l)) (left ws i) w₁ (fits-left n l k f) (omega arith) r₁ (room_left (suc l) k i w f level b r h S u (left ws i) (right ws i) ls) (into (suc l) k i w f level b r h S u) in
-      elim (decided (on_left N ws l k i w₁).1) [
+      elim (decided (on_left two N ws l k i w₁).1) [
         | inl tl ↦ elim (ℕ_discrete (k - 2 ^ l) 0) [
-          | yes e ↦ rw (below_end N ws l k i w₁ tl e) (λ t.
+          | yes e ↦ rw (below_end two N ws l k i w₁ tl e) (λ t.
               visited_first (suc l) k i w f level b r h S u (left ws i) (right ws i) ls (tally ws l (min k (2 ^ l)) (left ws i)) (λ j x. 0) w₂ w₂
               (L tl).1
               (visited_none (suc l) (right ws i) w₂ (eqb-true (right ws i) none t) (L tl).1.settled)
               (end_tree N ws k i b l (L tl).0 e t)
               (λ j x. omega (arith, end_count ws j x k i l e)))
-          | no e ↦ rw (below_right N ws l k i w₁ tl e) (λ t.
+          | no e ↦ rw (below_right two N ws l k i w₁ tl e) (λ t.
               let R = visit_shows l (k - 2 ^ l) (right ws i) w₂ (fits-right n l k f e) (omega arith) r₂
               (room_right (suc l) k i w f level b r h S u (left ws i) (right ws i) ls _ w₂ (L tl).1.adds) (L tl).1.settled t in
               visited_first (suc l) k i w f level b r h S u (left ws i) (right ws i) ls (tally ws l (min k (2 ^ l)) (left ws i)) (tally ws l (k - 2 ^ l) (right ws i)) w₂ _
@@ -224,5 +224,5 @@ module _ (n N : ℕ) (ws : List ℕ) (small : n ≤ 256) (few : N ≤ 16384) whe
               (inner-tree N ws k i b l (L tl).0 e R.0)
               (λ j x. inner-count ws j x k i l e))
         ]
-        | inr tl ↦ rw (below_left N ws l k i w₁ tl) (λ t. absurd (true≢false (sym t)))
+        | inr tl ↦ rw (below_left two N ws l k i w₁ tl) (λ t. absurd (true≢false (sym t)))
       ])

@@ -1,12 +1,9 @@
-use Rattle.std.proofs.Common.{sym, ◌∙◌}
-use Rattle.pool_check.proofs.Laws.{settle_wrong, settle_found, settle-lost}
+use Rattle.std.proofs.Common.{◌∙◌}
+use Rattle.pool_check.proofs.Laws.{settle_wrong, settle-right}
 use Rattle.pool_check.proofs.settle.Goals as goal
 
-pub returns-in_default : goal.returns-in_default
-returns-in_default c = settle_wrong _ _ _ _ _ c.scan.ensures c.in_default.is
+pub returns-in_err-free : goal.returns-in_err-free
+returns-in_err-free g c = c.from_residual.ensures ∙ settle_wrong g.L.NodeLayout.reading _ _ _ _ _ c.scan.ensures c.in_err-free.was
 
-pub returns-then-follow_free : goal.returns-then-follow_free
-returns-then-follow_free c = settle_found _ _ _ _ _ c.scan.ensures _ c.in-Good.is (sym c.follow_free.ensures ∙ c.if-follow_free.true)
-
-pub returns-else-follow_free : goal.returns-else-follow_free
-returns-else-follow_free c = settle-lost _ _ _ _ _ c.scan.ensures _ c.in-Good.is (sym c.follow_free.ensures ∙ c.if-follow_free.false)
+pub returns : goal.returns
+returns g c = c.then_some.ensures ∙ rw c.follow_free.ensures (settle-right g.L.NodeLayout.reading _ _ _ _ _ c.scan.ensures _ c.in_ok-free.was)

@@ -8,7 +8,8 @@ use Rattle.words.specs.Tests.{both}
 use Rattle.words.specs.Loops.{count-sum}
 use Rattle.words.specs.Followed.{Listed, listed_all, chain_listed, listed_chain}
 use Rattle.pool.specs.Pool.{next_free}
-use Rattle.pool_check.specs.Algorithm.{fresh, unvisited, bare, vacant, chain_from}
+use Rattle.pool_check.specs.Algorithm.{fresh, unvisited, chain_from}
+use Rattle.pool_check.specs.FourWords.{bare, vacant, four}
 
 pub unvisited_le : (N : ℕ) (w : List ℕ) → unvisited N w ≤ N
 unvisited_le N w = omega (arith, sum_le N 1 (fresh w) (λ j. omega arith))
@@ -20,13 +21,13 @@ abbrev Vacants : ℕ → List ℕ → List ℕ → ℕ → List ℕ → Type 0
 Vacants N ws w c xs = Listed N (vacant ws w) c xs
 
 module _ (N : ℕ) (ws w : List ℕ) (few : N ≤ 16384) where
-  pub chain_sound : (c f a : ℕ) → c ≤ f → chain_from N ws w c a ≡ true → Vacants N ws w c (follow (suc f) (next_free ws) a)
+  pub chain_sound : (c f a : ℕ) → c ≤ f → chain_from four N ws w c a ≡ true → Vacants N ws w c (follow (suc f) (next_free ws) a)
   unfolding chain_from
-  chain_sound = chain_listed N (next_free ws) (vacant ws w) (chain_from N ws w) (omega arith) (λ a. refl) (λ c a. refl)
+  chain_sound = chain_listed N (next_free ws) (vacant ws w) (chain_from four N ws w) (omega arith) (λ a. refl) (λ c a. refl)
 
-  pub chain_complete : (c f a : ℕ) → c ≤ f → Vacants N ws w c (follow (suc f) (next_free ws) a) → chain_from N ws w c a ≡ true
+  pub chain_complete : (c f a : ℕ) → c ≤ f → Vacants N ws w c (follow (suc f) (next_free ws) a) → chain_from four N ws w c a ≡ true
   unfolding chain_from
-  chain_complete = listed_chain N (next_free ws) (vacant ws w) (chain_from N ws w) (omega arith) (λ a. refl) (λ c a. refl)
+  chain_complete = listed_chain N (next_free ws) (vacant ws w) (chain_from four N ws w) (omega arith) (λ a. refl) (λ c a. refl)
 
 -- ---- and the nodes that were not visited
 

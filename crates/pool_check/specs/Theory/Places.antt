@@ -15,7 +15,9 @@ use Rattle.frames.specs.Frames.{frame_at}
 use Rattle.soundness.specs.Soundness.{lives, roots_below, live_roots}
 use Rattle.soundness.specs.Trees.{tree_at, trees_at, nodes_at, reached, is_reached, holders}
 use Rattle.pool_check.specs.Algorithm.{mark, links, visit_place, visit_places}
-use Rattle.pool_check.specs.Theory.Ways.{place-live, place_free_lem, Keeps, keeps_refl, keeps_trans, visit_keeps}
+use Rattle.pool_check.specs.FourWords.{four}
+use Rattle.pool_check.specs.Theory.Ways.{place-live, place_free_lem}
+use Rattle.pool_check.specs.Theory.Kept.{places_keeps}
 use Rattle.pool_check.specs.Theory.Shape.{tree, tree_is, nodes_is, Fits}
 use Rattle.pool_check.specs.Theory.Stamps.{link_to, links_to}
 use Rattle.pool_check.specs.Theory.Visit.{Adds, Settled, visit_shows}
@@ -86,24 +88,10 @@ shown_append n N ws rs ss w w' w'' p q = record {
 module _ (n N : ℕ) (fs : List Frame) (ws : List ℕ) where
   -- one place, and those below c
   abbrev place : ℕ → List ℕ → List ℕ × Bool
-  place = visit_place n (height n) N fs ws
+  place = visit_place four n (height n) N fs ws
 
   abbrev places : ℕ → List ℕ → List ℕ × Bool
-  places = visit_places n (height n) N fs ws
-
-  place_keeps : (p : ℕ) (w : List ℕ) → Keeps N w (place p w).0
-  place_keeps p w = elim (decided (lives fs p)) [
-    | inl e ↦ rw (place-live n (height n) N fs ws p w e) (visit_keeps N ws (height n) n (frame_at fs p).root w)
-    | inr e ↦ rw (place_free_lem n (height n) N fs ws p w e) keeps_refl
-  ]
-
-  pub places_keeps : (c : ℕ) (w : List ℕ) → Keeps N w (visit_places n (height n) N fs ws c w).0
-  unfolding visit_places
-  places_keeps zero w = keeps_refl
-  places_keeps (suc c) w = elim (decided (places c w).1) [
-    | inl e ↦ rw e (keeps_trans (places_keeps c w) (place_keeps c (places c w).0))
-    | inr e ↦ rw e (places_keeps c w)
-  ]
+  places = visit_places four n (height n) N fs ws
 
   all-leaves : n ≡ leaves n (height n) 0
   all-leaves = sym (leaves-top n (height n) (height_covers n))
@@ -124,7 +112,7 @@ module _ (n N : ℕ) (fs : List Frame) (ws : List ℕ) where
         → (place p w).1 ≡ true → Shown n N ws (root_at fs p) w (place p w).0
     place_shows p w r h S = elim (decided (lives fs p)) [
       | inl e ↦
-          rw (place-live n (height n) N fs ws p w e, e) (λ t.
+          rw (place-live four n (height n) N fs ws p w e, e) (λ t.
           let root = (frame_at fs p).root in
           let v = visit_shows n N ws small few (height n) n root w all_fit level r (λ x b. omega (arith, h x b, δ_le x root)) S t in
           record {
@@ -132,7 +120,7 @@ module _ (n N : ℕ) (fs : List Frame) (ws : List ℕ) where
             adds = adds_root n N ws root w _ (rw (nodes_is n ws (height n) 0 n root all-leaves) at v.1.adds);
             settled = v.1.settled;
           })
-      | inr e ↦ rw (place_free_lem n (height n) N fs ws p w e, e) (λ t. record { trees = refl; adds = adds_nil n N ws w; settled = S })
+      | inr e ↦ rw (place_free_lem four n (height n) N fs ws p w e, e) (λ t. record { trees = refl; adds = adds_nil n N ws w; settled = S })
     ]
 
     places_shows : (c : ℕ) (w : List ℕ) → c ≤ max_places → N ≤ length w → ((x : ℕ) → x < N → get_or w x 0 ≡ 0) → (places c w).1 ≡ true → Shown n N ws (roots_below fs c) w (places c w).0
@@ -143,7 +131,7 @@ module _ (n N : ℕ) (fs : List Frame) (ws : List ℕ) where
           let w₁ = (places c w).0 in
           let P = places_shows c w (omega arith) r z e in
           let room : (x : ℕ) → x < N → links w₁ x < max_places + links_to N ws w₁ x = λ x b. omega (arith, P.adds.counts x b, z x b, count_roots fs c x) in
-          rw e (shown_append n N ws (roots_below fs c) (root_at fs c) w w₁ _ P (place_shows c w₁ (omega (arith, (places_keeps c w).size)) room P.settled (rw e at t))))
+          rw e (shown_append n N ws (roots_below fs c) (root_at fs c) w w₁ _ P (place_shows c w₁ (omega (arith, (places_keeps four n N fs ws c w).size)) room P.settled (rw e at t))))
       | inr e ↦ absurd (true≢false (sym (rw e at t)))
     ]
 
@@ -152,10 +140,10 @@ module _ (n N : ℕ) (fs : List Frame) (ws : List ℕ) where
     place_succeeds : (p : ℕ) (w : List ℕ) → N ≤ length w → Honest n N ws w → trees_at n N ws (root_at fs p) ≡ true → ((place p w).1 ≡ true) × Honest n N ws (place p w).0
     place_succeeds p w r H = elim (decided (lives fs p)) [
       | inl e ↦
-          rw (place-live n (height n) N fs ws p w e, e) (λ t.
+          rw (place-live four n (height n) N fs ws p w e, e) (λ t.
           let root = (frame_at fs p).root in
           visit_succeeds n N ws small few (height n) n root w all_fit level r H (root_tree root ∙ (both (tree_at n N ws (height n) 0 root) true t).0))
-      | inr e ↦ rw (place_free_lem n (height n) N fs ws p w e, e) (λ t. (refl, H))
+      | inr e ↦ rw (place_free_lem four n (height n) N fs ws p w e, e) (λ t. (refl, H))
     ]
 
     places_succeeds : (c : ℕ) (w : List ℕ) → N ≤ length w → Honest n N ws w → trees_at n N ws (roots_below fs c) ≡ true → ((places c w).1 ≡ true) × Honest n N ws (places c w).0
@@ -164,7 +152,7 @@ module _ (n N : ℕ) (fs : List Frame) (ws : List ℕ) where
     places_succeeds (suc c) w r H t =
         let q = both (trees_at n N ws (roots_below fs c)) (trees_at n N ws (root_at fs c)) (sym (trees_append n N ws (roots_below fs c) (root_at fs c)) ∙ t) in
         let P = places_succeeds c w r H q.0 in
-        rw P.0 (place_succeeds c (places c w).0 (omega (arith, (places_keeps c w).size)) P.1 q.1)
+        rw P.0 (place_succeeds c (places c w).0 (omega (arith, (places_keeps four n N fs ws c w).size)) P.1 q.1)
 
 -- ---- all of them, from a work slice of zeros
 
@@ -194,18 +182,18 @@ module _ (n N : ℕ) (ws rs w w' : List ℕ) (zeros : (x : ℕ) → x < N → ge
   tallied = record { marks = all_marks; counts = λ x b. omega (arith, p.counts x b, zeros x b, none_before x, reached-links x) }
 
 module _ (n N : ℕ) (fs : List Frame) (ws w : List ℕ) (table : length fs ≤ max_places) (small : n ≤ 256) (few : N ≤ 16384) (r : N ≤ length w) (z : (x : ℕ) → x < N → get_or w x 0 ≡ 0) where
-  succeeds : trees_at n N ws (live_roots fs) ≡ true → (visit_places n (height n) N fs ws (length fs) w).1 ≡ true
+  succeeds : trees_at n N ws (live_roots fs) ≡ true → (visit_places four n (height n) N fs ws (length fs) w).1 ≡ true
   succeeds t = (places_succeeds n N fs ws small few (length fs) w r (λ x b m. absurd (omega (arith, z x b))) t).0
 
-  shows : (visit_places n (height n) N fs ws (length fs) w).1 ≡ true → Shown n N ws (live_roots fs) w (visit_places n (height n) N fs ws (length fs) w).0
+  shows : (visit_places four n (height n) N fs ws (length fs) w).1 ≡ true → Shown n N ws (live_roots fs) w (visit_places four n (height n) N fs ws (length fs) w).0
   shows t = places_shows n N fs ws small few (length fs) w table r z t
 
   -- the visits succeed if and only if they are of trees
-  pub places_tree : (visit_places n (height n) N fs ws (length fs) w).1 ≡ trees_at n N ws (live_roots fs)
-  places_tree = elim (decided (visit_places n (height n) N fs ws (length fs) w).1) [
+  pub places_tree : (visit_places four n (height n) N fs ws (length fs) w).1 ≡ trees_at n N ws (live_roots fs)
+  places_tree = elim (decided (visit_places four n (height n) N fs ws (length fs) w).1) [
     | inl e ↦ e ∙ sym (shows e).trees
     | inr e ↦ elim (decided (trees_at n N ws (live_roots fs))) [ inl t ↦ succeeds t ∙ sym t | inr t ↦ e ∙ sym t ]
   ]
 
-  pub places_tallied : trees_at n N ws (live_roots fs) ≡ true → Tallied n N ws (live_roots fs) (visit_places n (height n) N fs ws (length fs) w).0
-  places_tallied t = tallied n N ws (live_roots fs) w (visit_places n (height n) N fs ws (length fs) w).0 z (shows (succeeds t)).adds
+  pub places_tallied : trees_at n N ws (live_roots fs) ≡ true → Tallied n N ws (live_roots fs) (visit_places four n (height n) N fs ws (length fs) w).0
+  places_tallied t = tallied n N ws (live_roots fs) w (visit_places four n (height n) N fs ws (length fs) w).0 z (shows (succeeds t)).adds

@@ -10,7 +10,7 @@ use Rattle.words.specs.Tests.{decided, both, lt_of, ltb_of, true≢false}
 use Rattle.sizes.specs.Leaves.{leaves, leaves-left, leaves-right, leaves-some, leaves_none}
 use Rattle.pool.specs.Pool.{left, right, value}
 use Rattle.soundness.specs.Trees.{tree_at, nodes_at}
-use Rattle.pool_check.specs.Algorithm.{shaped}
+use Rattle.pool_check.specs.FourWords.{shaped}
 
 -- node i is the root of a tree of level l over k splitters
 unfoldable pub tree : ℕ → List ℕ → ℕ → ℕ → ℕ → Bool

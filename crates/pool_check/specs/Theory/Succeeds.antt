@@ -7,6 +7,7 @@ use Rattle.std.proofs.Math.ListN.{length, length-set}
 use Rattle.words.specs.Basics.{none, plus}
 use Rattle.pool.specs.Pool.{left, right}
 use Rattle.pool_check.specs.Algorithm.{mark, stamp, stamped, linked, visit, below}
+use Rattle.pool_check.specs.FourWords.{four}
 use Rattle.pool_check.specs.Theory.Ways.{on_left, visit_again, visit-below, below_end, below_right, visit_keeps}
 use Rattle.pool_check.specs.Theory.Shape.{tree, tree-node, tree-shaped, tree-left, tree_end, tree-right, Fits, fits-left, fits-right, unique}
 use Rattle.pool_check.specs.Theory.Stamps.{stamp_of, linked-stamp}
@@ -50,30 +51,30 @@ module _ (n N : ℕ) (ws : List ℕ) (small : n ≤ 256) (few : N ≤ 16384) whe
           stands_same w (stamped w i (stamp l k)) x (ap (λ (q : ℕ). q % 8192) same) (H x bx (ap (λ (q : ℕ). min 1 q) (sym same) ∙ m)))
     ]
 
-    met_succeeds : (Honest n N ws (stamped w i (stamp l k)) → Succeeds (below N ws l k i (stamped w i (stamp l k)))) → Succeeds (visit N ws l k i w)
+    met_succeeds : (Honest n N ws (stamped w i (stamp l k)) → Succeeds (below four N ws l k i (stamped w i (stamp l k)))) → Succeeds (visit four N ws l k i w)
     met_succeeds deep = elim (ℕ_discrete (get_or w i 0) 0) [
-      | yes u ↦ rw (visit-below N ws k i w b u l (tree-shaped N ws k i l t)) (deep (honest_first u))
+      | yes u ↦ rw (visit-below four N ws k i w b u l (tree-shaped N ws k i l t)) (deep (honest_first u))
       | no u ↦ (
           let s = H i b (omega arith) in
           let e = unique n N ws few s.level s.part l k i s.fits f s.is_tree t in
-          rw (visit_again N ws k i w b l u) (eq-eqb (stamp_of w i) (stamp l k) (omega (arith, s.is, e.0, e.1)), honest_again u))
+          rw (visit_again four N ws k i w b l u) (eq-eqb (stamp_of w i) (stamp l k) (omega (arith, s.is, e.0, e.1)), honest_again u))
     ]
 
   -- from the visits of the children
-  below_succeeds : (l k i : ℕ) (w : List ℕ) → tree N ws (suc l) k i ≡ true → Succeeds (on_left N ws l k i w) → (k - 2 ^ l ≢ 0 → Succeeds (visit N ws l (k - 2 ^ l) (right ws i) (on_left N ws l k i w).0))
-      → Succeeds (below N ws (suc l) k i w)
+  below_succeeds : (l k i : ℕ) (w : List ℕ) → tree N ws (suc l) k i ≡ true → Succeeds (on_left four N ws l k i w) → (k - 2 ^ l ≢ 0 → Succeeds (visit four N ws l (k - 2 ^ l) (right ws i) (on_left four N ws l k i w).0))
+      → Succeeds (below four N ws (suc l) k i w)
   below_succeeds l k i w t L R = elim (ℕ_discrete (k - 2 ^ l) 0) [
-    | yes e ↦ rw (below_end N ws l k i w L.0 e) (eq-eqb (right ws i) none (tree_end N ws k i l t e), L.1)
-    | no e ↦ rw (below_right N ws l k i w L.0 e) (R e)
+    | yes e ↦ rw (below_end four N ws l k i w L.0 e) (eq-eqb (right ws i) none (tree_end N ws k i l t e), L.1)
+    | no e ↦ rw (below_right four N ws l k i w L.0 e) (R e)
   ]
 
-  pub visit_succeeds : (l k i : ℕ) (w : List ℕ) → Fits n l k → l ≤ 8 → N ≤ length w → Honest n N ws w → tree N ws l k i ≡ true → Succeeds (visit N ws l k i w)
+  pub visit_succeeds : (l k i : ℕ) (w : List ℕ) → Fits n l k → l ≤ 8 → N ≤ length w → Honest n N ws w → tree N ws l k i ≡ true → Succeeds (visit four N ws l k i w)
   unfolding below
   visit_succeeds zero k i w f level r H t = met_succeeds 0 k i w f level r H t (λ H₁. (refl, H₁))
   visit_succeeds (suc l) k i w f level r H t = met_succeeds (suc l) k i w f level r H t (λ H₁.
       let w₁ = stamped w i (stamp (suc l) k) in
-      let w₂ = (on_left N ws l k i w₁).0 in
+      let w₂ = (on_left four N ws l k i w₁).0 in
       let r₁ : N ≤ length w₁ = omega (arith, length-set w i (stamp (suc l) k + 8192)) in
-      let r₂ : N ≤ length w₂ = omega (arith, (visit_keeps N ws l (min k (2 ^ l)) (left ws i) w₁).size) in
+      let r₂ : N ≤ length w₂ = omega (arith, (visit_keeps four N ws l (min k (2 ^ l)) (left ws i) w₁).size) in
       let L = visit_succeeds l (min k (2 ^ l)) (left ws i) w₁ (fits-left n l k f) (omega arith) r₁ H₁ (tree-left N ws k i l t) in
       below_succeeds l k i w₁ t L (λ e. visit_succeeds l (k - 2 ^ l) (right ws i) w₂ (fits-right n l k f e) (omega arith) r₂ L.1 (tree-right N ws k i l t e)))

@@ -11,7 +11,8 @@ use Rattle.words.specs.Counting.{δ_other, count_nil, count_cons, count-append}
 use Rattle.words.specs.Tests.{decided, both, true≢false}
 use Rattle.pool.specs.Pool.{left, right}
 use Rattle.frames.specs.Widths.{max_places}
-use Rattle.pool_check.specs.Algorithm.{mark, links, stamp, shaped, stamped, linked, visit, below}
+use Rattle.pool_check.specs.Algorithm.{mark, links, stamp, stamped, linked, visit, below}
+use Rattle.pool_check.specs.FourWords.{shaped, four}
 use Rattle.pool_check.specs.Theory.Ways.{on_left, visit_off, visit_again, visit_shapeless, visit-below, below_left, below_end, below_right, visit_keeps}
 use Rattle.pool_check.specs.Theory.Shape.{tree, nodes, leaf_tree, end_tree, inner-tree, leaf_nodes, end_nodes, inner-nodes, Fits, fits-left, fits-right}
 use Rattle.pool_check.specs.Theory.Stamps.{links_to, links_to_le, stamp_of, linked-stamp, linked-mark, linked-links, linked-links_to, stamped_word, stamped_other, stamped-mark, stamped-links, stamped-links_to}
@@ -155,19 +156,19 @@ module _ (n N : ℕ) (ws : List ℕ) (small : n ≤ 256) (few : N ≤ 16384) whe
 
   -- by whether node i exists, was visited and has the shape
   met_shows : (l k i : ℕ) (w : List ℕ) → Fits n l k → l ≤ 8 → N ≤ length w → Room N ws i w → Settled n N ws (suc l) w
-      → (i < N → get_or w i 0 ≡ 0 → shaped ws l i ≡ true → Shows l k i w (below N ws l k i (stamped w i (stamp l k)))) → Shows l k i w (visit N ws l k i w)
+      → (i < N → get_or w i 0 ≡ 0 → shaped ws l i ≡ true → Shows l k i w (below four N ws l k i (stamped w i (stamp l k)))) → Shows l k i w (visit four N ws l k i w)
   met_shows l k i w f level r h S deep = elim (dec_lt i N) [
     | yes b ↦ elim (ℕ_discrete (get_or w i 0) 0) [
       | yes u ↦ elim (decided (shaped ws l i)) [
-        | inl s ↦ rw (visit-below N ws k i w b u l s) (deep b u s)
-        | inr s ↦ rw (visit_shapeless N ws k i w b u l s) (λ t. absurd (true≢false (sym t)))
+        | inl s ↦ rw (visit-below four N ws k i w b u l s) (deep b u s)
+        | inr s ↦ rw (visit_shapeless four N ws k i w b u l s) (λ t. absurd (true≢false (sym t)))
       ]
-      | no u ↦ rw (visit_again N ws k i w b l u) (λ t. visited_again l k i w f level b r h S u (eqb-true (stamp_of w i) (stamp l k) t))
+      | no u ↦ rw (visit_again four N ws k i w b l u) (λ t. visited_again l k i w f level b r h S u (eqb-true (stamp_of w i) (stamp l k) t))
     ]
-    | no b ↦ rw (visit_off N ws k i w l (omega arith)) (λ t. absurd (true≢false (sym t)))
+    | no b ↦ rw (visit_off four N ws k i w l (omega arith)) (λ t. absurd (true≢false (sym t)))
   ]
 
-  pub visit_shows : (l k i : ℕ) (w : List ℕ) → Fits n l k → l ≤ 8 → N ≤ length w → Room N ws i w → Settled n N ws (suc l) w → Shows l k i w (visit N ws l k i w)
+  pub visit_shows : (l k i : ℕ) (w : List ℕ) → Fits n l k → l ≤ 8 → N ≤ length w → Room N ws i w → Settled n N ws (suc l) w → Shows l k i w (visit four N ws l k i w)
   unfolding below
   visit_shows zero k i w f level r h S = met_shows 0 k i w f level r h S (λ b u s t.
       let e = both (eqb (left ws i) none) (eqb (right ws i) none) s in
@@ -180,19 +181,19 @@ module _ (n N : ℕ) (ws : List ℕ) (small : n ≤ 256) (few : N ≤ 16384) whe
       (leaf_nodes ws k i))
   visit_shows (suc l) k i w f level r h S = met_shows (suc l) k i w f level r h S (λ b u s.
       let w₁ = stamped w i (stamp (suc l) k) in
-      let w₂ = (on_left N ws l k i w₁).0 in
+      let w₂ = (on_left four N ws l k i w₁).0 in
       let r₁ : N ≤ length w₁ = omega (arith, length-set w i (stamp (suc l) k + 8192)) in
-      let r₂ : N ≤ length w₂ = omega (arith, (visit_keeps N ws l (min k (2 ^ l)) (left ws i) w₁).size) in
+      let r₂ : N ≤ length w₂ = omega (arith, (visit_keeps four N ws l (min k (2 ^ l)) (left ws i) w₁).size) in
       let L = visit_shows l (min k (2 ^ l)) (left ws i) w₁ (fits-left n l k f) (omega arith) r₁ (room_left (suc l) k i w f level b r h S u) (into (suc l) k i w f level b r h S u) in
-      elim (decided (on_left N ws l k i w₁).1) [
+      elim (decided (on_left four N ws l k i w₁).1) [
         | inl tl ↦ elim (ℕ_discrete (k - 2 ^ l) 0) [
-          | yes e ↦ rw (below_end N ws l k i w₁ tl e) (λ t.
+          | yes e ↦ rw (below_end four N ws l k i w₁ tl e) (λ t.
               visited_first (suc l) k i w f level b r h S u (nodes ws l (min k (2 ^ l)) (left ws i)) [] w₂ w₂
               (L tl).1
               (visited_none (suc l) (right ws i) w₂ (eqb-true (right ws i) none t) (L tl).1.settled)
               (end_tree N ws k i b l s (L tl).0 e t)
               (end_nodes ws k i l e))
-          | no e ↦ rw (below_right N ws l k i w₁ tl e) (λ t.
+          | no e ↦ rw (below_right four N ws l k i w₁ tl e) (λ t.
               let R = visit_shows l (k - 2 ^ l) (right ws i) w₂ (fits-right n l k f e) (omega arith) r₂ (room_right (suc l) k i w f level b r h S u _ w₂ (L tl).1.adds) (L tl).1.settled t in
               visited_first (suc l) k i w f level b r h S u (nodes ws l (min k (2 ^ l)) (left ws i)) (nodes ws l (k - 2 ^ l) (right ws i)) w₂ _
               (L tl).1
@@ -200,5 +201,5 @@ module _ (n N : ℕ) (ws : List ℕ) (small : n ≤ 256) (few : N ≤ 16384) whe
               (inner-tree N ws k i b l s (L tl).0 e R.0)
               (inner-nodes ws k i l e))
         ]
-        | inr tl ↦ rw (below_left N ws l k i w₁ tl) (λ t. absurd (true≢false (sym t)))
+        | inr tl ↦ rw (below_left four N ws l k i w₁ tl) (λ t. absurd (true≢false (sym t)))
       ])

@@ -1,5 +1,8 @@
 -- If what a host hands in are words, then all that the engine leaves are words: every entry keeps a state and a pool of words.
-use Rattle.std.specs.Prelude.{◌≡◌, Bool, true, false, cond, ◌&&◌, length, get_or, drop, replicate, eqb, ltb}
+use Rattle.soundness.specs.Soundness.{Checked}
+use Rattle.soundness.specs.declared.CheckError.{CheckError}
+use Rattle.soundness.specs.declared.CheckError.TheVariants.{NoRoom}
+use Rattle.std.specs.Prelude.{◌≡◌, Bool, true, false, cond, ◌&&◌, length, get_or, drop, replicate, eqb, ltb, Err, None, Ok, Some}
 use Rattle.std.proofs.Common.{sym, subst, arith}
 use Rattle.std.proofs.Math.Logic.{inl, inr}
 use mathlib.Core.List.{List, [], ◌∷◌, ◌++◌}
@@ -19,14 +22,10 @@ use Rattle.frames.proofs.Theory.RecordWords.{words-main_frame, words-free_place}
 use Rattle.frames.proofs.Theory.Records.{frame_past}
 use Rattle.frames.proofs.Theory.Start.{length_init, init_main, init_free_lem}
 use Rattle.soundness.specs.declared.Numbers.{Numbers}
-use Rattle.soundness.specs.declared.Checked.{Checked}
-use Rattle.soundness.specs.declared.Checked.TheVariants.{NoRoom, Sound}
 use Rattle.soundness.specs.Numbers.{head_count, total_count, number_words, set_free_place}
 use Rattle.model.specs.declared.Step.{Step}
 use Rattle.model.specs.declared.Step.TheVariants.{Spawn, Return, Steal, Sync, Read, Write, Fold}
-use Rattle.model.specs.declared.Decoded.{Decoded}
-use Rattle.model.specs.declared.Decoded.TheVariants.{Valid, Invalid}
-use Rattle.model.specs.Record.{little, valid_if, record_of, decode_at}
+use Rattle.model.specs.Record.{Decoded, little, valid_if, record_of, decode_at}
 use Rattle.semantics.specs.declared.Refusal.{Refusal}
 use Rattle.semantics.specs.Core.{Core, StepResult, table_of, acting_in, with_table, judged, spawn_on, totals_after, end_at, upward, popped, end_bottom, return_on, steal_on, sync_on, read_on, write_on, fold_on, tests_of, done_by, step_on}
 use Rattle.semantics.specs.Entries.{State, fits, core_of, state_of, checked_state, whole_nodes, first_numbers, start_accepted, StartResult, record_on, outside_checked, outside_with, outside_on, records_from, records_of, records_result, run_on, unfit_tape, tape_checked, tape_with, tape_on}
@@ -81,14 +80,14 @@ core-words s ws k S =
 -- ---- a record: what it stores is a word
 
 abbrev pub RecordWords : Decoded → Type 0
-RecordWords (Valid (Spawn w)) = Unit {0}
-RecordWords (Valid (Return w)) = Unit {0}
-RecordWords (Valid (Steal w v)) = Unit {0}
-RecordWords (Valid (Sync w)) = Unit {0}
-RecordWords (Valid (Read w x)) = Unit {0}
-RecordWords (Valid (Write w x v)) = v < 4294967296
-RecordWords (Valid (Fold w r v)) = Unit {0}
-RecordWords Invalid = Unit {0}
+RecordWords (Some (Spawn w)) = Unit {0}
+RecordWords (Some (Return w)) = Unit {0}
+RecordWords (Some (Steal w v)) = Unit {0}
+RecordWords (Some (Sync w)) = Unit {0}
+RecordWords (Some (Read w x)) = Unit {0}
+RecordWords (Some (Write w x v)) = v < 4294967296
+RecordWords (Some (Fold w r v)) = Unit {0}
+RecordWords None = Unit {0}
 
 -- each of these
 abbrev pub RecordsWords : List Decoded → Type 0
@@ -99,7 +98,7 @@ either_words : (b : Bool) (d e : Decoded) → RecordWords d → RecordWords e �
 either_words true d e h k = h
 either_words false d e h k = k
 
-valid_words : (b : Bool) (st : Step) → RecordWords (Valid st) → RecordWords (valid_if b st)
+valid_words : (b : Bool) (st : Step) → RecordWords (Some st) → RecordWords (valid_if b st)
 valid_words true st h = h
 valid_words false st h = tt
 
@@ -111,15 +110,15 @@ outside_words kind worker field value h =
     (either_words (eqb kind 3) _ _ (valid_words (eqb value 0) (Steal worker field) tt)
     (either_words (eqb kind 4) _ _ (valid_words (eqb field 0 && eqb value 0) (Sync worker) tt)
     (either_words (eqb kind 5) _ _ (valid_words (eqb value 0) (Read worker field) tt)
-    (either_words (eqb kind 6) (Valid (Write worker field value)) _ h
-    (either_words (eqb kind 7) (Valid (Fold worker field value)) Invalid tt tt))))))
+    (either_words (eqb kind 6) (Some (Write worker field value)) _ h
+    (either_words (eqb kind 7) (Some (Fold worker field value)) None tt tt))))))
 
 decoded_words : (bytes : List ℕ) (at : ℕ) → Bytes bytes → RecordWords (decode_at bytes at)
 unfolding decode_at
 decoded_words bytes at h =
     let value : ℕ = little (get_or bytes (at + 4) 0 ∷ get_or bytes (at + 5) 0 ∷ get_or bytes (at + 6) 0 ∷ get_or bytes (at + 7) 0 ∷ []) in
     let v : value < 4294967296 = omega (arith, h (at + 4), h (at + 5), h (at + 6), h (at + 7)) in
-    either_words (ltb (length bytes) (at + 8)) Invalid _ tt (outside_words _ _ _ value v)
+    either_words (ltb (length bytes) (at + 8)) None _ tt (outside_words _ _ _ value v)
 
 pub tape-words_decoded : (k : ℕ) (bytes : List ℕ) (at : ℕ) → Bytes bytes → RecordsWords (records_from k bytes at)
 unfolding records_from
@@ -187,7 +186,7 @@ module _ (layout : Layout) (pools : PoolLaws layout) where
     root_word : (w : ℕ) → (acting_in c w).root < 4294967296
     root_word w = (words-acting (table_of c) w (table-words c C)).root
 
-    done_words_lem : (st : Step) → RecordWords (Valid st) → CoreWords (done_by layout c st).core
+    done_words_lem : (st : Step) → RecordWords (Some st) → CoreWords (done_by layout c st).core
     done_words_lem (Spawn w) h =
         let T = words-spawn (table_of c) w (table-words c C) in
         unfold spawn_on in
@@ -227,13 +226,13 @@ module _ (layout : Layout) (pools : PoolLaws layout) where
     judged-words [] d D = D
     judged-words (t ∷ ts) d D = elim (decided t.0) [ inl e ↦ rw e C | inr e ↦ rw e (judged-words ts d D) ]
 
-    step_words : (st : Step) → RecordWords (Valid st) → CoreWords (step_on layout c st).core
+    step_words : (st : Step) → RecordWords (Some st) → CoreWords (step_on layout c st).core
     unfolding step_on
     step_words st h = judged-words (tests_of layout c st) (done_by layout c st) (done_words_lem st h)
 
   pub record_words_lem : (c : Core) (d : Decoded) → CoreWords c → RecordWords d → CoreWords (record_on layout c d).core
-  record_words_lem c (Valid st) C h = step_words c C st h
-  record_words_lem c Invalid C h = C
+  record_words_lem c (Some st) C h = step_words c C st h
+  record_words_lem c None C h = C
 
   pub run-words : (ds : List Decoded) (c : Core) (answers : List ℕ) (k : ℕ) → CoreWords c → RecordsWords ds → CoreWords (run_on layout (records_result c answers) k ds).core
   unfolding run_on
@@ -277,9 +276,9 @@ module _ (layout : Layout) (pools : PoolLaws layout) where
 
   module _ (s : State) (ws work : List ℕ) (S : StateWords s ws) where
     outside_checked_lem : (k : Checked) (d : Decoded) → RecordWords d → StateWords (outside_checked layout k s ws work d).state (outside_checked layout k s ws work d).pool
-    outside_checked_lem NoRoom d h = S
-    outside_checked_lem Checked.Unsound d h = S
-    outside_checked_lem (Sound n) d h = state_words_lem _ (record_words_lem layout pools (core_of s ws n) d (core-words s ws n S) h)
+    outside_checked_lem (Err NoRoom) d h = S
+    outside_checked_lem (Err CheckError.Unsound) d h = S
+    outside_checked_lem (Ok n) d h = state_words_lem _ (record_words_lem layout pools (core_of s ws n) d (core-words s ws n S) h)
 
     outside_kept : (d : Decoded) → RecordWords d → StateWords (outside_on layout s ws work d).state (outside_on layout s ws work d).pool
     unfolding outside_on outside_with
@@ -287,9 +286,9 @@ module _ (layout : Layout) (pools : PoolLaws layout) where
 
     module _ (bytes answers : List ℕ) (h : Bytes bytes) where
       tape-checked : (k : Checked) → StateWords (tape_checked layout k s ws work bytes answers).state (tape_checked layout k s ws work bytes answers).pool
-      tape-checked NoRoom = S
-      tape-checked Checked.Unsound = S
-      tape-checked (Sound n) = state_words_lem _ (run-words layout pools (records_of bytes) (core_of s ws n) answers 0 (core-words s ws n S) (tape-words_decoded (length bytes / 8) bytes 0 h))
+      tape-checked (Err NoRoom) = S
+      tape-checked (Err CheckError.Unsound) = S
+      tape-checked (Ok n) = state_words_lem _ (run-words layout pools (records_of bytes) (core_of s ws n) answers 0 (core-words s ws n S) (tape-words_decoded (length bytes / 8) bytes 0 h))
 
       tape_kept : StateWords (tape_on layout s ws work bytes answers).state (tape_on layout s ws work bytes answers).pool
       unfolding tape_on tape_with

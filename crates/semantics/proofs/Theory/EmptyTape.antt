@@ -1,5 +1,8 @@
 -- "Empty tape: no answers, only the work slice changed", for every state, pool and slices.
-use Rattle.std.specs.Prelude.{◌≡◌, ℕ, length}
+use Rattle.soundness.specs.Soundness.{Checked}
+use Rattle.soundness.specs.declared.CheckError.{CheckError}
+use Rattle.soundness.specs.declared.CheckError.TheVariants.{NoRoom}
+use Rattle.std.specs.Prelude.{◌≡◌, ℕ, length, Err, Ok}
 use Rattle.std.proofs.Math.Path.{refl}
 use Rattle.std.proofs.Math.Logic.{inl, inr}
 use Rattle.std.proofs.Math.Bool.{false}
@@ -7,8 +10,6 @@ use mathlib.Core.List.{List, []}
 use Rattle.std.proofs.Common.{arith}
 use borrow.Author.Tests.{le-ltb}
 use Rattle.words.specs.Tests.{decided}
-use Rattle.soundness.specs.declared.Checked.{Checked}
-use Rattle.soundness.specs.declared.Checked.TheVariants.{NoRoom, Sound}
 use Rattle.semantics.specs.Entries.{State, fits, checked_state, records_from, run_on, unfit_tape, TapeResult, tape_checked, tape_with, tape_on}
 use Rattle.semantics.specs.Promises.{Fits}
 use Rattle.semantics.proofs.Theory.Fitting.{true_fits, state_back}
@@ -32,6 +33,6 @@ module _ (layout : Layout) where
       left = record { state = refl; pool = refl; same-answers = refl }
 
       after : Fits s → (k : Checked) → Untouched s ws answers (tape_checked layout k s ws work [] answers)
-      after F NoRoom = left
-      after F Checked.Unsound = left
-      after F (Sound n) = unfold run_on records_from in record { state = state_back s ws n F; pool = refl; same-answers = refl }
+      after F (Err NoRoom) = left
+      after F (Err CheckError.Unsound) = left
+      after F (Ok n) = unfold run_on records_from in record { state = state_back s ws n F; pool = refl; same-answers = refl }

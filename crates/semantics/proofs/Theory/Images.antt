@@ -1,5 +1,10 @@
 -- Saves and readings: their ways out, and what an accepted reading of a saved image gives.
-use Rattle.std.specs.Prelude.{◌≡◌, ◌≢◌, ◌⊎◌, Bool, cond, ◌&&◌, List, [], ◌++◌, ℕ, ◌*◌, ◌≤◌, ◌<◌, take, drop, leb}
+use Rattle.image.specs.Image.{ImageCheck}
+use Rattle.image.specs.declared.ImageError.TheVariants.{WrongLength, WrongCheck}
+use Rattle.soundness.specs.Soundness.{Checked}
+use Rattle.soundness.specs.declared.CheckError.{CheckError}
+use Rattle.soundness.specs.declared.CheckError.TheVariants.{NoRoom}
+use Rattle.std.specs.Prelude.{◌≡◌, ◌≢◌, ◌⊎◌, Bool, cond, ◌&&◌, List, [], ◌++◌, ℕ, ◌*◌, ◌≤◌, ◌<◌, take, drop, leb, Err, Ok}
 use Rattle.std.proofs.Math.Path.{refl, sym, ap, subst}
 use Rattle.std.proofs.Common.{◌∙◌, arith, length-append, length-drop, get_or-take}
 use Rattle.std.proofs.Math.Logic.{inl, inr}
@@ -14,12 +19,8 @@ use Rattle.words.specs.Below.{Words, below-take, below-drop, below-append}
 use Rattle.frames.specs.Widths.{max_places}
 use Rattle.frames.specs.declared.Frame.{Frame}
 use Rattle.frames.specs.Frames.{free_record}
-use Rattle.soundness.specs.declared.Checked.{Checked}
-use Rattle.soundness.specs.declared.Checked.TheVariants.{NoRoom}
 use Rattle.soundness.specs.Soundness.{numbers_sound, sound, checked, cleared}
 use Rattle.soundness.proofs.Theory.Sentences.{NumbersFacts, few_places, sound_facts}
-use Rattle.image.specs.declared.ImageCheck.{ImageCheck}
-use Rattle.image.specs.declared.ImageCheck.TheVariants.{WrongLength, WrongCheck, Good}
 use Rattle.image.specs.Widths.{version_step}
 use Rattle.image.specs.Image.{Lengths, ZeroPast, image_check, nodes_in, places_in, pool_in, stored, IsRead}
 use Rattle.image.proofs.Theory.Promises.{Says, sound_past, image_length, saved_front, saved_rest, says_what_was_written, parts_lengths, same_nodes, same_places, pool_length, saved_again}
@@ -46,8 +47,8 @@ module _ (layout : Layout) where
     unsound : is_sound layout h.state h.pool ≡ false → Refuses h
 
 data NotSound (k : Checked) : Type 0 where
-  no_room : k ≡ NoRoom → NotSound k
-  found_unsound : k ≡ Checked.Unsound → NotSound k
+  no_room : k ≡ (Err NoRoom) → NotSound k
+  found_unsound : k ≡ (Err CheckError.Unsound) → NotSound k
 
 module _ (layout : Layout) where
   not_sound : (s : State) (ws work : List ℕ) → is_sound layout s ws ≡ false → NotSound (checked_state layout s ws work)
@@ -155,7 +156,7 @@ module _ (layout : Layout) where
   -- ---- a reading that is accepted
 
   pub record LoadTaken (s : State) (ws work image : List ℕ) : Type 0 where
-    pub good : image_check layout image ≡ Good
+    pub good : image_check layout image ≡ (Ok tt)
     pub as_many : length s.frames ≡ places_in image
     pub sound_read : is_sound layout (state_in layout image) (pool_with layout ws image) ≡ true
     pub is : load_on layout s ws work image ≡ record { state = state_in layout image; pool = pool_with layout ws image; work = cleared (nodes_in image) work; result = 0 }
@@ -175,9 +176,9 @@ module _ (layout : Layout) where
     where
       go : (b : Bool) → fits s ≡ b → (k : ImageCheck) → image_check layout image ≡ k → LoadCase s ws work image
       go false f k e = by_lengths f (rw f refl)
-      go true f WrongLength e = by_blocks (rw (f, e) refl)
-      go true f WrongCheck e = by_check (rw (f, e) refl)
-      go true f Good e = elim (decided (ltb (length work) (nodes_in image))) [
+      go true f (Err WrongLength) e = by_blocks (rw (f, e) refl)
+      go true f (Err WrongCheck) e = by_check (rw (f, e) refl)
+      go true f (Ok _) e = elim (decided (ltb (length work) (nodes_in image))) [
         | inl l ↦ by_work (rw (f, e, l) refl)
         | inr l ↦ elim (decided (eqb (length s.frames) (places_in image) && is_sound layout (state_in layout image) (pool_with layout ws image))) [
           | inl q ↦ (

@@ -1,17 +1,17 @@
 -- What the tape loop keeps of the core: the check shows it, and every step keeps it.
-use Rattle.std.specs.Prelude.{◌≡◌, refl, Bool, true, false, cond, List, ℕ, length, leb}
+use Rattle.soundness.specs.Soundness.{Checked}
+use Rattle.soundness.specs.declared.CheckError.{CheckError}
+use Rattle.soundness.specs.declared.CheckError.TheVariants.{NoRoom}
+use Rattle.model.specs.Record.{Decoded}
+use Rattle.std.specs.Prelude.{◌≡◌, refl, Bool, true, false, cond, List, ℕ, length, leb, Err, None, Ok, Some}
 use Rattle.std.proofs.Common.{sym, ap, ap₂, ◌∙◌, subst, arith}
 use Rattle.sizes.specs.Sizes.{height}
 use Rattle.frames.specs.declared.Frame.{Frame as FrameRecord}
 use Rattle.frames.specs.Widths.{deque_words}
 use Rattle.soundness.specs.declared.Numbers.{Numbers}
-use Rattle.soundness.specs.declared.Checked.{Checked}
-use Rattle.soundness.specs.declared.Checked.TheVariants.{NoRoom, Sound}
 use Rattle.soundness.specs.Numbers.{total_count}
 use Rattle.soundness.specs.Soundness.{sound, count_of_free, checked}
 use Rattle.model.specs.declared.Step.{Step}
-use Rattle.model.specs.declared.Decoded.{Decoded}
-use Rattle.model.specs.declared.Decoded.TheVariants.{Valid, Invalid}
 use Rattle.semantics.specs.Core.{Core, step_on}
 use Rattle.semantics.specs.Entries.{head_of, record_on}
 use Rattle.semantics.specs.Ranges.{Kept}
@@ -25,17 +25,17 @@ use Rattle.semantics.proofs.Theory.Pools.{PoolLaws}
 -- ---- the check finds it so
 
 abbrev free_of : Checked → ℕ
-free_of NoRoom = 0
-free_of Checked.Unsound = 0
-free_of (Sound k) = k
+free_of (Err NoRoom) = 0
+free_of (Err CheckError.Unsound) = 0
+free_of (Ok k) = k
 
-sound-answer : (room p : Bool) (free k : ℕ) → Sound free ≡ cond room (cond p (Sound k) Checked.Unsound) NoRoom → (p ≡ true) × (free ≡ k)
+sound-answer : (room p : Bool) (free k : ℕ) → Ok free ≡ cond room (cond p (Ok k) (Err CheckError.Unsound)) (Err NoRoom) → (p ≡ true) × (free ≡ k)
 sound-answer false p free k e = absurd (let z : ◌≡◌ {A = ℕ} 0 1 = cc in omega arith)
 sound-answer true false free k e = absurd (let z : ◌≡◌ {A = ℕ} 0 1 = cc in omega arith)
 sound-answer true true free k e = (refl, ap free_of e)
 
 module _ (layout : Layout) where
-  pub kept_start : (s : Numbers) (ts ds : List ℕ) (fs : List FrameRecord) (ws ks : List ℕ) (free : ℕ) → length ts ≡ total_count → length ds ≡ deque_words → Sound free ≡ checked layout s ts ds fs ws ks
+  pub kept_start : (s : Numbers) (ts ds : List ℕ) (fs : List FrameRecord) (ws ks : List ℕ) (free : ℕ) → length ts ≡ total_count → length ds ≡ deque_words → Ok free ≡ checked layout s ts ds fs ws ks
       → Kept layout (record { head = head_of s free; totals = ts; deques = ds; frames = fs; pool = ws })
   unfolding checked
   kept_start s ts ds fs ws ks free tlen dlen e =
@@ -69,5 +69,5 @@ module _ (layout : Layout) (pools : PoolLaws layout) where
       })
 
   pub kept_record : (c : Core) → Kept layout c → (d : Decoded) → Kept layout (record_on layout c d).core
-  kept_record c K (Valid st) = kept_step c K st
-  kept_record c K Invalid = K
+  kept_record c K (Some st) = kept_step c K st
+  kept_record c K None = K

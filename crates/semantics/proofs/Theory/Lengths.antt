@@ -1,5 +1,8 @@
 -- Every entry leaves a state whose parts have their lengths, if it had one, and a table of as many places.
-use Rattle.std.specs.Prelude.{◌≡◌, Bool, cond, ◌||◌, length, replicate, eqb}
+use Rattle.soundness.specs.Soundness.{Checked}
+use Rattle.soundness.specs.declared.CheckError.{CheckError}
+use Rattle.soundness.specs.declared.CheckError.TheVariants.{NoRoom}
+use Rattle.std.specs.Prelude.{◌≡◌, Bool, cond, ◌||◌, length, replicate, eqb, Err, None, Ok, Some}
 use Rattle.std.proofs.Math.Path.{refl}
 use Rattle.std.proofs.Common.{◌∙◌, arith, length-append}
 use Rattle.std.proofs.Math.Logic.{inl, inr}
@@ -19,14 +22,10 @@ use Rattle.frames.proofs.Theory.Records.{length-set_frame}
 use Rattle.frames.proofs.Theory.Links.{length-link}
 use Rattle.frames.proofs.Theory.Ends.{length_end}
 use Rattle.frames.proofs.Theory.Cells.{length-set_size, length-set_place}
-use Rattle.soundness.specs.declared.Checked.{Checked}
-use Rattle.soundness.specs.declared.Checked.TheVariants.{NoRoom, Sound}
 use Rattle.soundness.specs.Numbers.{total_count}
 use Rattle.model.specs.declared.Step.{Step}
 use Rattle.model.specs.declared.Step.TheVariants.{Spawn, Return, Steal, Sync, Read, Write, Fold}
-use Rattle.model.specs.declared.Decoded.{Decoded}
-use Rattle.model.specs.declared.Decoded.TheVariants.{Valid, Invalid}
-use Rattle.model.specs.Record.{record_of}
+use Rattle.model.specs.Record.{Decoded, record_of}
 use Rattle.semantics.specs.declared.Refusal.{Refusal}
 use Rattle.semantics.specs.Core.{Core, StepResult, table_of, acting_in, with_table, judged, tests_of, spawn_on, totals_after, end_at, upward, popped, end_bottom, return_on, steal_on, sync_on, read_on, write_on, fold_on, done_by, step_on}
 use Rattle.semantics.specs.Entries.{State, fits, core_of, state_of, checked_state, zeros, StartResult, whole_nodes, first_state, start_with, start_on, outside_checked, outside_with, outside_on, record_on, records_result, run_on, records_of, unfit_tape, tape_checked, tape_with, tape_on}
@@ -206,8 +205,8 @@ judged_long (t ∷ ts) c d L = elim (decided t.0) [ inl e ↦ rw e (parts_refl c
 module _ (layout : Layout) (pools : PoolLaws layout) where
   record_long : (c : Core) (d : Decoded) → PartsAsLong c (record_on layout c d).core
   unfolding step_on
-  record_long c (Valid st) = judged_long (tests_of layout c st) c (done_by layout c st) (done_long layout pools c st)
-  record_long c Invalid = parts_refl c
+  record_long c (Some st) = judged_long (tests_of layout c st) c (done_by layout c st) (done_long layout pools c st)
+  record_long c None = parts_refl c
 
   pub record_fits : (c : Core) (d : Decoded) → Fits (state_of c) → Fits (state_of (record_on layout c d).core)
   record_fits c d f = parts_fit (record_long c d) f
@@ -257,9 +256,9 @@ module _ (layout : Layout) (pools : PoolLaws layout) where
 
     module _ (ws work : List ℕ) where
       outside_checked-fits : (k : Checked) (d : Decoded) → Fits (outside_checked layout k s ws work d).state
-      outside_checked-fits NoRoom d = f
-      outside_checked-fits Checked.Unsound d = f
-      outside_checked-fits (Sound n) d = record_fits layout pools (core_of s ws n) d (core-fits (core_of s ws n) (totals_long s f) f.deques)
+      outside_checked-fits (Err NoRoom) d = f
+      outside_checked-fits (Err CheckError.Unsound) d = f
+      outside_checked-fits (Ok n) d = record_fits layout pools (core_of s ws n) d (core-fits (core_of s ws n) (totals_long s f) f.deques)
 
       pub outside_fits : (d : Decoded) → Fits (outside_on layout s ws work d).state
       unfolding outside_on outside_with
@@ -267,9 +266,9 @@ module _ (layout : Layout) (pools : PoolLaws layout) where
 
       module _ (bytes rs : List ℕ) where
         tape-checked-fits : (k : Checked) → Fits (tape_checked layout k s ws work bytes rs).state
-        tape-checked-fits NoRoom = f
-        tape-checked-fits Checked.Unsound = f
-        tape-checked-fits (Sound n) = run_fits layout pools (records_of bytes) (core_of s ws n) rs 0 (core-fits (core_of s ws n) (totals_long s f) f.deques)
+        tape-checked-fits (Err NoRoom) = f
+        tape-checked-fits (Err CheckError.Unsound) = f
+        tape-checked-fits (Ok n) = run_fits layout pools (records_of bytes) (core_of s ws n) rs 0 (core-fits (core_of s ws n) (totals_long s f) f.deques)
 
         pub tape-fits : Fits (tape_on layout s ws work bytes rs).state
         unfolding tape_on tape_with
@@ -279,18 +278,18 @@ module _ (layout : Layout) (pools : PoolLaws layout) where
 
   module _ (s : State) (ws work : List ℕ) where
     outside_checked_places : (k : Checked) (d : Decoded) → length (outside_checked layout k s ws work d).state.frames ≡ length s.frames
-    outside_checked_places NoRoom d = refl
-    outside_checked_places Checked.Unsound d = refl
-    outside_checked_places (Sound n) d = record_places layout pools (core_of s ws n) d
+    outside_checked_places (Err NoRoom) d = refl
+    outside_checked_places (Err CheckError.Unsound) d = refl
+    outside_checked_places (Ok n) d = record_places layout pools (core_of s ws n) d
 
     outside_places : (d : Decoded) → length (outside_on layout s ws work d).state.frames ≡ length s.frames
     unfolding outside_on outside_with
     outside_places d = elim (decided (fits s)) [ inl e ↦ rw e (outside_checked_places (checked_state layout s ws work) d) | inr e ↦ rw e refl ]
 
     tape-checked_places : (k : Checked) (bytes rs : List ℕ) → length (tape_checked layout k s ws work bytes rs).state.frames ≡ length s.frames
-    tape-checked_places NoRoom bytes rs = refl
-    tape-checked_places Checked.Unsound bytes rs = refl
-    tape-checked_places (Sound n) bytes rs = run_places layout pools (records_of bytes) (core_of s ws n) rs 0
+    tape-checked_places (Err NoRoom) bytes rs = refl
+    tape-checked_places (Err CheckError.Unsound) bytes rs = refl
+    tape-checked_places (Ok n) bytes rs = run_places layout pools (records_of bytes) (core_of s ws n) rs 0
 
     tape_places : (bytes rs : List ℕ) → length (tape_on layout s ws work bytes rs).state.frames ≡ length s.frames
     unfolding tape_on tape_with

@@ -1,5 +1,6 @@
 -- R-8: starts, steps from outside and tapes in both layouts: the same results and answer words, and pools that match again.
-use Rattle.std.specs.Prelude.{◌≡◌, Bool, true, false, cond, ◌||◌, List, [], ◌∷◌, ℕ, ◌+◌, ◌*◌, ◌<◌, eqb, leb, length, drop}
+use Rattle.model.specs.Record.{Decoded}
+use Rattle.std.specs.Prelude.{◌≡◌, Bool, true, false, cond, ◌||◌, List, [], ◌∷◌, ℕ, ◌+◌, ◌*◌, ◌<◌, eqb, leb, length, drop, None, Some}
 use Rattle.std.proofs.Math.Path.{refl}
 use Rattle.std.proofs.Common.{sym, ap, ◌∙◌, subst, arith}
 use Rattle.std.proofs.Math.Logic.{inl, inr}
@@ -13,8 +14,6 @@ use Rattle.packed.proofs.Theory.Unpacks.{Unpacks}
 use Rattle.packed.proofs.Theory.Start.{start_unpacks}
 use Rattle.soundness.specs.Layout.{four_words, two_words}
 use Rattle.soundness.specs.Soundness.{checked, cleared}
-use Rattle.model.specs.declared.Decoded.{Decoded}
-use Rattle.model.specs.declared.Decoded.TheVariants.{Valid, Invalid}
 use Rattle.model.specs.Machine.{Machine}
 use Rattle.semantics.specs.Core.{Core, StepResult}
 use Rattle.semantics.specs.Entries.{State, fits, numbers_of, totals_of, core_of, state_of, chain_free, whole_nodes, StartResult, start_on, start_with, start_accepted, start_refused, record_on, outside_done, outside_with, outside_on, records_of, put_answer, RecordsResult, records_result, run_on, tape_done, unfit_tape, tape_with, tape_on}
@@ -48,13 +47,13 @@ record Core₄ (N : ℕ) (c : Core) : Type 0 where
   nodes : c.head.numbers.nodes ≡ N
 
 record_core : {N : ℕ} {c : Core} (d : Decoded) → Core₄ N c → Core₄ N (record_on four_words c d).core
-record_core {c = c} (Valid st) K = record { machine = _; carried = step_carried four_words four_pools K.machine c st K.carried; nodes = (numbers_kept four_words c st).nodes ∙ K.nodes }
-record_core Invalid K = K
+record_core {c = c} (Some st) K = record { machine = _; carried = step_carried four_words four_pools K.machine c st K.carried; nodes = (numbers_kept four_words c st).nodes ∙ K.nodes }
+record_core None K = K
 
 record_alike : {N : ℕ} {c : Core} {tail ws : List ℕ} (d : Decoded) → Core₄ N c → Unpacks N tail ws c.pool → Alike N tail (record_on two_words (with_pool c ws) d) (record_on four_words c d)
-record_alike {N} {c} {tail} {ws} (Valid st) K U =
-    subst (λ (m : ℕ). Unpacks m tail ws c.pool → Alike m tail (record_on two_words (with_pool c ws) (Valid st)) (record_on four_words c (Valid st))) K.nodes (λ u. step_alike K.machine c K.carried tail ws u st) U
-record_alike {ws = ws} Invalid K U = record { pool = ws; same = refl; unpacks = U }
+record_alike {N} {c} {tail} {ws} (Some st) K U =
+    subst (λ (m : ℕ). Unpacks m tail ws c.pool → Alike m tail (record_on two_words (with_pool c ws) (Some st)) (record_on four_words c (Some st))) K.nodes (λ u. step_alike K.machine c K.carried tail ws u st) U
+record_alike {ws = ws} None K U = record { pool = ws; same = refl; unpacks = U }
 
 -- the state that it leaves, with both pools
 left_match : {N : ℕ} {c : Core} {tail ws : List ℕ} → Core₄ N c → Unpacks N tail ws c.pool → SoundMatch (state_of c) ws c.pool

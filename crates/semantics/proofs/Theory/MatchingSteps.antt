@@ -1,6 +1,6 @@
 -- R-8: a step in both layouts. The two cores are the same but for their pools, of which the one unpacks to the other; the step gives the same answer, and
 -- cores that are so again.
-use Rattle.std.specs.Prelude.{◌≡◌, Bool, true, false, cond, not, List, [], ◌∷◌, ◌++◌, ℕ, suc, ◌≤◌, ◌<◌, eqb, ltb, length}
+use Rattle.std.specs.Prelude.{◌≡◌, Bool, true, false, cond, not, List, [], ◌∷◌, ◌++◌, ℕ, suc, ◌≤◌, ◌<◌, eqb, ltb, length, Ok}
 use Rattle.std.proofs.Math.Path.{refl, ap, subst}
 use Rattle.std.proofs.Common.{sym, ◌∙◌, arith, eqb-true}
 use Rattle.std.proofs.Math.Logic.{inl, inr}
@@ -31,7 +31,6 @@ use Rattle.packed.proofs.Theory.Unpacks.{Unpacks}
 use Rattle.soundness.specs.Layout.{four_words, two_words}
 use Rattle.semantics.specs.declared.Refusal.{Refusal}
 use Rattle.semantics.specs.declared.Refusal.TheVariants.{NoSplitter, PoolFull}
-use Rattle.semantics.specs.declared.Answer.TheVariants.{Accepted}
 use Rattle.semantics.specs.declared.Done.TheVariants.{Value}
 use Rattle.semantics.specs.Core.{Core, StepResult, acting_in, popped, end_at, upward, returned, end_bottom, return_on, spawn_on, steal_on, sync_on, read_on, write_on, fold_on, judged, acting_tests, tests_of, step_on}
 use Rattle.semantics.proofs.Theory.Relation.{Trees, TreeLaws, parent_place, roots_of, Relates, Links}
@@ -151,7 +150,7 @@ module _ (N n : ℕ) (most : N ≤ 16384) (some : 1 ≤ n) where
     read_alike x b busy =
         let F = acting-front busy in
         let e : Two.read_at c.head.height ws (acting_in c w).root x ≡ Four.read_at c.head.height c.pool (acting_in c w).root x = rw levels (reads N n most F.trees U ((acting_in c w).root, F.history) (here refl) x b) in
-        record { pool = ws; same = ap (λ (v : ℕ). record { core = with_pool c ws; answer = Accepted (Value v) }) e; unpacks = U }
+        record { pool = ws; same = ap (λ (v : ℕ). record { core = with_pool c ws; answer = Ok (Value v) }) e; unpacks = U }
 
     rest-same : (x : ℕ) → x < n → 0 < size c.deques w → Two.rest c.head.height ws (acting_in c w).root x ≡ Four.rest c.head.height c.pool (acting_in c w).root x
     rest-same x b busy = (let F = acting-front busy in rw levels (rest_unpacks N n most ((acting_in c w).root, F.history) F.others x b F.trees U))

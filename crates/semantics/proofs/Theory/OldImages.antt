@@ -1,11 +1,11 @@
 -- R-9: an image that the library saved with four-word nodes is refused by 17: R-3, "Each later change of the image adds 256 again and reads only its own form."
-use Rattle.std.specs.Prelude.{◌≡◌, refl, true, List, [], ◌∷◌, ◌++◌, ℕ, suc, ◌-◌, ◌*◌, ◌<◌, length, get_or, take, replicate}
+use Rattle.image.specs.declared.ImageError.TheVariants.{WrongLength}
+use Rattle.std.specs.Prelude.{◌≡◌, refl, true, List, [], ◌∷◌, ◌++◌, ℕ, suc, ◌-◌, ◌*◌, ◌<◌, length, get_or, take, replicate, Err}
 use Rattle.std.proofs.Common.{sym, ap, ◌∙◌, subst, arith}
 use Rattle.words.specs.Basics.{plus}
 use Rattle.words.specs.Below.{plus_word}
 use Rattle.frames.specs.declared.Frame.{Frame}
 use Rattle.soundness.specs.Layout.{four_words, two_words}
-use Rattle.image.specs.declared.ImageCheck.TheVariants.{WrongLength}
 use Rattle.image.specs.Widths.{data_words, version, version_step}
 use Rattle.image.specs.Image.{node_count, place_count, deques_for, table_words, bytes_of, words_of, blocks_of, blocks_for, filled, as_blocks, image_of, first_in, image_check}
 use Rattle.image.proofs.Theory.Bytes.{word_back}
@@ -44,5 +44,5 @@ old_image_refused s ws image parts lent work f I =
     let is : image ≡ saved_image four_words s ws = I.written ∙ (accepted_save four_words four_pools h I.work I.target I.accepted).image in
     let low : first_in image < version two_words =
     subst (λ (b : List ℕ). first_in b < version two_words) (sym is) (saved_first s.numbers s.deques s.frames ws (omega (arith, T.parts.numbers)) (sound_few four_words s ws T.still)) in
-    let e : image_check two_words image ≡ WrongLength = refused_before two_words two_pools.version_le image low in
+    let e : image_check two_words image ≡ (Err WrongLength) = refused_before two_words two_pools.version_le image low in
     rw (f, e) refl

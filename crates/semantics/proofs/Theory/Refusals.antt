@@ -1,5 +1,5 @@
 -- The engine refuses as the plain machine does: each of its tests is the plain machine's test of that number.
-use Rattle.std.specs.Prelude.{◌≡◌, Bool, true, false, not, ◌||◌, ℕ, zero, suc, ◌+◌, ◌*◌, ◌≤◌, ◌<◌, get_or, eqb, ltb}
+use Rattle.std.specs.Prelude.{◌≡◌, Bool, true, false, not, ◌||◌, ℕ, zero, suc, ◌+◌, ◌*◌, ◌≤◌, ◌<◌, get_or, eqb, ltb, Err}
 use Rattle.std.proofs.Math.Path.{refl, sym, ap}
 use Rattle.std.proofs.Common.{ap₂, ◌∙◌, subst, inl, inr, arith, eq-eqb, ne_eqb}
 use mathlib.Core.List.Memᴰ.{append_cases as In-cases}
@@ -32,7 +32,6 @@ use Rattle.model.proofs.Theory.Effects.{Passes, acts, live_with, is_empty_nil, t
 use Rattle.model.proofs.Theory.Histories.{in_use_perm}
 use Rattle.semantics.specs.declared.Refusal.{Refusal}
 use Rattle.semantics.specs.declared.Refusal.TheVariants.{Values, Workers, Nodes, Tape, Work, Unsound, Record, NoWorker, MainReturned, WorkerIdle, ThiefBusy, NoVictim, FramesFull, NoSplitter, PoolFull, Blocks, BlockCheck, Target, NoReducer, Places, Span, Lengths}
-use Rattle.semantics.specs.declared.Answer.TheVariants.{Refused}
 use Rattle.semantics.specs.Answers.{refusal_number}
 use Rattle.semantics.specs.Core.{Core, StepResult, acting_in, idle, no_worker, all_idle, judged, acting_tests, step_on, tests_of, done_by, kind_tests}
 use Rattle.semantics.proofs.Theory.Relation.{Trees, places_of, root_of, Relates}
@@ -61,7 +60,7 @@ module _ (layout : Layout) where
       ltb c.head.free_count (layout.rest c.head.height c.pool (acting_in c w).root x) ≡ ltb M.nodes (in_use M.splitters (live (after_write M w q d x v)))
 
 abbrev pub refused_by : Core → Refusal → StepResult
-refused_by c r = record { core = c; answer = Refused r }
+refused_by c r = record { core = c; answer = Err r }
 
 -- the numbers are 1 to 21, and 99
 pub number_range : (r : Refusal) → (0 < refusal_number r) × (refusal_number r ≤ 99)
@@ -247,7 +246,7 @@ module _ (layout : Layout) where
 
     pub refused_alike : (st : Step) → SameRoom layout M c st
         → (refusal M st ≡ 0 → step_on layout c st ≡ done_by layout c st)
-        × ((k : ℕ) → refusal M st ≡ suc k → (o : Refusal) × (step_on layout c st ≡ record { core = c; answer = Refused o }) × (refusal_number o ≡ suc k))
+        × ((k : ℕ) → refusal M st ≡ suc k → (o : Refusal) × (step_on layout c st ≡ record { core = c; answer = Err o }) × (refusal_number o ≡ suc k))
     unfolding refusal
     refused_alike st same = (
       λ e. step-judged c st ∙ judged_passes (tests_of layout c st) (turn_tests M (turn_of st)) c (done_by layout c st) (alike st same) e,

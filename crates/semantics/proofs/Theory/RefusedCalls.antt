@@ -1,5 +1,9 @@
 -- What a call leaves when it is refused, and of the work slice and the answer words in any case; for every state and pool.
-use Rattle.std.specs.Prelude.{◌≡◌, Bool, false, cond, ℕ, suc, ◌+◌, ◌*◌, ◌/◌, ◌≤◌, ◌<◌, length, drop, set, eqb, leb}
+use Rattle.semantics.specs.Answers.{Answer}
+use Rattle.soundness.specs.Soundness.{Checked}
+use Rattle.soundness.specs.declared.CheckError.{CheckError}
+use Rattle.soundness.specs.declared.CheckError.TheVariants.{NoRoom}
+use Rattle.std.specs.Prelude.{◌≡◌, Bool, false, cond, ℕ, suc, ◌+◌, ◌*◌, ◌/◌, ◌≤◌, ◌<◌, length, drop, set, eqb, leb, Err, None, Ok}
 use Rattle.std.proofs.Math.Path.{refl}
 use Rattle.std.proofs.Common.{sym, ap, ap₂, ◌∙◌, subst, drop-set-lt, leb-false, ne_eqb}
 use Rattle.std.proofs.Math.Logic.{inl, inr}
@@ -7,12 +11,7 @@ use mathlib.Core.List.{List, [], ◌∷◌}
 use native.Mathlib.Omega.{arith}
 use Rattle.words.specs.Tests.{decided, neither}
 use Rattle.soundness.specs.Soundness.{cleared}
-use Rattle.soundness.specs.declared.Checked.{Checked}
-use Rattle.soundness.specs.declared.Checked.TheVariants.{NoRoom, Sound}
-use Rattle.model.specs.declared.Decoded.{Decoded}
-use Rattle.model.specs.declared.Decoded.TheVariants.{Invalid}
-use Rattle.model.specs.Record.{record_of}
-use Rattle.semantics.specs.declared.Answer.{Answer}
+use Rattle.model.specs.Record.{Decoded, record_of}
 use Rattle.semantics.specs.Answers.{answer_words, words_in}
 use Rattle.semantics.specs.Core.{Core}
 use Rattle.semantics.specs.Entries.{State, fits, core_of, state_of, numbers_of, checked_state, StartResult, whole_nodes, record_on, outside_checked, outside_with, outside_on, records_of, put_answer, records_result, run_on, unfit_tape, TapeResult, tape_checked, tape_with, tape_on}
@@ -60,9 +59,9 @@ module _ (layout : Layout) where
   module _ (s : State) (ws work : List ℕ) where
     outside_checked_keeps : Fits s → (k : Checked) (d : Decoded) → (words_in (outside_checked layout k s ws work d).result).0 < 100
         → Same s ws (outside_checked layout k s ws work d).state (outside_checked layout k s ws work d).pool
-    outside_checked_keeps F NoRoom d h = (refl, refl)
-    outside_checked_keeps F Checked.Unsound d h = (refl, refl)
-    outside_checked_keeps F (Sound n) d h =
+    outside_checked_keeps F (Err NoRoom) d h = (refl, refl)
+    outside_checked_keeps F (Err CheckError.Unsound) d h = (refl, refl)
+    outside_checked_keeps F (Ok n) d h =
         let c : Core = core_of s ws n in
         let a : Answer = (record_on layout c d).answer in
         let e = refused_keeps layout c d (subst (λ (w : ℕ × ℕ). w.0 < 100) (words_back (answer_words a) (words_low a)) h) in
@@ -77,9 +76,9 @@ module _ (layout : Layout) where
       SameTape o = Same s ws o.state o.pool × (o.answers ≡ rs)
 
       tape-checked_keeps : (k : Checked) → 0 < (tape_checked layout k s ws work bytes rs).result → SameTape (tape_checked layout k s ws work bytes rs)
-      tape-checked_keeps NoRoom h = ((refl, refl), refl)
-      tape-checked_keeps Checked.Unsound h = ((refl, refl), refl)
-      tape-checked_keeps (Sound n) h = absurd (omega arith)
+      tape-checked_keeps (Err NoRoom) h = ((refl, refl), refl)
+      tape-checked_keeps (Err CheckError.Unsound) h = ((refl, refl), refl)
+      tape-checked_keeps (Ok n) h = absurd (omega arith)
 
       tape_keeps : 0 < (tape_on layout s ws work bytes rs).result → SameTape (tape_on layout s ws work bytes rs)
       unfolding tape_on tape_with
@@ -97,14 +96,14 @@ module _ (layout : Layout) where
       record { same = ap₂ (λ (s : State) (ws : List ℕ). record { state = s; pool = ws }) k.0.0 k.0.1; same-answers = k.1 }
 
   -- a record that is no step is refused, whatever the state
-  pub invalid_refused : (h : StateAndPool) (kind worker field value : ℕ) (work : List ℕ) → record_of kind worker field value ≡ Invalid → IsRefused layout h (outside kind worker field value work)
+  pub invalid_refused : (h : StateAndPool) (kind worker field value : ℕ) (work : List ℕ) → record_of kind worker field value ≡ None → IsRefused layout h (outside kind worker field value work)
   unfolding outside_on outside_with
   invalid_refused h kind worker field value work e = rw e (elim (decided (fits h.state)) [ inl f ↦ rw f (checked_low (checked_state layout h.state h.pool work)) | inr f ↦ rw f (omega arith) ])
     where
-      checked_low : (k : Checked) → (words_in (outside_checked layout k h.state h.pool work Invalid).result).0 < 100
-      checked_low NoRoom = omega arith
-      checked_low Checked.Unsound = omega arith
-      checked_low (Sound n) = omega arith
+      checked_low : (k : Checked) → (words_in (outside_checked layout k h.state h.pool work None).result).0 < 100
+      checked_low (Err NoRoom) = omega arith
+      checked_low (Err CheckError.Unsound) = omega arith
+      checked_low (Ok n) = omega arith
 
 -- ---- the answer words past the last record's
 
@@ -126,9 +125,9 @@ module _ (layout : Layout) where
 
   module _ (s : State) (ws work bytes rs : List ℕ) where
     tape-checked_past : (k : Checked) → Past (2 * (length bytes / 8)) rs (tape_checked layout k s ws work bytes rs).answers
-    tape-checked_past NoRoom = (refl, refl)
-    tape-checked_past Checked.Unsound = (refl, refl)
-    tape-checked_past (Sound n) = run_past (records_of bytes) (core_of s ws n) rs 0 (2 * (length bytes / 8)) (omega (arith, length_records (length bytes / 8) bytes 0))
+    tape-checked_past (Err NoRoom) = (refl, refl)
+    tape-checked_past (Err CheckError.Unsound) = (refl, refl)
+    tape-checked_past (Ok n) = run_past (records_of bytes) (core_of s ws n) rs 0 (2 * (length bytes / 8)) (omega (arith, length_records (length bytes / 8) bytes 0))
 
     tape_on_past : Past (2 * (length bytes / 8)) rs (tape_on layout s ws work bytes rs).answers
     unfolding tape_on tape_with
@@ -156,9 +155,9 @@ Cleared s work r work' = work' ≡ cond (before_check r) work (cleared (numbers_
 module _ (layout : Layout) where
   module _ (s : State) (ws work : List ℕ) where
     outside_checked_work : (k : Checked) (d : Decoded) → Cleared s work (words_in (outside_checked layout k s ws work d).result).0 (outside_checked layout k s ws work d).work
-    outside_checked_work NoRoom d = refl
-    outside_checked_work Checked.Unsound d = refl
-    outside_checked_work (Sound n) d =
+    outside_checked_work (Err NoRoom) d = refl
+    outside_checked_work (Err CheckError.Unsound) d = refl
+    outside_checked_work (Ok n) d =
         let a : Answer = (record_on layout (core_of s ws n) d).answer in
         let e = ap (λ (w : ℕ × ℕ). before_check w.0) (words_back (answer_words a) (words_low a)) ∙ after_check (answer_words a) (not_whole layout (core_of s ws n) d) in
         sym (ap (λ (b : Bool). cond b work (cleared (numbers_of s).nodes work)) e)
@@ -169,9 +168,9 @@ module _ (layout : Layout) where
 
     module _ (bytes rs : List ℕ) where
       tape-checked_work : (k : Checked) → Cleared s work (tape_checked layout k s ws work bytes rs).result (tape_checked layout k s ws work bytes rs).work
-      tape-checked_work NoRoom = refl
-      tape-checked_work Checked.Unsound = refl
-      tape-checked_work (Sound n) = refl
+      tape-checked_work (Err NoRoom) = refl
+      tape-checked_work (Err CheckError.Unsound) = refl
+      tape-checked_work (Ok n) = refl
 
       tape_work : Cleared s work (tape_on layout s ws work bytes rs).result (tape_on layout s ws work bytes rs).work
       unfolding tape_on tape_with

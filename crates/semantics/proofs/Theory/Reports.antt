@@ -1,4 +1,5 @@
 -- R-7: the demands of ReportDemands.
+use Rattle.model.specs.Record.{Decoded}
 use Rattle.std.specs.Prelude.{◌≡◌, refl, ◌≢◌, true, false, List, [], ◌∷◌, ℕ, zero, suc, ◌+◌, ◌/◌, ◌%◌, ◌≤◌, ◌<◌, length, get_or, ltb}
 use Rattle.std.proofs.Common.{sym, ap, ap₂, ◌∙◌, subst, inl, inr, mod-lt, div-add-mod', div-le_self, arith, eq-eqb, ne_eqb, ltb-true, ltb-false}
 use mathlib.Core.List.Memᴰ.{head as here}
@@ -6,7 +7,6 @@ use mathlib.Core.List.{Memᴰ as In}
 use Rattle.std.proofs.Math.Nat.{mod-le}
 use Rattle.words.specs.Tests.{decided}
 use Rattle.model.specs.declared.Step.{Step}
-use Rattle.model.specs.declared.Decoded.{Decoded}
 use Rattle.model.specs.Machine.{Frame, live, is_empty}
 use Rattle.model.specs.Run.{run, trace, Returned}
 use Rattle.model.proofs.Theory.Effects.{live-start}

@@ -1,5 +1,5 @@
 -- What a return answers, and the words beyond the nodes.
-use Rattle.std.specs.Prelude.{◌≡◌, refl, true, false, length, eqb}
+use Rattle.std.specs.Prelude.{◌≡◌, refl, true, false, length, eqb, Ok}
 use Rattle.std.proofs.Common.{sym, ◌∙◌, eq-eqb, ne_eqb}
 use Rattle.std.proofs.Math.Path.{ap, subst}
 use Rattle.std.proofs.Math.Logic.{inl, inr}
@@ -20,7 +20,6 @@ use Rattle.frames.specs.Steps.{ends_too, went_on}
 use Rattle.model.specs.Machine.{Frame, Machine, live, deque, has_child}
 use Rattle.model.proofs.Theory.FrameTree.{FrameTree}
 use Rattle.semantics.specs.declared.Done.TheVariants.{Ended}
-use Rattle.semantics.specs.declared.Answer.TheVariants.{Accepted}
 use Rattle.semantics.specs.Core.{Core, table_of, acting_in, upward, end_at, popped, end_bottom, return_on}
 use Rattle.semantics.proofs.Theory.Relation.{Trees, TreeLaws, parent_place, child_count, root_of, roots_of, Relates, Links}
 use Rattle.semantics.proofs.Theory.Places.{tree_of, childless_count, recorded, acting-place, acting-frame, acting_record}
@@ -33,7 +32,7 @@ use Rattle.semantics.proofs.Theory.Pools.{PoolLaws}
 module _ (layout : Layout) where
   -- ---- a return is accepted, with an outcome
 
-  upward-answers : (d : ℕ) (c : Core) (w q : ℕ) → (o : Returned) × ((upward layout d c w q).answer ≡ Accepted (Ended o))
+  upward-answers : (d : ℕ) (c : Core) (w q : ℕ) → (o : Returned) × ((upward layout d c w q).answer ≡ Ok (Ended o))
   unfolding upward
   upward-answers zero c w q = (Finished, refl)
   upward-answers (suc d) c w q =
@@ -42,7 +41,7 @@ module _ (layout : Layout) where
         | inr e ↦ rw e (went_on (table_of c) q, refl)
       ]
 
-  bottom-answers : (c : Core) (w : ℕ) → (o : Returned) × ((end_bottom layout c w).answer ≡ Accepted (Ended o))
+  bottom-answers : (c : Core) (w : ℕ) → (o : Returned) × ((end_bottom layout c w).answer ≡ Ok (Ended o))
   unfolding end_bottom
   bottom-answers c w =
       let c' : Core = end_at layout (popped c w) (bottom c.deques w) in
@@ -51,7 +50,7 @@ module _ (layout : Layout) where
         | inr e ↦ rw e (Continued, refl)
       ]
 
-  pub return_answers : (c : Core) (w : ℕ) → (o : Returned) × ((return_on layout c w).answer ≡ Accepted (Ended o))
+  pub return_answers : (c : Core) (w : ℕ) → (o : Returned) × ((return_on layout c w).answer ≡ Ok (Ended o))
   unfolding return_on
   return_answers c w =
       elim (decided (eqb (acting_in c w).outstanding 0)) [

@@ -1,21 +1,19 @@
 -- Calls, over any relation `Follows P c` that each record keeps: answers, state and pool follow the machine that is fed the same
 -- records, through refused calls, refused records and tapes.
-use Rattle.std.specs.Prelude.{◌≡◌, refl, Bool, true, false, cond, not, ℕ, suc, ◌+◌, ◌*◌, ◌/◌, ◌%◌, ◌≤◌, ◌<◌, length, get_or, leb, ltb, eqb}
+use Rattle.semantics.specs.Answers.{Answer}
+use Rattle.soundness.specs.Soundness.{Checked}
+use Rattle.soundness.specs.declared.CheckError.TheVariants.{NoRoom}
+use Rattle.std.specs.Prelude.{◌≡◌, refl, Bool, true, false, cond, not, ℕ, suc, ◌+◌, ◌*◌, ◌/◌, ◌%◌, ◌≤◌, ◌<◌, length, get_or, leb, ltb, eqb, Err, None, Ok, Some}
 use Rattle.std.proofs.Common.{sym, ap₂, ◌∙◌, subst, inl, inr, arith, length-append, ltb-false}
 use Rattle.std.proofs.Math.Path.{ap}
 use mathlib.Core.List.{List, [], ◌∷◌, ◌++◌}
 use Rattle.words.specs.Tests.{decided, neither}
 use Rattle.sizes.specs.Sizes.{height}
 use Rattle.semantics.proofs.Theory.Pools.{SameNodes}
-use Rattle.soundness.specs.declared.Checked.{Checked}
-use Rattle.soundness.specs.declared.Checked.TheVariants.{NoRoom, Sound}
 use Rattle.soundness.specs.Soundness.{checked, cleared}
-use Rattle.model.specs.declared.Decoded.{Decoded}
-use Rattle.model.specs.declared.Decoded.TheVariants.{Valid, Invalid}
-use Rattle.model.specs.Record.{record_of}
+use Rattle.model.specs.Record.{Decoded, record_of}
 use Rattle.model.specs.Machine.{Machine}
 use Rattle.semantics.specs.declared.Refusal.TheVariants.{Tape}
-use Rattle.semantics.specs.declared.Answer.{Answer}
 use Rattle.semantics.specs.Answers.{answer_words, words_in}
 use Rattle.semantics.specs.Core.{Core}
 use Rattle.semantics.specs.Entries.{numbers_of, head_of, core_of, state_of, checked_state, record_on, OutsideResult, outside_done, outside_checked, outside_with, outside_on, records_of, put_answer, RecordsResult, records_result, run_on, TapeResult, tape_done, tape_refused, tape_checked, unfit_tape, tape_with, tape_on}
@@ -77,16 +75,16 @@ module _ (layout : Layout) (pools : PoolLaws layout) where
     core-counted = ap (core_of (state_of c) c.pool) (is_sound_lem layout pools K).1 ∙ core_back
 
     record_beyond : (d : Decoded) → Beyond layout c.head.numbers.nodes c.pool (record_on layout c d).core.pool
-    record_beyond (Valid st) = step_beyond layout pools M c K st
-    record_beyond Invalid = (refl, refl)
+    record_beyond (Some st) = step_beyond layout pools M c K st
+    record_beyond None = (refl, refl)
 
     -- ---- the check
 
-    pub check_long : (work : List ℕ) → leb c.head.numbers.nodes (length work) ≡ true → checked_state layout (state_of c) c.pool work ≡ Sound c.head.free_count
+    pub check_long : (work : List ℕ) → leb c.head.numbers.nodes (length work) ≡ true → checked_state layout (state_of c) c.pool work ≡ Ok c.head.free_count
     unfolding checked
     check_long work e = rw (e, (is_sound_lem layout pools K).0, (is_sound_lem layout pools K).1)
 
-    check_short : (work : List ℕ) → leb c.head.numbers.nodes (length work) ≡ false → checked_state layout (state_of c) c.pool work ≡ NoRoom
+    check_short : (work : List ℕ) → leb c.head.numbers.nodes (length work) ≡ false → checked_state layout (state_of c) c.pool work ≡ (Err NoRoom)
     unfolding checked
     check_short work e = rw e
 
@@ -117,8 +115,8 @@ module _ (layout : Layout) (pools : PoolLaws layout) where
 
 module _ (layout : Layout) where
   record_nodes : (c : Core) (d : Decoded) → (record_on layout c d).core.head.numbers.nodes ≡ c.head.numbers.nodes
-  record_nodes c (Valid st) = (numbers_kept layout c st).nodes
-  record_nodes c Invalid = refl
+  record_nodes c (Some st) = (numbers_kept layout c st).nodes
+  record_nodes c None = refl
 
   -- ---- what a call leaves and tells, at once
 

@@ -1,5 +1,5 @@
 -- A write gives the bottom frame a new tree; "Write alters one place of the bottom frame's list".
-use Rattle.std.specs.Prelude.{◌≡◌, ◌≢◌, ℕ, ◌≤◌, ◌<◌, length, get_or, set}
+use Rattle.std.specs.Prelude.{◌≡◌, ◌≢◌, ℕ, ◌≤◌, ◌<◌, length, get_or, set, Ok}
 use Rattle.std.proofs.Math.Path.{refl}
 use Rattle.std.proofs.Common.{sym, ap, ◌∙◌, subst, inl, inr, arith, length-set, get_or-set_same, get_or-set_other}
 use mathlib.Core.List.Memᴰ.{append_cases as In-cases}
@@ -27,7 +27,6 @@ use Rattle.model.specs.Steps.{write, acting, written, after_turn}
 use Rattle.model.proofs.Theory.Effects.{Passes, acts, rest, live_at_lem, live_with}
 use Rattle.model.proofs.Theory.FreshMarks.{MarkInvariant, mark-fresh}
 use Rattle.model.proofs.Theory.Bounds.{Bounded}
-use Rattle.semantics.specs.declared.Answer.TheVariants.{Accepted}
 use Rattle.semantics.specs.declared.Done.TheVariants.{Written}
 use Rattle.semantics.specs.Answers.{answer_words}
 use Rattle.semantics.specs.Core.{Core, StepResult, step_result, with_free_nodes, write_on}
@@ -53,14 +52,14 @@ module _ (layout : Layout) where
     new_frames = set_frame c.frames (r.at q.name) new_record
 
     abbrev new_did : StepResult
-    new_did = step_result (with_free_nodes c.head after.1 after.2) c.totals c.deques new_frames after.0 (Accepted (Written after.2))
+    new_did = step_result (with_free_nodes c.head after.1 after.2) c.totals c.deques new_frames after.0 (Ok (Written after.2))
 
     write_is : write_on layout c w x v ≡ new_did
     unfolding write_on
     write_is =
         rw (acting-place layout r w q d lt e)
         (ap (λ (h : ℕ). let p = layout.write h c.pool c.head.numbers.free_node c.head.free_count root x v in
-        step_result (with_free_nodes c.head p.1 p.2) c.totals c.deques (set_frame c.frames (r.at q.name) (with_root (frame_at c.frames (r.at q.name)) p.3)) p.0 (Accepted (Written p.2))) r.numbers.height_is)
+        step_result (with_free_nodes c.head p.1 p.2) c.totals c.deques (set_frame c.frames (r.at q.name) (with_root (frame_at c.frames (r.at q.name)) p.3)) p.0 (Ok (Written p.2))) r.numbers.height_is)
 
     abbrev others : List Frame
     others = d ++ rest M w

@@ -1,6 +1,8 @@
 -- Demand 2 for sound states and pools, however obtained: the calls follow the machine of the first state, its free nodes set to those
 -- on the chain after each record.
-use Rattle.std.specs.Prelude.{◌≡◌, Bool, true, cond, List, [], ◌∷◌, ◌++◌, ℕ, ◌-◌, ◌*◌, ◌≤◌, length}
+use Rattle.semantics.specs.Answers.{Answer}
+use Rattle.model.specs.Record.{Decoded}
+use Rattle.std.specs.Prelude.{◌≡◌, Bool, true, cond, List, [], ◌∷◌, ◌++◌, ℕ, ◌-◌, ◌*◌, ◌≤◌, length, None, Some}
 use Rattle.std.proofs.Math.Path.{refl, ap, subst}
 use Rattle.std.proofs.Common.{sym, ◌∙◌, inl, inr, arith, eqb-true}
 use Rattle.std.proofs.Math.ListN.{take, drop}
@@ -8,13 +10,10 @@ use Rattle.std.proofs.lemmas.Bool.{eqb-false}
 use Rattle.words.specs.Tests.{decided}
 use Rattle.model.specs.declared.Step.{Step}
 use Rattle.model.specs.declared.Step.TheVariants.{Spawn, Return, Steal, Sync, Read, Write, Fold}
-use Rattle.model.specs.declared.Decoded.{Decoded}
-use Rattle.model.specs.declared.Decoded.TheVariants.{Valid, Invalid}
 use Rattle.model.specs.Machine.{Machine, free_nodes}
 use Rattle.model.specs.Steps.{step, answer}
 use Rattle.model.specs.Views.{views_at_start}
 use Rattle.semantics.specs.declared.Refusal.{Refusal}
-use Rattle.semantics.specs.declared.Answer.{Answer}
 use Rattle.semantics.specs.Answers.{answer_words}
 use Rattle.semantics.specs.Core.{Core, StepResult, judged, spawn_on, return_on, steal_on, sync_on, read_on, write_on, fold_on, step_on, tests_of, done_by}
 use Rattle.semantics.specs.Entries.{State, fits, numbers_of, totals_of, state_of, is_sound, record_on}
@@ -89,23 +88,23 @@ module _ (layout : Layout) (pools : PoolLaws layout) where
     M₁ = roomed layout pools M c st K
 
     -- the engine's own number of free nodes is that of the chain
-    own_left : (step_on layout c st).core.head.free_count ≡ (pool_at layout c (Valid st)).free
+    own_left : (step_on layout c st).core.head.free_count ≡ (pool_at layout c (Some st)).free
     own_left = sym (is_sound_lem layout pools (step_carried layout pools M c st K)).1
 
     -- that of a write is the one before, less the nodes that it takes
-    own_written : is_written (answer M₁ st) ≡ true → (step_on layout c st).core.head.free_count ≡ free_nodes M - rest_in layout c (Valid st)
+    own_written : is_written (answer M₁ st) ≡ true → (step_on layout c st).core.head.free_count ≡ free_nodes M - rest_in layout c (Some st)
     own_written e =
         let a = eqb-true (answer M₁ st).0 106 e in
         let s = step-write c st ((simulated layout pools M c st K).answers.first ∙ a) in
         subst Takes (sym s.3) (takes layout pools M c s.0 s.1 s.2 K) a
       where
         Takes : Step → Type 0
-        Takes u = (answer (roomed layout pools M c u K) u).0 ≡ 106 → (step_on layout c u).core.head.free_count ≡ free_nodes M - rest_in layout c (Valid u)
+        Takes u = (answer (roomed layout pools M c u K) u).0 ≡ 106 → (step_on layout c u).core.head.free_count ≡ free_nodes M - rest_in layout c (Some u)
 
-    own_after : (step_on layout c st).core.head.free_count ≡ cond (is_written (answer M₁ st)) (free_nodes M - rest_in layout c (Valid st)) (pool_at layout c (Valid st)).free
+    own_after : (step_on layout c st).core.head.free_count ≡ cond (is_written (answer M₁ st)) (free_nodes M - rest_in layout c (Some st)) (pool_at layout c (Some st)).free
     own_after = elim (decided (is_written (answer M₁ st))) [ inl e ↦ rw e (own_written e) | inr e ↦ rw e own_left ]
 
-    step_alike : answer_words (step_on layout c st).answer ≡ cond (is_written (answer M₁ st)) (106, free_nodes M - rest_in layout c (Valid st)) (answer M₁ st)
+    step_alike : answer_words (step_on layout c st).answer ≡ cond (is_written (answer M₁ st)) (106, free_nodes M - rest_in layout c (Some st)) (answer M₁ st)
     step_alike = elim (decided (is_written (answer M₁ st))) [
       | inl e ↦ rw e (step_own layout pools c st ((simulated layout pools M c st K).answers.first ∙ eqb-true (answer M₁ st).0 106 e) ∙ ap (λ (k : ℕ). (106, k)) (own_written e))
       | inr e ↦ rw e (elim (simulated layout pools M c st K).answers.unless_written [
@@ -122,12 +121,12 @@ module _ (layout : Layout) (pools : PoolLaws layout) where
   laws = record { carried = λ P c K. K; keeps = keeps; alike = alike; elsewhere = λ P c ws' K S. carried_elsewhere layout pools P.machine c ws' K S }
     where
       keeps : (P : Plain) (c : Core) (d : Decoded) → CarriedBy P c → CarriedBy (from_sound.after P d (pool_at layout c d)) (record_on layout c d).core
-      keeps P c (Valid st) K = subst (λ (k : ℕ). Carried layout pools (with_free (step (roomed layout pools P.machine c st K) st) k) (step_on layout c st).core) (own_after P.machine c st K) (step_carried layout pools P.machine c st K)
-      keeps P c Invalid K = rebased layout pools P.machine c (pool_at layout c Invalid).free K.related K.links K.tree K.deques K.marks K.bounds (sym (is_sound_lem layout pools K).1)
+      keeps P c (Some st) K = subst (λ (k : ℕ). Carried layout pools (with_free (step (roomed layout pools P.machine c st K) st) k) (step_on layout c st).core) (own_after P.machine c st K) (step_carried layout pools P.machine c st K)
+      keeps P c None K = rebased layout pools P.machine c (pool_at layout c None).free K.related K.links K.tree K.deques K.marks K.bounds (sym (is_sound_lem layout pools K).1)
 
       alike : (P : Plain) (c : Core) (d : Decoded) → CarriedBy P c → answer_words (record_on layout c d).answer ≡ from_sound.answers P d (pool_at layout c d)
-      alike P c (Valid st) K = step_alike P.machine c st K
-      alike P c Invalid K = refl
+      alike P c (Some st) K = step_alike P.machine c st K
+      alike P c None K = refl
 
 module _ (layout : Layout) where
   -- ---- every list of calls from a sound state

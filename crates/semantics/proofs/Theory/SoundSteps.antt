@@ -1,5 +1,5 @@
 -- A step of a sound core: what it leaves relates to the next plain machine, is sound, and the words beyond the nodes stand.
-use Rattle.std.specs.Prelude.{◌≡◌, Bool, true, List, ◌∷◌, ◌++◌, ℕ, zero, suc, ◌+◌, ◌-◌, ◌≤◌, ◌<◌, ltb, length}
+use Rattle.std.specs.Prelude.{◌≡◌, Bool, true, List, ◌∷◌, ◌++◌, ℕ, zero, suc, ◌+◌, ◌-◌, ◌≤◌, ◌<◌, ltb, length, Some}
 use Rattle.std.proofs.Math.Path.{refl, subst}
 use Rattle.std.proofs.Common.{sym, ap, ap₂, ◌∙◌, inl, inr, arith}
 use Rattle.std.proofs.lemmas.List.{length-map}
@@ -11,7 +11,6 @@ use Rattle.frames.specs.Widths.{max_places, deque_words}
 use Rattle.soundness.specs.declared.Numbers.{Numbers}
 use Rattle.soundness.specs.Numbers.{total_count}
 use Rattle.soundness.specs.Soundness.{sound, count_of_free}
-use Rattle.model.specs.declared.Decoded.TheVariants.{Valid}
 use Rattle.model.specs.declared.Step.{Step}
 use Rattle.model.specs.declared.Step.TheVariants.{Spawn, Return, Steal, Sync, Read, Write, Fold}
 use Rattle.model.specs.Machine.{Frame, Machine, live, deque, in_use, free_nodes}
@@ -81,7 +80,7 @@ module _ (layout : Layout) (pools : PoolLaws layout) where
         (roots_of c.frames r.at (x.above ++ rest M w)) y v (few (write y v) w x) x.allowed.0 (enough layout r w y v same h) (front_trees (write y v) w x)))
 
     -- a write takes as many nodes as the rest of its path has
-    done_takes : (w y v : ℕ) → SameRoom layout M c (Write w y v) → Passes M (turn_of (Write w y v)) → (write_on layout c w y v).core.head.free_count + rest_in layout c (Valid (Write w y v)) ≡ c.head.free_count
+    done_takes : (w y v : ℕ) → SameRoom layout M c (Write w y v) → Passes M (turn_of (Write w y v)) → (write_on layout c w y v).core.head.free_count + rest_in layout c (Some (Write w y v)) ≡ c.head.free_count
     unfolding write_on
     done_takes w y v same h =
         let x = acts M w (write y v) h in
@@ -197,12 +196,12 @@ module _ (layout : Layout) (pools : PoolLaws layout) where
         (omega (arith, after, in_use_positive n (written q x v) (d ++ rest M w) K.related.numbers.splitters_positive), omega (arith, after, before, in_use-written n x v q (d ++ rest M w)))
 
     -- the engine's own number of levels is that of n
-    pub own_rest : (w x v : ℕ) → layout.rest c.head.height c.pool (acting_in c w).root x ≡ rest_in layout c (Valid (Write w x v))
+    pub own_rest : (w x v : ℕ) → layout.rest c.head.height c.pool (acting_in c w).root x ≡ rest_in layout c (Some (Write w x v))
     own_rest w x v = ap (λ (t : ℕ). layout.rest t c.pool (acting_in c w).root x) (K.related.numbers.height_is ∙ ap height (sym K.related.numbers.splitters))
 
     -- fewer nodes are free than a write takes
     abbrev pub lacks : Step → Bool
-    lacks st = ltb (free_nodes M) (rest_in layout c (Valid st))
+    lacks st = ltb (free_nodes M) (rest_in layout c (Some st))
 
     same_room : (st : Step) → SameRoom layout (with_room M (lacks st)) c st
     same_room (Spawn w) = tt
@@ -273,9 +272,9 @@ module _ (layout : Layout) (pools : PoolLaws layout) where
   -- ---- what a write takes
 
   pub takes : (M : Machine) (c : Core) (w x v : ℕ) (K : Carried layout pools M c) → let st = Write w x v in
-      (answer (roomed M c st K) st).0 ≡ 106 → (step_on layout c st).core.head.free_count ≡ free_nodes M - rest_in layout c (Valid st)
+      (answer (roomed M c st K) st).0 ≡ 106 → (step_on layout c st).core.head.free_count ≡ free_nodes M - rest_in layout c (Some st)
   takes M c w x v K e = elim (accepted_or_refused M₁ (Write w x v)) [
-    | inl a ↦ subst (λ (d : StepResult). d.core.head.free_count ≡ free_nodes M - rest_in layout c (Valid (Write w x v))) (sym ((refused_alike layout r tree deques (Write w x v) room).0 a.zero_refusal))
+    | inl a ↦ subst (λ (d : StepResult). d.core.head.free_count ≡ free_nodes M - rest_in layout c (Some (Write w x v))) (sym ((refused_alike layout r tree deques (Write w x v) room).0 a.zero_refusal))
         (omega (arith, done_takes layout pools M₁ c r links tree deques w x v room a.passes, K.same_free))
     | inr f ↦ absurd (omega (arith, e, ap (λ (z : ℕ × ℕ). z.0) f.answered, refusal_low M₁ (Write w x v)))
   ]

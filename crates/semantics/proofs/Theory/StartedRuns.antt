@@ -1,5 +1,5 @@
 -- The relation that a run from a start keeps, and demands 2 and 3 of document 01 over the entries.
-use Rattle.std.specs.Prelude.{◌≡◌, true, false, ◌↔◌, ℕ, suc, ◌+◌, ◌≤◌, ◌<◌, leb, ltb}
+use Rattle.std.specs.Prelude.{◌≡◌, true, false, ◌↔◌, ℕ, suc, ◌+◌, ◌≤◌, ◌<◌, leb, ltb, None, Some}
 use Rattle.std.proofs.Math.Path.{refl, ap, ap₂, subst}
 use Rattle.std.proofs.Common.{sym, ◌∙◌, arith, le-leb}
 use mathlib.Core.List.{Memᴰ as In}
@@ -11,9 +11,7 @@ use Rattle.sizes.specs.Sizes.{height}
 use Rattle.pool.specs.Theory.InUse.{histories_of}
 use Rattle.model.specs.declared.Step.{Step}
 use Rattle.model.specs.declared.Step.TheVariants.{Spawn, Return, Steal, Sync, Read, Write, Fold}
-use Rattle.model.specs.declared.Decoded.{Decoded}
-use Rattle.model.specs.declared.Decoded.TheVariants.{Valid, Invalid}
-use Rattle.model.specs.Record.{record_of}
+use Rattle.model.specs.Record.{Decoded, record_of}
 use Rattle.model.specs.History.{nodes_in_use}
 use Rattle.model.specs.Machine.{Name, Frame, Machine, live, deque, histories, in_use, start}
 use Rattle.model.specs.Machine.{free_nodes as plainFree}
@@ -207,12 +205,12 @@ module _ (layout : Layout) (pools : PoolLaws layout) where
   laws = record { carried = carried layout pools; keeps = keeps; alike = alike; elsewhere = follows_elsewhere }
     where
       keeps : (P : Plain) (c : Core) (d : Decoded) → Follows layout pools P c → Follows layout pools (record { machine = plain_after P.machine d; views = views_by P d }) (record_on layout c d).core
-      keeps P c (Valid st) F = (follows_step P c st F).next
-      keeps P c Invalid F = F
+      keeps P c (Some st) F = (follows_step P c st F).next
+      keeps P c None F = F
 
       alike : (P : Plain) (c : Core) (d : Decoded) → Follows layout pools P c → answer_words (record_on layout c d).answer ≡ plain_answer P.machine d
-      alike P c (Valid st) F = (follows_step P c st F).alike
-      alike P c Invalid F = refl
+      alike P c (Some st) F = (follows_step P c st F).alike
+      alike P c None F = refl
 
   pub start_follows : (b : Start) → Fit layout b.workers b.values b.parts.frames b.pool → Follows layout pools (plain_begun layout b) (first_core layout b.workers b.values b.parts.frames b.pool)
   start_follows b F = record {
@@ -259,10 +257,10 @@ module _ (layout : Layout) (pools : PoolLaws layout) where
       let P = followed layout b calls in
       let C = carried layout pools P c E.follows in
       let G = counted-rest layout pools P c E.follows u x v q d (there_is_worker M u (omega (arith, ap length at))) at below in
-      let rest_is : layout.rest c.head.height c.pool (acting_in c u).root x ≡ rest_in layout (core_in layout (run_from layout b calls).now) (Valid (Write u x v)) =
-      own_rest layout pools M c C u x v ∙ sym (ap (λ (h : StateAndPool). rest_in layout (core_in layout h) (Valid (Write u x v))) E.held ∙ ap (λ (d : Core). rest_in layout d (Valid (Write u x v))) (core-counted layout pools C)) in
+      let rest_is : layout.rest c.head.height c.pool (acting_in c u).root x ≡ rest_in layout (core_in layout (run_from layout b calls).now) (Some (Write u x v)) =
+      own_rest layout pools M c C u x v ∙ sym (ap (λ (h : StateAndPool). rest_in layout (core_in layout h) (Some (Write u x v))) E.held ∙ ap (λ (d : Core). rest_in layout d (Some (Write u x v))) (core-counted layout pools C)) in
       let free_is : c.head.free_count ≡ chain_free layout (run_from layout b calls).now.state (run_from layout b calls).now.pool = sym (is_sound_lem layout pools C).1 ∙ sym (ap (λ (h : StateAndPool). chain_free layout h.state h.pool) E.held) in
-      subst (λ (k : ℕ). Counted M k (rest_in layout (core_in layout (run_from layout b calls).now) (Valid (Write u x v))) (after_write M u q d x v)) free_is
+      subst (λ (k : ℕ). Counted M k (rest_in layout (core_in layout (run_from layout b calls).now) (Some (Write u x v))) (after_write M u q d x v)) free_is
       (subst (λ (k : ℕ). Counted M c.head.free_count k (after_write M u q d x v)) rest_is G)
 
   pub writes_again : (b : Start) (calls : List Call) → (start_result layout b).result ≡ 0 → StartWords b → AllCallWords calls → WritesAgain layout b calls
@@ -292,7 +290,7 @@ record Fields (s : Step) (work : List ℕ) : Type 0 where
   field : ℕ
   value : ℕ
   call : call_of s work ≡ outside kind worker field value work
-  decoded : record_of kind worker field value ≡ Valid s
+  decoded : record_of kind worker field value ≡ Some s
 
 fields : (s : Step) (work : List ℕ) → Fields s work
 unfolding record_of
@@ -306,7 +304,7 @@ fields (Fold w i x) work = record { kind = 7; worker = w; field = i; value = x; 
 
 module _ (layout : Layout) (pools : PoolLaws layout) where
   -- with a long enough work slice the step is fed
-  fed_one : (P : Plain) (h : StateAndPool) (s : Step) (work : List ℕ) → KeptBy (Follows layout pools) h P → P.machine.nodes ≤ length work → records_in (exchanges_of layout h (call_of s work)) ≡ Valid s ∷ []
+  fed_one : (P : Plain) (h : StateAndPool) (s : Step) (work : List ℕ) → KeptBy (Follows layout pools) h P → P.machine.nodes ≤ length work → records_in (exchanges_of layout h (call_of s work)) ≡ Some s ∷ []
   fed_one P h s work K long =
       let c = K.core in
       let q = fields s work in
@@ -317,7 +315,7 @@ module _ (layout : Layout) (pools : PoolLaws layout) where
 
   -- a run with these steps has fed them after what it had
   all_fed : (works : ℕ → List ℕ) (ss : List Step) (P : Plain) (r : Run) (i : ℕ) → KeptBy (Follows layout pools) r.now P → ((j : ℕ) → P.machine.nodes ≤ length (works j))
-      → records_in (run_of layout r (map call (one_by_one works i ss))).past.exchanges ≡ records_in r.past.exchanges ++ map Valid ss
+      → records_in (run_of layout r (map call (one_by_one works i ss))).past.exchanges ≡ records_in r.past.exchanges ++ map Some ss
   all_fed works [] P r i K long = sym (append-nil (records_in r.past.exchanges))
   all_fed works (s ∷ ss) P r i K long =
       let h = r.now in
@@ -325,11 +323,11 @@ module _ (layout : Layout) (pools : PoolLaws layout) where
       let e = fed_one P h s (works i) K (long i) in
       let A = call_follows layout pools from_start (Follows layout pools) (laws layout pools) P h k K in
       let K₁ : KeptBy (Follows layout pools) (after_call layout h k) (stepped P s) = subst (λ z. KeptBy (Follows layout pools) (after_call layout h k) (machine_by from_start P z (pools_at layout (core_in layout h) z))) e A.fed.kept in
-      let done : records_in (r.past.exchanges ++ exchanges_of layout h k) ≡ records_in r.past.exchanges ++ (Valid s ∷ []) =
+      let done : records_in (r.past.exchanges ++ exchanges_of layout h k) ≡ records_in r.past.exchanges ++ (Some s ∷ []) =
       map-append (λ (t : Exchange). t.0) r.past.exchanges (exchanges_of layout h k) ∙ ap (λ z. records_in r.past.exchanges ++ z) e in
       all_fed works ss (stepped P s) (run_after layout r (call k)) (suc i) K₁ (λ j. subst (λ q. q ≤ length (works j)) (sym (sizes_step P.machine s).nodes) (long j))
-      ∙ ap (λ z. z ++ map Valid ss) done
-      ∙ append_assoc (records_in r.past.exchanges) (Valid s ∷ []) (map Valid ss)
+      ∙ ap (λ z. z ++ map Some ss) done
+      ∙ append_assoc (records_in r.past.exchanges) (Some s ∷ []) (map Some ss)
 
   -- a run in this layout that has followed the plain machine of a start with N nodes and these places, and in which Main has returned; and a start of one worker
   -- with the same values, as many nodes and as many places
@@ -393,7 +391,7 @@ module _ (layout : Layout) (pools : PoolLaws layout) where
     unfolding b₁
     start_is = ap₂ (λ (n k : ℕ). start 1 values n k) as_many same_places
 
-    fed : records_in (run_from layout b₁ calls₁).past.exchanges ≡ map Valid ones
+    fed : records_in (run_from layout b₁ calls₁).past.exchanges ≡ map Some ones
     unfolding ones calls₁ b₁
     fed = all_fed works (one_worker_steps trace₀) (plain_begun layout b₁) (begun (after_start layout b₁)) 0 K₁ (λ j. subst (λ q. q ≤ length (works j)) (sym as_many) (long j))
 

@@ -1,8 +1,8 @@
 -- The answer words of a tape's records.
+use Rattle.semantics.specs.Answers.{Answer}
+use Rattle.model.specs.Record.{Decoded}
 use Rattle.std.specs.Prelude.{◌≡◌, refl, List, [], ◌∷◌, ℕ, zero, suc, ◌+◌, ◌<◌, length, get_or, set}
 use Rattle.std.proofs.Common.{ap, ◌∙◌, arith, length-set, get_or-set_same, get_or-set_other}
-use Rattle.model.specs.declared.Decoded.{Decoded}
-use Rattle.semantics.specs.declared.Answer.{Answer}
 use Rattle.semantics.specs.Answers.{answer_words}
 use Rattle.semantics.specs.Entries.{records_from, put_answer}
 use Rattle.semantics.specs.Calls.{exchanges_from, records_in}

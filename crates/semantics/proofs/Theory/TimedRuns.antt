@@ -1,5 +1,6 @@
 -- R-7: along a run from a start the clock words hold the clocks beside the plain machine, so that work and span are its pair.
-use Rattle.std.specs.Prelude.{◌≡◌, length, get_or, replicate}
+use Rattle.model.specs.Record.{Decoded}
+use Rattle.std.specs.Prelude.{◌≡◌, length, get_or, replicate, None, Some}
 use Rattle.std.proofs.Math.Path.{refl, ap}
 use Rattle.std.proofs.Common.{sym, ◌∙◌, subst, arith}
 use Rattle.std.proofs.Math.Logic.{inl, inr}
@@ -10,8 +11,6 @@ use Rattle.std.proofs.lemmas.List.{length-replicate}
 use Rattle.words.specs.Below.{below-replicate}
 use Rattle.frames.proofs.Theory.Start.{length_init}
 use Rattle.model.specs.declared.Step.{Step}
-use Rattle.model.specs.declared.Decoded.{Decoded}
-use Rattle.model.specs.declared.Decoded.TheVariants.{Valid, Invalid}
 use Rattle.model.specs.Machine.{Machine}
 use Rattle.model.specs.Steps.{answer}
 use Rattle.model.specs.Run.{run}
@@ -62,7 +61,7 @@ module _ (layout : Layout) (pools : PoolLaws layout) where
     pub follows : Follows layout pools P c
     pub timed : Timed layout follows.related C t
 
-  step_beside : (P : Plain) (C : Clocks) (c : Core) (t : Timing) (st : Step) → TimedBeside P C c t → TimedBeside (stepped P st) (clocks_after P.machine C st) (step_on layout c st).core (timed_record layout c (Valid st) t)
+  step_beside : (P : Plain) (C : Clocks) (c : Core) (t : Timing) (st : Step) → TimedBeside P C c t → TimedBeside (stepped P st) (clocks_after P.machine C st) (step_on layout c st).core (timed_record layout c (Some st) t)
   step_beside P C c t st B =
       let F = B.follows in
       let N = follows_step layout pools P c st F in
@@ -74,7 +73,7 @@ module _ (layout : Layout) (pools : PoolLaws layout) where
 
 module _ (layout : Layout) where
   -- a record that is no step moves no clock
-  no_step : (c : Core) (t : Timing) → timed_record layout c Invalid t ≡ t
+  no_step : (c : Core) (t : Timing) → timed_record layout c None t ≡ t
   unfolding timed_with
   no_step c t = refl
 
@@ -88,11 +87,11 @@ module _ (layout : Layout) (pools : PoolLaws layout) where
   pub runs_beside : (ds : List Decoded) (P : Plain) (C : Clocks) (c : Core) (t : Timing) → TimedBeside layout pools P C c t → RunBeside P C c t ds
   unfolding timed_over
   runs_beside [] P C c t B = record { plain = P; machine = refl; beside = B }
-  runs_beside (Valid st ∷ ds) P C c t B =
-      let R = runs_beside ds (stepped P st) (clocks_after P.machine C st) (step_on layout c st).core (timed_record layout c (Valid st) t) (step_beside layout pools P C c t st B) in
+  runs_beside (Some st ∷ ds) P C c t B =
+      let R = runs_beside ds (stepped P st) (clocks_after P.machine C st) (step_on layout c st).core (timed_record layout c (Some st) t) (step_beside layout pools P C c t st B) in
       record { plain = R.plain; machine = R.machine; beside = R.beside }
-  runs_beside (Invalid ∷ ds) P C c t B =
-      let R = runs_beside ds P C c (timed_record layout c Invalid t) (subst (TimedBeside layout pools P C c) (sym (no_step layout c t)) B) in
+  runs_beside (None ∷ ds) P C c t B =
+      let R = runs_beside ds P C c (timed_record layout c None t) (subst (TimedBeside layout pools P C c) (sym (no_step layout c t)) B) in
       record { plain = R.plain; machine = R.machine; beside = R.beside }
 
 -- ---- from a start

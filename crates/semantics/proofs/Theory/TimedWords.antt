@@ -1,6 +1,7 @@
 -- R-7, for the engine's code of a report: the start passes the check; what bounds the clock words, work and span; records that move no deque; a tape's
 -- records in two parts.
-use Rattle.std.specs.Prelude.{◌≡◌, ◌⊎◌, Bool, true, false, cond, ◌&&◌, get_or, set, replicate, leb}
+use Rattle.model.specs.Record.{Decoded}
+use Rattle.std.specs.Prelude.{◌≡◌, ◌⊎◌, Bool, true, false, cond, ◌&&◌, get_or, set, replicate, leb, None, Ok, Some}
 use Rattle.std.proofs.Math.Path.{refl, subst}
 use Rattle.std.proofs.Common.{sym, ap, ◌∙◌}
 use Rattle.std.proofs.Math.Logic.{inl, inr}
@@ -18,11 +19,8 @@ use Rattle.frames.specs.Widths.{deque_words}
 use Rattle.frames.specs.declared.Frame.{Frame}
 use Rattle.frames.specs.Frames.{frame_at}
 use Rattle.frames.specs.Deques.{bottom}
-use Rattle.soundness.specs.declared.Checked.TheVariants.{Sound}
 use Rattle.soundness.specs.Numbers.{number_count}
 use Rattle.model.specs.declared.Step.TheVariants.{Spawn, Return, Steal, Sync, Read, Write, Fold}
-use Rattle.model.specs.declared.Decoded.{Decoded}
-use Rattle.model.specs.declared.Decoded.TheVariants.{Valid, Invalid}
 use Rattle.semantics.specs.declared.Refusal.{Refusal}
 use Rattle.semantics.specs.Answers.{answer_words}
 use Rattle.semantics.specs.Core.{Core, StepResult, judged, read_on, write_on, fold_on, step_on, tests_of}
@@ -68,10 +66,10 @@ module _ (layout : Layout) (pools : PoolLaws layout) where
     as_accepted T x = subst T (sym started_accepts.result) x
 
     pub started_checked : (work : List ℕ) → whole_nodes layout ws ≤ length work
-        → let o = start_with layout workers vs fs ws in checked_state layout o.state o.pool work ≡ Sound (chain_free layout o.state o.pool)
+        → let o = start_with layout workers vs fs ws in checked_state layout o.state o.pool work ≡ Ok (chain_free layout o.state o.pool)
     started_checked work long =
-        as_accepted (λ o. checked_state layout o.state o.pool work ≡ Sound (chain_free layout o.state o.pool))
-        (check_long layout pools first_carried work (le-leb (whole_nodes layout ws) (length work) long) ∙ ap Sound (sym (is_sound_lem layout pools first_carried).1))
+        as_accepted (λ o. checked_state layout o.state o.pool work ≡ Ok (chain_free layout o.state o.pool))
+        (check_long layout pools first_carried work (le-leb (whole_nodes layout ws) (length work) long) ∙ ap Ok (sym (is_sound_lem layout pools first_carried).1))
 
     pub started_fits : Fits (start_with layout workers vs fs ws).state
     started_fits = as_accepted (λ o. Fits o.state) (core-fits layout pools first_carried)
@@ -193,14 +191,14 @@ module _ (layout : Layout) (pools : PoolLaws layout) where
 -- ---- a record that is no step, a read, a write and a fold move no deque, and tick if they are accepted
 
 abbrev pub moves_no_deque : Decoded → Bool
-moves_no_deque Invalid = true
-moves_no_deque (Valid (Spawn w)) = false
-moves_no_deque (Valid (Return w)) = false
-moves_no_deque (Valid (Steal w v)) = false
-moves_no_deque (Valid (Sync w)) = false
-moves_no_deque (Valid (Read w x)) = true
-moves_no_deque (Valid (Write w x v)) = true
-moves_no_deque (Valid (Fold w r v)) = true
+moves_no_deque None = true
+moves_no_deque (Some (Spawn w)) = false
+moves_no_deque (Some (Return w)) = false
+moves_no_deque (Some (Steal w v)) = false
+moves_no_deque (Some (Sync w)) = false
+moves_no_deque (Some (Read w x)) = true
+moves_no_deque (Some (Write w x v)) = true
+moves_no_deque (Some (Fold w r v)) = true
 
 -- the core of a result has these deques, and its answer refuses, or is one of the kinds 5 to 7
 record Ticks (c : Core) (d : StepResult) : Type 0 where
@@ -217,14 +215,14 @@ judged_ticks (t ∷ ts) c d h = elim (decided t.0) [
 module _ (layout : Layout) where
   record_ticks : (c : Core) (d : Decoded) → moves_no_deque d ≡ true → Ticks c (record_on layout c d)
   unfolding step_on read_on write_on fold_on
-  record_ticks c Invalid e = record { deques = refl; first = inl (omega arith) }
-  record_ticks c (Valid (Spawn w)) e = absurd (true≢false (sym e))
-  record_ticks c (Valid (Return w)) e = absurd (true≢false (sym e))
-  record_ticks c (Valid (Steal w v)) e = absurd (true≢false (sym e))
-  record_ticks c (Valid (Sync w)) e = absurd (true≢false (sym e))
-  record_ticks c (Valid (Read w x)) e = judged_ticks (tests_of layout c (Read w x)) c (read_on layout c w x) (record { deques = refl; first = inr (omega arith) })
-  record_ticks c (Valid (Write w x v)) e = judged_ticks (tests_of layout c (Write w x v)) c (write_on layout c w x v) (record { deques = refl; first = inr (omega arith) })
-  record_ticks c (Valid (Fold w r v)) e = judged_ticks (tests_of layout c (Fold w r v)) c (fold_on c w r v) (record { deques = refl; first = inr (omega arith) })
+  record_ticks c None e = record { deques = refl; first = inl (omega arith) }
+  record_ticks c (Some (Spawn w)) e = absurd (true≢false (sym e))
+  record_ticks c (Some (Return w)) e = absurd (true≢false (sym e))
+  record_ticks c (Some (Steal w v)) e = absurd (true≢false (sym e))
+  record_ticks c (Some (Sync w)) e = absurd (true≢false (sym e))
+  record_ticks c (Some (Read w x)) e = judged_ticks (tests_of layout c (Read w x)) c (read_on layout c w x) (record { deques = refl; first = inr (omega arith) })
+  record_ticks c (Some (Write w x v)) e = judged_ticks (tests_of layout c (Write w x v)) c (write_on layout c w x v) (record { deques = refl; first = inr (omega arith) })
+  record_ticks c (Some (Fold w r v)) e = judged_ticks (tests_of layout c (Fold w r v)) c (fold_on c w r v) (record { deques = refl; first = inr (omega arith) })
 
   pub deques_kept : (c : Core) (d : Decoded) → moves_no_deque d ≡ true → (record_on layout c d).core.deques ≡ c.deques
   deques_kept c d e = (record_ticks c d e).deques

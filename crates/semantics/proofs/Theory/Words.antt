@@ -1,21 +1,19 @@
 -- The answer words: which answers refuse a whole call, and which accept a step; the two words in one number.
-use Rattle.std.specs.Prelude.{◌≡◌, Bool, true, false, List, [], ◌∷◌, ℕ, ◌+◌, ◌*◌, ◌/◌, ◌%◌, ◌^◌, ◌<◌}
+use Rattle.semantics.specs.Answers.{Answer}
+use Rattle.model.specs.Record.{Decoded}
+use Rattle.std.specs.Prelude.{◌≡◌, Bool, true, false, List, [], ◌∷◌, ℕ, ◌+◌, ◌*◌, ◌/◌, ◌%◌, ◌^◌, ◌<◌, Err, None, Ok, Some}
 use Rattle.std.proofs.Math.Path.{refl, ap}
 use Rattle.std.proofs.Common.{sym, ap₂, ◌∙◌, inl, inr, arith}
 use Rattle.std.proofs.lemmas.Bool.{lt-leb}
 use Rattle.words.specs.Tests.{decided, true≢false}
 use Rattle.model.specs.declared.Step.{Step}
 use Rattle.model.specs.declared.Step.TheVariants.{Spawn, Return, Steal, Sync, Read, Write, Fold}
-use Rattle.model.specs.declared.Decoded.{Decoded}
-use Rattle.model.specs.declared.Decoded.TheVariants.{Valid, Invalid}
 use Rattle.model.specs.Machine.{Frame, Machine, deque}
 use Rattle.model.specs.Steps.{Action, spawn, return, sync, read, write, fold, Turn, acting, stealing, turn_of, first_true, turn_tests, refusal, action_answer, turn_answer}
 use Rattle.model.specs.Run.{bottom_entry as plainBottom, turn_entry as plainEntry}
 use Rattle.model.proofs.Theory.Effects.{Passes, acts}
 use Rattle.semantics.specs.declared.Done.TheVariants.{Spawned, Ended, Stolen, Waited, Value, Written, Folded}
 use Rattle.semantics.specs.declared.Refusal.{Refusal}
-use Rattle.semantics.specs.declared.Answer.{Answer}
-use Rattle.semantics.specs.declared.Answer.TheVariants.{Accepted, Refused}
 use Rattle.semantics.specs.Answers.{refusal_number, answer_words, both_words, words_in}
 use Rattle.frames.specs.declared.Returned.{Returned}
 use Rattle.semantics.proofs.Theory.Returning.{return_answers}
@@ -29,14 +27,14 @@ use Rattle.soundness.specs.Layout.{Layout}
 
 -- the first word fits the low half
 pub words_low : (a : Answer) → (answer_words a).0 < 2 ^ 32
-words_low (Accepted (Spawned k)) = omega arith
-words_low (Accepted (Ended o)) = omega arith
-words_low (Accepted (Stolen k)) = omega arith
-words_low (Accepted (Waited o)) = omega arith
-words_low (Accepted (Value v)) = omega arith
-words_low (Accepted (Written k)) = omega arith
-words_low (Accepted Folded) = omega arith
-words_low (Refused r) = omega (arith, (number_range r).1)
+words_low (Ok (Spawned k)) = omega arith
+words_low (Ok (Ended o)) = omega arith
+words_low (Ok (Stolen k)) = omega arith
+words_low (Ok (Waited o)) = omega arith
+words_low (Ok (Value v)) = omega arith
+words_low (Ok (Written k)) = omega arith
+words_low (Ok Folded) = omega arith
+words_low (Err r) = omega (arith, (number_range r).1)
 
 -- the two words go into one number and come back
 pub words_back : (w : ℕ × ℕ) → w.0 < 2 ^ 32 → words_in (both_words w) ≡ w
@@ -55,7 +53,7 @@ judged_not_whole : (ts : List (Bool × Refusal)) (c : Core) (d : StepResult) →
 judged_not_whole [] c d h k = k
 judged_not_whole (t ∷ ts) c d h k = elim (decided t.0) [ inl e ↦ rw e h.0 | inr e ↦ rw e (judged_not_whole ts c d h.1 k) ]
 
-ended_whole : (o : Returned) → refused_whole (answer_words (Accepted (Ended o))) ≡ false
+ended_whole : (o : Returned) → refused_whole (answer_words (Ok (Ended o))) ≡ false
 ended_whole o = refl
 
 module _ (layout : Layout) where
@@ -82,8 +80,8 @@ module _ (layout : Layout) where
       done (Fold w r v) = unfold fold_on in refl
 
   pub not_whole : (c : Core) (d : Decoded) → refused_whole (answer_words (record_on layout c d).answer) ≡ false
-  not_whole c (Valid st) = step_not_whole c st
-  not_whole c Invalid = refl
+  not_whole c (Some st) = step_not_whole c st
+  not_whole c None = refl
 
 -- ---- a record that is refused changes nothing
 
@@ -109,8 +107,8 @@ module _ (layout : Layout) where
   step_keeps c st e = judged_keeps (tests_of layout c st) c (done_by layout c st) (done_accepts c st) e
 
   pub refused_keeps : (c : Core) (d : Decoded) → (answer_words (record_on layout c d).answer).0 < 100 → (record_on layout c d).core ≡ c
-  refused_keeps c (Valid st) h = step_keeps c st (lt-leb 100 (answer_words (step_on layout c st).answer).0 h)
-  refused_keeps c Invalid h = refl
+  refused_keeps c (Some st) h = step_keeps c st (lt-leb 100 (answer_words (step_on layout c st).answer).0 h)
+  refused_keeps c None h = refl
 
 -- ---- the plain machine's refusals are 8 to 16, and 20
 

@@ -1,10 +1,17 @@
--- No power of two below 2^h covers n, and 2^h does.
-use Rattle.std.proofs.Common.{sym, arith}
-use Rattle.sizes.specs.Heights.{height_is, lt_pow}
+-- The digits of n - 1: their power of two covers n, and no lower one does.
+use Rattle.std.proofs.Common.{◌≡◌, ℕ, suc, ◌+◌, ◌-◌, ◌*◌, ◌^◌, ◌≤◌, ◌<◌, sym, ◌∙◌, arith, pow_pos}
+use Rattle.std.specs.Int.Count.{count_leading_zeros}
+use Rattle.std.proofs.lemmas.Nat.{leading_length}
+use Rattle.std.proofs.Math.Pow.{pow_mono}
+use Rattle.sizes.specs.Sizes.{height}
+use Rattle.sizes.specs.Heights.{height_is}
 use Rattle.sizes.proofs.height_of.Goals as goal
 
-pub overflow_add-h : goal.overflow_add-h
-overflow_add-h c = record { fits = omega (arith, c.loop-room-test.true, c.loop-room.invariant.0, lt_pow c.loop-room.h) }
+by_digits : (n m : ℕ) → n - 1 < 2 ^ m → 2 ^ m ≤ 2 * (n - 1) + 1 → height n ≡ m
+by_digits n m up low = height_is n m (omega arith) (λ k b. omega (arith, low, pow_mono {i = suc k} b, pow_pos k))
 
 pub returns : goal.returns
-returns c = sym (height_is c.args.n c.loop-room.h (omega (arith, c.loop-room-test.false, c.loop-room.invariant.0)) c.loop-room.invariant.1)
+returns c =
+    let d = leading_length 32 c.saturating_sub.result (omega (arith, c.saturating_sub.type_inv)) in
+    let m : 32 - count_leading_zeros 32 c.saturating_sub.result ≡ d.0 = omega (arith, d.1) in
+    m ∙ sym (by_digits c.args.n d.0 (omega (arith, d.2, c.saturating_sub.ensures)) (omega (arith, d.3, c.saturating_sub.ensures)))

@@ -1,5 +1,5 @@
 -- A sum of at most 33 widths, each at most n.
-use Rattle.std.proofs.Common.{◌≡◌, ℕ, suc, ◌*◌, ◌≤◌, ◌<◌, ◌^◌, ap, ◌∙◌, arith}
+use Rattle.std.proofs.Common.{◌≡◌, ℕ, ◌+◌, ◌*◌, ◌≤◌, ◌<◌, ◌^◌, arith}
 use native.Mathlib.Nat.{mul-le-mul}
 use Rattle.words.specs.Basics.{sum}
 use Rattle.words.specs.Counting.{sum_le}
@@ -13,14 +13,12 @@ below n l t small h e = omega (arith, sum_le l n (width n) (width_le n), mul-le-
 
 pub overflow_add-total : goal.overflow_add-total
 overflow_add-total c =
-    let top : c.loop-l.l ≤ 32 = omega (arith, c.loop-l-test.true, c.height_of-h.ensures, height_le c.args.n 32 (omega arith)) in
-    record { fits = omega (arith, below c.args.n c.loop-l.l c.loop-l.total (omega arith) top c.loop-l.invariant.0, c.width_of.ensures, width_le c.args.n c.loop-l.l) }
+    let top : c.loop-l.l ≤ 32 = omega (arith, c.loop-l-test.true, c.height_of-l-end.ensures, height_le c.args.n 32 (omega arith)) in
+    record { fits = omega (arith, below c.args.n c.loop-l.l c.loop-l.total (omega arith) top c.loop-l.invariant, c.width_of.type_inv) }
 
-pub overflow_add-l : goal.overflow_add-l
-overflow_add-l c = record { fits = omega (arith, c.loop-l-test.true, c.height_of-h.ensures, height_le c.args.n 32 (omega arith)) }
-
-pub returns : goal.returns
+summed : (n l w t : ℕ) → w ≡ width n l → t ≡ sum l (width n) → l ≡ height n → t + w ≡ tree_nodes n
 unfolding tree_nodes
-returns c =
-    let e : c.loop-l.l ≡ suc (height c.args.n) = omega (arith, c.loop-l-test.false, c.loop-l.invariant.1, c.height_of-h.ensures) in
-    c.loop-l.invariant.0 ∙ ap (λ q. sum q (width c.args.n)) e
+summed n l w t ew et el = rw (ew, et, el)
+
+pub returns-2 : goal.returns-2
+returns-2 c = summed c.args.n c.loop-l.l _ _ c.width_of.ensures c.loop-l.invariant (omega (arith, c.height_of-l-end.ensures, c.loop-l-test.true))

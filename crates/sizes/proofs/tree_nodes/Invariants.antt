@@ -1,11 +1,8 @@
 -- total is the sum of the widths below l.
-use Rattle.std.proofs.Common.{◌≡◌, ◌+◌, ◌-◌, ◌≤◌}
+use Rattle.std.proofs.Common.{◌≡◌}
 use Rattle.words.specs.Basics.{sum}
 use Rattle.sizes.specs.Sizes.{width}
 use Rattle.sizes.proofs.tree_nodes.Given as goal
 
 abbrev pub invariant-loop-l : goal.invariant-loop-l
-invariant-loop-l l = (l.total ≡ sum l.l (width l.n)) × (l.l ≤ l.h + 1)
-
-abbrev pub decreases-loop-l : goal.decreases-loop-l
-decreases-loop-l l = l.h + 1 - l.l
+invariant-loop-l l = l.total ≡ sum l.l (width l.n)

@@ -1,6 +1,9 @@
 -- The fields of a step, cut to what a record can hold: no answer changes. A kind above 7 is no kind, there are 3 reducers, and in a sound state there are
 -- at most 8 workers and 256 splitters.
-use Rattle.std.specs.Prelude.{◌≡◌, Bool, true, false, not, ◌&&◌, List, [], ◌∷◌, ℕ, ◌≤◌, ◌<◌, min, ltb, leb, length}
+use Rattle.soundness.specs.Soundness.{Checked}
+use Rattle.soundness.specs.declared.CheckError.{CheckError}
+use Rattle.soundness.specs.declared.CheckError.TheVariants.{NoRoom}
+use Rattle.std.specs.Prelude.{◌≡◌, Bool, true, false, not, ◌&&◌, List, [], ◌∷◌, ℕ, ◌≤◌, ◌<◌, min, ltb, leb, length, Err, None, Ok, Some}
 use Rattle.std.proofs.Math.Path.{refl, ap}
 use Rattle.std.proofs.Common.{sym, ◌∙◌, inl, inr, arith, le-ltb, eq-eqb, ne_eqb}
 use Rattle.std.proofs.Math.Bool.{cond}
@@ -9,15 +12,11 @@ use Rattle.std.proofs.Math.Dec.{eqb}
 use Rattle.words.specs.Tests.{decided}
 use Rattle.frames.specs.declared.Frame.{Frame}
 use Rattle.soundness.specs.declared.Numbers.{Numbers}
-use Rattle.soundness.specs.declared.Checked.{Checked}
-use Rattle.soundness.specs.declared.Checked.TheVariants.{NoRoom, Sound}
 use Rattle.soundness.specs.Soundness.{sound, checked, cleared}
 use Rattle.model.specs.declared.Step.{Step}
 use Rattle.model.specs.declared.Step.TheVariants.{Spawn, Return, Steal, Sync, Read, Write, Fold}
-use Rattle.model.specs.declared.Decoded.{Decoded}
-use Rattle.model.specs.declared.Decoded.TheVariants.{Valid, Invalid}
 use Rattle.model.specs.Steps.{first_true, reducers}
-use Rattle.model.specs.Record.{valid_if, record_of}
+use Rattle.model.specs.Record.{Decoded, valid_if, record_of}
 use Rattle.semantics.specs.declared.Refusal.TheVariants.{NoWorker, MainReturned, ThiefBusy, NoVictim, NoSplitter, NoReducer, Lengths}
 use Rattle.semantics.specs.Core.{Core, StepResult, no_worker, all_idle, idle, judged, acting_tests, step_on}
 use Rattle.semantics.specs.Entries.{State, numbers_of, totals_of, core_of, checked_state, fits, record_on, OutsideResult, outside_done, outside_refused, outside_checked, outside_with, outside_on}
@@ -53,8 +52,8 @@ kinds kind w x v =
     ∷ (eqb kind 3, valid_if (eqb v 0) (Steal w x))
     ∷ (eqb kind 4, valid_if (eqb x 0 && eqb v 0) (Sync w))
     ∷ (eqb kind 5, valid_if (eqb v 0) (Read w x))
-    ∷ (eqb kind 6, Valid (Write w x v))
-    ∷ (eqb kind 7, Valid (Fold w x v))
+    ∷ (eqb kind 6, Some (Write w x v))
+    ∷ (eqb kind 7, Some (Fold w x v))
     ∷ []
 
 module _ (c : Core) where
@@ -99,7 +98,7 @@ module _ (c : Core) where
     end : Alike [] []
     also : {t u : Bool × Decoded} {ts us : List (Bool × Decoded)} → t.0 ≡ u.0 → record_on two_words c t.1 ≡ record_on two_words c u.1 → Alike ts us → Alike (t ∷ ts) (u ∷ us)
 
-  firsts : {ts us : List (Bool × Decoded)} → Alike ts us → record_on two_words c (first_true Invalid ts) ≡ record_on two_words c (first_true Invalid us)
+  firsts : {ts us : List (Bool × Decoded)} → Alike ts us → record_on two_words c (first_true None ts) ≡ record_on two_words c (first_true None us)
   firsts end = refl
   firsts (also {u = u} e d a) = elim (decided u.0) [ inl z ↦ rw (e ∙ z, z) d | inr z ↦ rw (e ∙ z, z) (firsts a) ]
 
@@ -145,22 +144,22 @@ module _ (c : Core) where
 
 -- ---- a step by the fields of a record
 
-checked-sound : (N : Numbers) (ts ds : List ℕ) (fs : List Frame) (ws ks : List ℕ) (k : ℕ) → checked two_words N ts ds fs ws ks ≡ Sound k → sound two_words N ts ds fs ws ≡ true
+checked-sound : (N : Numbers) (ts ds : List ℕ) (fs : List Frame) (ws ks : List ℕ) (k : ℕ) → checked two_words N ts ds fs ws ks ≡ Ok k → sound two_words N ts ds fs ws ≡ true
 unfolding checked
 checked-sound N ts ds fs ws ks k e = elim (decided (sound two_words N ts ds fs ws)) [
   | inl t ↦ t
   | inr t ↦ elim (decided (leb N.nodes (length ks))) [
-    | inl r ↦ absurd (let z : ◌≡◌ {A = ℕ} 0 1 = (let q : Checked.Unsound ≡ Sound k = rw (r, t) at e in cc) in omega arith)
-    | inr r ↦ absurd (let z : ◌≡◌ {A = ℕ} 0 1 = (let q : NoRoom ≡ Sound k = rw r at e in cc) in omega arith)
+    | inl r ↦ absurd (let z : ◌≡◌ {A = ℕ} 0 1 = (let q : (Err CheckError.Unsound) ≡ Ok k = rw (r, t) at e in cc) in omega arith)
+    | inr r ↦ absurd (let z : ◌≡◌ {A = ℕ} 0 1 = (let q : (Err NoRoom) ≡ Ok k = rw r at e in cc) in omega arith)
   ]
 ]
 
 module _ (s : State) (ws ks : List ℕ) (kind w x v : ℕ) where
   check_cut : (k : Checked) → checked_state two_words s ws ks ≡ k
       → outside_checked two_words k s ws ks (record_of (min kind 255) (min w 255) (min x 65535) v) ≡ outside_checked two_words k s ws ks (record_of kind w x v)
-  check_cut NoRoom e = refl
-  check_cut Checked.Unsound e = refl
-  check_cut (Sound k) e =
+  check_cut (Err NoRoom) e = refl
+  check_cut (Err CheckError.Unsound) e = refl
+  check_cut (Ok k) e =
       let F = (sound_facts two_words (numbers_of s) (totals_of s) s.deques s.frames ws (checked-sound (numbers_of s) (totals_of s) s.deques s.frames ws ks k e)).numbers in
       ap (λ d. outside_done d (cleared (numbers_of s).nodes ks)) (record_cut (core_of s ws k) F.workers_le F.splitters_le w x v kind)
 

@@ -1,12 +1,14 @@
 -- A step as a tape of one record: the record's bytes, and what the tape leaves and answers.
-use Rattle.std.specs.Prelude.{◌≡◌, List, [], ◌∷◌, ℕ, ◌+◌, ◌*◌, ◌/◌, ◌%◌, ◌^◌, ◌<◌, min, length, get_or, set}
+use Rattle.soundness.specs.Soundness.{Checked}
+use Rattle.soundness.specs.declared.CheckError.{CheckError}
+use Rattle.soundness.specs.declared.CheckError.TheVariants.{NoRoom}
+use Rattle.std.specs.Prelude.{◌≡◌, List, [], ◌∷◌, ℕ, ◌+◌, ◌*◌, ◌/◌, ◌%◌, ◌^◌, ◌<◌, min, length, get_or, set, Err, Ok}
+use Rattle.std.specs.Int.{w16, w32, to_le_bytes}
 use Rattle.std.proofs.Math.Path.{refl}
 use Rattle.std.proofs.Math.Logic.{inl, inr}
 use Rattle.std.proofs.Math.Nat.{div-div-eq-div-mul}
 use Rattle.std.proofs.Common.{arith}
 use Rattle.words.specs.Tests.{decided}
-use Rattle.soundness.specs.declared.Checked.{Checked}
-use Rattle.soundness.specs.declared.Checked.TheVariants.{NoRoom, Sound}
 use Rattle.model.specs.Record.{little, record_of, decode_at}
 use Rattle.semantics.specs.Answers.{answer_words, both_words}
 use Rattle.semantics.specs.Entries.{State, OutsideResult, TapeResult, core_of, checked_state, record_on, records_from, records_of, run_on, outside_checked, outside_with, outside_on, tape_checked, tape_with, tape_on, fits}
@@ -38,6 +40,14 @@ pub record_made : (bytes : List ℕ) (kind w x v k' w' x' : ℕ) → v < 2 ^ 32 
     → bytes ≡ bytes_of k' w' x' v → decode_at bytes 0 ≡ record_of (min kind 255) (min w 255) (min x 65535) v
 record_made bytes kind w x v k' w' x' hv ek ew ex eb = rw (eb, ek, ew, ex) (bytes_decode (min kind 255) (min w 255) (min x 65535) v (omega arith) (omega arith) (omega arith) hv)
 
+-- the bytes that the code makes of a field and of a value
+pub bytes_made : (k w x v : ℕ) (fs vs : List ℕ) → k < 2 ^ 8 → w < 2 ^ 8 → fs ≡ to_le_bytes w16 x → vs ≡ to_le_bytes w32 v
+    → k ∷ w ∷ get_or fs 0 0 ∷ get_or fs 1 0 ∷ get_or vs 0 0 ∷ get_or vs 1 0 ∷ get_or vs 2 0 ∷ get_or vs 3 0 ∷ [] ≡ bytes_of k w x v
+bytes_made k w x v fs vs hk hw ef es =
+    let ek : k ≡ k % 2 ^ 8 = omega arith in
+    let ew : w ≡ w % 2 ^ 8 = omega arith in
+    rw (ef, es) (λ i. ek i ∷ ew i ∷ x % 2 ^ 8 ∷ x / 2 ^ 8 % 2 ^ 8 ∷ v % 2 ^ 8 ∷ v / 2 ^ 8 % 2 ^ 8 ∷ v / 2 ^ 16 % 2 ^ 8 ∷ v / 2 ^ 24 % 2 ^ 8 ∷ [])
+
 -- ---- a tape of one record
 
 -- a tape leaves and answers what a step does
@@ -59,9 +69,9 @@ module _ (s : State) (ws ks bytes rs : List ℕ) (long : length bytes ≡ 8) (tw
 
   one_checked : (k : Checked) → Same (tape_checked two_words k s ws ks bytes rs) (outside_checked two_words k s ws ks (decode_at bytes 0))
   unfolding run_on
-  one_checked NoRoom = record { state = refl; pool = refl; work = refl; words = refl }
-  one_checked Checked.Unsound = record { state = refl; pool = refl; work = refl; words = refl }
-  one_checked (Sound k) =
+  one_checked (Err NoRoom) = record { state = refl; pool = refl; work = refl; words = refl }
+  one_checked (Err CheckError.Unsound) = record { state = refl; pool = refl; work = refl; words = refl }
+  one_checked (Ok k) =
       let o = record_on two_words (core_of s ws k) (decode_at bytes 0) in
       rw one (record { state = refl; pool = refl; work = refl; words = put_two rs two (answer_words o.answer).0 (answer_words o.answer).1 })
 

@@ -1,18 +1,27 @@
+use mathlib.Core.Path.{ap, sym, refl}
+use Rattle.std.proofs.Common.{rules}
+use Rattle.engine.proofs.Numbered.{check_number, check_handed, test_handed, test_passed, some_handed}
 use Rattle.engine.proofs.SaveLoad.{save_refused_lem, save_short, save_asks, save_done}
 use Rattle.engine.proofs.images.save_on.Goals as goal
 
--- src/images.rt:59:9
-pub returns-then-refused-ne0 : goal.returns-then-refused-ne0
-returns-then-refused-ne0 c = save_refused_lem _ _ _ _ _ _ _ _ c.check_state.ensures _ c.check_number-refused.ensures c.if-refused-ne0.true
+pub returns-in_err-check_state : goal.returns-in_err-check_state
+returns-in_err-check_state c =
+    let s = c.args.state in
+    let h = c.from_residual in
+    save_refused_lem s.numbers.now s.deques.now s.frames.now _ _ _ _ _ c.check_state.ensures _ (check_handed h.result _ _ c.in_err-check_state.was h.ensures) (some_handed h.result _ h.ensures)
 
--- src/images.rt:63:9
-pub returns-then-short-ne0 : goal.returns-then-short-ne0
-returns-then-short-ne0 c = save_short _ _ _ _ _ _ _ _ c.check_state.ensures _ c.check_number-refused.ensures c.if-refused-ne0.false _ c.target_number-short.ensures c.if-short-ne0.true
+pub returns-in_err-target_fits : goal.returns-in_err-target_fits
+returns-in_err-target_fits c =
+    let s = c.args.state in
+    let h = c.from_residual-in_err-target_fits in
+    save_short s.numbers.now s.deques.now s.frames.now _ _ _ _ _ c.check_state.ensures 0 (sym (ap check_number c.in_ok-check_state.was)) refl _ (test_handed h.result _ _ _ _ c.target_fits.ensures c.in_err-target_fits.was h.ensures) (some_handed h.result _ h.ensures)
 
--- src/images.rt:65:5
 pub write_image-requires : goal.write_image-requires
-write_image-requires c = save_asks _ _ _ _ _ _ _ _ c.check_state.ensures _ c.check_number-refused.ensures c.if-refused-ne0.false _ c.target_number-short.ensures c.if-short-ne0.false c.requires
+write_image-requires c =
+    let s = c.args.state in
+    save_asks s.numbers.now s.deques.now s.frames.now _ _ _ _ _ c.check_state.ensures 0 (sym (ap check_number c.in_ok-check_state.was)) refl 0 (test_passed _ _ _ _ c.target_fits.ensures c.in_ok-target_fits.was) refl (record { numbers = search rules; deques = search rules })
 
--- src/images.rt:45:1
 pub returns : goal.returns
-returns c = save_done _ _ _ _ _ _ _ _ c.check_state.ensures _ c.check_number-refused.ensures c.if-refused-ne0.false _ c.target_number-short.ensures c.if-short-ne0.false _ c.write_image.ensures
+returns c =
+    let s = c.args.state in
+    save_done s.numbers.now s.deques.now s.frames.now _ _ _ _ _ c.check_state.ensures 0 (sym (ap check_number c.in_ok-check_state.was)) refl 0 (test_passed _ _ _ _ c.target_fits.ensures c.in_ok-target_fits.was) refl _ c.write_image.ensures

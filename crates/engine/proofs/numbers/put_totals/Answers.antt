@@ -4,4 +4,4 @@ use Rattle.engine.proofs.numbers.put_totals.Goals as goal
 
 pub returns : goal.returns
 returns c =
-    totals_stored c.args.numbers.now _ _ _ _ c.requires
+    totals_stored c.args.numbers.now _ _ _ _ (c.told-numbers)

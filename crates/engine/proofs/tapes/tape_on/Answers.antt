@@ -1,36 +1,31 @@
--- The ways out are in `proofs.Taping`.
-use Rattle.engine.proofs.Taping.{found_sound, fit_answers, tape-unfit, tape_empty, tape_refused_lem, tape_done_lem}
+use mathlib.Core.Path.{ap, subst}
+use Rattle.soundness.specs.Layout.{two_words}
+use Rattle.engine.specs.Promises.{result_number, IsCheck}
+use Rattle.engine.proofs.Numbered.{handed}
+use Rattle.engine.proofs.Taping.{found_sound, fit_answers, wrong_tape, unsound_tape, tape_done_lem}
 use Rattle.engine.proofs.tapes.tape_on.Goals as goal
 
-pub returns-then-unfit_tape : goal.returns-then-unfit_tape
-returns-then-unfit_tape c =
-    let a = c.args in
-    tape-unfit a.numbers.now a.deques.now a.frames.now a.pool.now a.work.now a.bytes.now a.answers.now c.unfit_tape.result c.unfit_tape.ensures c.if-unfit_tape.true c.refusal_number.result c.refusal_number.ensures
+pub returns-then-unfit_tape-clause-tapes : goal.returns-then-unfit_tape-clause-tapes
+returns-then-unfit_tape-clause-tapes c =
+    let s = c.args.state.now in
+    wrong_tape s.numbers.now s.deques.now s.frames.now _ _ _ _ _ c.unfit_tape.ensures c.if-unfit_tape.true
 
-pub returns-then-bytes-eq0 : goal.returns-then-bytes-eq0
-returns-then-bytes-eq0 c =
-    let a = c.args in
-    let k = c.check_state-only in
-    tape_empty a.numbers.now a.deques.now a.frames.now a.pool.now a.work.now a.bytes.now a.answers.now c.unfit_tape.result c.unfit_tape.ensures c.if-unfit_tape.false k.result k.new.work k.ensures c.if-bytes-eq0.true c.requires c.check_number.result c.check_number.ensures
+pub returns-in_err-free_count-clause-tapes : goal.returns-in_err-free_count-clause-tapes
+returns-in_err-free_count-clause-tapes c =
+    let s = c.args.state.now in
+    let k = c.check_state in
+    let h = c.from_residual in
+    unsound_tape s.numbers.now s.deques.now s.frames.now _ _ _ _ _ c.unfit_tape.ensures c.if-unfit_tape.false k.result k.new.work (subst (λ t. IsCheck two_words t c.args.pool.now c.args.work.now k.new.work k.result) c.shared.ensures.same k.ensures) _ c.in_err-free_count.was _
+    (ap result_number (handed h.result _ h.ensures))
 
-pub returns-then-refused-ne0 : goal.returns-then-refused-ne0
-returns-then-refused-ne0 c =
-    let a = c.args in
-    let k = c.check_state-checked in
-    tape_refused_lem a.numbers.now a.deques.now a.frames.now a.pool.now a.work.now a.bytes.now a.answers.now c.unfit_tape.result c.unfit_tape.ensures c.if-unfit_tape.false k.result k.new.work k.ensures c.check_number-refused.result c.check_number-refused.ensures c.if-refused-ne0.true
+pub run_tape-requires : goal.run_tape-requires
+run_tape-requires c =
+    let s = c.args.state.now in
+    let k = c.check_state in
+    (found_sound s.numbers.now s.deques.now s.frames.now _ _ _ _ _ c.shared.ensures.fit (subst (λ t. IsCheck two_words t c.args.pool.now c.args.work.now k.new.work k.result) c.shared.ensures.same k.ensures) c.in_ok-free_count.was, fit_answers _ _ _ c.unfit_tape.ensures c.if-unfit_tape.false)
 
-pub run_on-requires : goal.run_on-requires
-run_on-requires c =
-    let a = c.args in
-    let k = c.check_state-checked in (
-      c.requires,
-      found_sound a.numbers.now a.deques.now a.frames.now a.pool.now a.work.now k.new.work k.result c.check_number-refused.result c.free_in.result c.requires k.ensures c.check_number-refused.ensures c.if-refused-ne0.false c.free_in.ensures,
-      fit_answers a.bytes.now a.answers.now c.unfit_tape.result c.unfit_tape.ensures c.if-unfit_tape.false,
-    )
-
-pub returns : goal.returns
-returns c =
-    let a = c.args in
-    let k = c.check_state-checked in
-    let o = c.run_on in
-    tape_done_lem a.numbers.now a.deques.now a.frames.now a.pool.now a.work.now a.bytes.now a.answers.now c.unfit_tape.result c.unfit_tape.ensures c.if-unfit_tape.false k.result k.new.work k.ensures c.check_number-refused.result c.free_in.result o.new.numbers o.new.deques o.new.frames o.new.pool o.new.answers c.check_number-refused.ensures c.if-refused-ne0.false c.free_in.ensures o.ensures
+pub returns-clause-tapes : goal.returns-clause-tapes
+returns-clause-tapes c =
+    let s = c.args.state.now in
+    let k = c.check_state in
+    tape_done_lem s.numbers.now s.deques.now s.frames.now _ _ _ _ _ c.unfit_tape.ensures c.if-unfit_tape.false k.result k.new.work (subst (λ t. IsCheck two_words t c.args.pool.now c.args.work.now k.new.work k.result) c.shared.ensures.same k.ensures) _ _ _ _ _ _ c.in_ok-free_count.was c.run_tape.ensures

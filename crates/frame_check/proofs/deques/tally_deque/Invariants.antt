@@ -1,10 +1,10 @@
--- What is counted and found above place k; the measure is the frames left.
-use Rattle.std.proofs.Common.{◌-◌}
-use Rattle.frame_check.proofs.Laws.{OnDeques}
+-- What is counted and found above place k.
+use Rattle.std.proofs.Common.{◌≡◌}
+use Rattle.words.specs.Basics.{all}
+use Rattle.frames.specs.Deques.{place}
+use Rattle.frame_check.specs.Algorithm.{deque_step, on_deque, tally}
 use Rattle.frame_check.proofs.deques.tally_deque.Given as goal
 
 abbrev pub invariant-loop-k : goal.invariant-loop-k
-invariant-loop-k l = OnDeques l.deques l.frames l.w l.n l.initial.tallies l.before l.k l.tallies l.sound
-
-abbrev pub decreases-loop-k : goal.decreases-loop-k
-decreases-loop-k l = l.n - l.k
+invariant-loop-k l =
+    (l.tallies ≡ tally (λ i. deque_step) l.k (place l.deques l.w) l.initial.tallies) × (l.sound ≡ all l.k (on_deque l.deques l.frames l.w))

@@ -1,10 +1,16 @@
 -- How it begins, and a turn.
-use Rattle.frame_check.proofs.Laws.{deques_begin, deques_turn}
+use Rattle.std.proofs.Common.{◌∙◌, refl, add-one}
+use Rattle.frame_check.specs.Algorithm.{deque_sound, tally_deques}
+use Rattle.frame_check.proofs.Laws.{all_turn}
 use Rattle.frame_check.proofs.deques.tally_deques.Goals as goal
 
 pub loop-w-init : goal.loop-w-init
-loop-w-init c = deques_begin c.args.deques.now c.args.frames.now c.args.tallies.now
+unfolding tally_deques
+loop-w-init c = (refl, refl)
 
 pub loop-w-preserved : goal.loop-w-preserved
-loop-w-preserved c =
-    deques_turn c.args.deques.now c.args.frames.now c.args.tallies.now c.loop-w.invariant c.loop-w-test.true c.tally_deque-sound.ensures
+unfolding tally_deques
+loop-w-preserved c = (
+  c.tally_deque-sound.ensures.tallied ∙ rw (add-one, c.loop-w.invariant.0),
+  all_turn _ (deque_sound c.args.deques.now c.args.frames.now) c.loop-w.invariant.1 c.tally_deque-sound.ensures.sound,
+)

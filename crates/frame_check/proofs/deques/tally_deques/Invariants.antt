@@ -1,11 +1,8 @@
--- What is counted and found in the deques below worker w; the measure is the deques left.
-use Rattle.std.proofs.Common.{◌-◌}
-use Rattle.frames.specs.Widths.{max_workers}
-use Rattle.frame_check.proofs.Laws.{InDeques}
+-- What is counted and found in the deques below worker w.
+use Rattle.std.proofs.Common.{◌≡◌}
+use Rattle.words.specs.Basics.{all}
+use Rattle.frame_check.specs.Algorithm.{deque_sound, tally_deques}
 use Rattle.frame_check.proofs.deques.tally_deques.Given as goal
 
 abbrev pub invariant-loop-w : goal.invariant-loop-w
-invariant-loop-w l = InDeques l.deques l.frames l.initial.tallies l.w l.tallies l.sound
-
-abbrev pub decreases-loop-w : goal.decreases-loop-w
-decreases-loop-w l = max_workers - l.w
+invariant-loop-w l = (l.tallies ≡ tally_deques l.w l.deques l.initial.tallies) × (l.sound ≡ all l.w (deque_sound l.deques l.frames))

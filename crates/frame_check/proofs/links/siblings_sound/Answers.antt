@@ -1,21 +1,25 @@
--- How it begins, a turn, and its end.
-use Rattle.std.proofs.Common.{◌≤◌, ℕ, subst}
-use Rattle.frames.specs.Widths.{max_places}
-use Rattle.frame_check.specs.Algorithm.{links_tallied}
-use Rattle.frame_check.proofs.Laws.{links_begin, links_turn, links_end}
+-- How it begins, a turn, the ways out of the chain, and its end.
+use Rattle.std.proofs.Common.{sym}
+use Rattle.frames.specs.Frames.{frame_at}
+use Rattle.frame_check.proofs.Laws.{few_children, links_begin, links_turn, links_fail, links_past, links_end}
 use Rattle.frame_check.proofs.links.siblings_sound.Goals as goal
 
-pub loop-k-init : goal.loop-k-init
-loop-k-init c =
-    let few = subst (λ (m : ℕ). m ≤ max_places) c.requires.0 c.requires.1 in
-    links_begin c.args.frames.now few c.args.q c.args.tallies.now _ c.frame_at-f.ensures c.link_count-count.ensures c.link_first-c.ensures
+pub returns-then-not-many_children : goal.returns-then-not-many_children
+returns-then-not-many_children c = few_children c.args.frames.now c.args.q c.args.t c.frame_at.ensures (sym c.if-not-many_children.ensures)
 
-pub loop-k-preserved : goal.loop-k-preserved
-loop-k-preserved c =
-    let few = subst (λ (m : ℕ). m ≤ max_places) c.requires.0 c.requires.1 in
-    links_turn c.args.frames.now few c.args.q (links_tallied c.args.frames.now c.args.tallies.now c.args.q) _ c.loop-k.k c.loop-k.c c.loop-k.invariant c.loop-k-test.true c.requires.0 c.frame_or_zero-g.ensures c.link_next-c.ensures
+pub loop-init : goal.loop-init
+loop-init c = links_begin c.args.frames.now c.args.q c.args.t c.frame_at.ensures (sym c.if-not-many_children.ensures) c.link_sum.ensures c.saturating_sub-c.ensures c.child_count-end.ensures
+
+pub loop-preserved : goal.loop-preserved
+unfolding frame_at
+loop-preserved c = links_turn c.args.frames.now c.args.q _ _ _ _ c.loop.invariant c.loop-test.true c.if-c-frames.false (sym c.if-not-is_child.ensures)
+
+pub returns-then-c-frames : goal.returns-then-c-frames
+returns-then-c-frames c = links_past c.args.frames.now c.args.q _ _ _ _ c.loop.invariant c.loop-test.true c.if-c-frames.true
+
+pub returns-then-not-is_child : goal.returns-then-not-is_child
+unfolding frame_at
+returns-then-not-is_child c = links_fail c.args.frames.now c.args.q _ _ _ _ c.loop.invariant c.loop-test.true c.if-c-frames.false (sym c.if-not-is_child.ensures)
 
 pub returns : goal.returns
-returns c =
-    let few = subst (λ (m : ℕ). m ≤ max_places) c.requires.0 c.requires.1 in
-    links_end c.args.frames.now few c.args.q (links_tallied c.args.frames.now c.args.tallies.now c.args.q) _ c.loop-k.k c.loop-k.c c.loop-k.invariant c.loop-k-test.false c.at_end.ensures
+returns c = links_end c.args.frames.now c.args.q _ _ _ _ c.loop.invariant c.loop-test.false

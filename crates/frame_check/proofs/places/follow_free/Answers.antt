@@ -1,15 +1,19 @@
--- A turn, and its end.
-use Rattle.std.proofs.Common.{◌≤◌, ℕ, subst}
-use Rattle.frames.specs.Widths.{max_places}
-use Rattle.frame_check.proofs.Laws.{free_turn, free_ends}
+-- A turn, the ways out of the chain, and its end.
+use Rattle.std.proofs.Common.{sym}
+use Rattle.frames.specs.Frames.{frame_at}
+use Rattle.frame_check.proofs.Laws.{free_turn, free_fails, free_past, free_ends}
 use Rattle.frame_check.proofs.places.follow_free.Goals as goal
 
-pub loop-k-preserved : goal.loop-k-preserved
-loop-k-preserved c =
-    let few = subst (λ (m : ℕ). m ≤ max_places) c.requires.0 c.requires.1 in
-    free_turn c.args.frames.now few c.args.count c.args.first c.loop-k.k c.loop-k.p c.loop-k.invariant c.loop-k-test.true c.requires.0 c.frame_or_zero-f.ensures c.free_next-p.ensures
+pub loop-preserved : goal.loop-preserved
+unfolding frame_at
+loop-preserved c = free_turn c.args.frames.now c.args.count c.args.first _ _ c.loop.invariant c.loop-test.true c.if-p-frames.false (sym c.if-not-free_sound.ensures)
+
+pub returns-then-p-frames : goal.returns-then-p-frames
+returns-then-p-frames c = free_past c.args.frames.now c.args.count c.args.first _ _ c.loop.invariant c.loop-test.true c.if-p-frames.true
+
+pub returns-then-not-free_sound : goal.returns-then-not-free_sound
+unfolding frame_at
+returns-then-not-free_sound c = free_fails c.args.frames.now c.args.count c.args.first _ _ c.loop.invariant c.loop-test.true c.if-p-frames.false (sym c.if-not-free_sound.ensures)
 
 pub returns : goal.returns
-returns c =
-    let few = subst (λ (m : ℕ). m ≤ max_places) c.requires.0 c.requires.1 in
-    free_ends c.args.frames.now few c.args.count c.args.first c.loop-k.k c.loop-k.p c.loop-k.invariant c.loop-k-test.false c.at_end.ensures
+returns c = free_ends c.args.frames.now c.args.count c.args.first _ _ c.loop.invariant c.loop-test.false

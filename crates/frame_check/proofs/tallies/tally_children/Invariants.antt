@@ -1,10 +1,7 @@
--- What is counted below place p; the measure is the places left.
-use Rattle.std.proofs.Common.{◌-◌}
-use Rattle.frame_check.proofs.Laws.{Passed}
+-- What is counted below place p.
+use Rattle.std.proofs.Common.{◌≡◌}
+use Rattle.frame_check.specs.Algorithm.{census_to, child_in, step_in, tally}
 use Rattle.frame_check.proofs.tallies.tally_children.Given as goal
 
 abbrev pub invariant-loop-p : goal.invariant-loop-p
-invariant-loop-p l = Passed l.frames l.initial.tallies l.p l.tallies l.census
-
-abbrev pub decreases-loop-p : goal.decreases-loop-p
-decreases-loop-p l = l.places - l.p
+invariant-loop-p l = (l.tallies ≡ tally (step_in l.frames) l.p (child_in l.frames) l.initial.tallies) × (l.census ≡ census_to l.frames l.p)

@@ -1,7 +1,15 @@
--- The worker's part of the words is stored to (`dropped` of `proofs.Ends`).
-use Rattle.std.proofs.Common.{arith}
-use Rattle.frames.proofs.Ends.{dropped}
+-- A turn of the loop is in `proofs.Loops`.
+use Rattle.std.proofs.Common.{◌≡◌, ◌≤◌, ◌∙◌, length, arith}
+use Rattle.frames.specs.Widths.{deque_places, deque_words}
+use Rattle.frames.proofs.Loops.{sink_size, sink_turn}
 use Rattle.frames.proofs.deques.top_off.Goals as goal
 
-pub returns : goal.returns
-returns c = dropped c.args.deques.now c.args.w _ c.size_at-n.ensures _ (omega (arith, c.size_at-n.ensures, c.requires.2)) c.take_in.ensures
+pub loop-k-preserved : goal.loop-k-preserved
+loop-k-preserved c =
+    let l = c.loop-k in
+    let n = c.size_at-n.result in
+    let long : length l.deques ≡ deque_words = omega arith in
+    let fits : n ≤ deque_places = omega (arith, c.size_at-n.ensures, c.requires.2) in (
+      sink_turn l.deques _ c.args.w n l.k long c.requires.0 l.auto.k c.loop-k-test.true fits c.swap.ensures.after ∙ l.invariant.0,
+      sink_size l.deques _ c.args.w n l.k long c.requires.0 l.auto.k c.loop-k-test.true fits c.swap.ensures.after ∙ l.invariant.1,
+    )

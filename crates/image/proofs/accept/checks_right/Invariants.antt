@@ -1,10 +1,7 @@
 -- The loop keeps the answer for the blocks that are left.
-use Rattle.std.proofs.Common.{drop, ◌*◌, ◌-◌, ◌≡◌, ◌≤◌}
+use Rattle.std.proofs.Common.{drop, ◌*◌, ◌-◌, ◌≡◌}
 use Rattle.image.specs.Image.{checks_hold}
 use Rattle.image.proofs.accept.checks_right.Given as goal
 
 abbrev pub invariant-loop-k : goal.invariant-loop-k
-invariant-loop-k l = (checks_hold (l.n - l.k) (drop (512 * l.k) l.image) ≡ checks_hold l.n l.image) × (l.k ≤ l.n)
-
-abbrev pub decreases-loop-k : goal.decreases-loop-k
-decreases-loop-k l = l.n - l.k
+invariant-loop-k l = checks_hold (l.fn.n - l.k) (drop (512 * l.k) l.image) ≡ checks_hold l.fn.n l.image

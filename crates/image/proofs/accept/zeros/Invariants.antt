@@ -1,10 +1,7 @@
 -- The loop keeps the answer for the words that are left.
-use Rattle.std.proofs.Common.{drop, take, ◌*◌, ◌+◌, ◌-◌, ◌≡◌, ◌≤◌}
+use Rattle.std.proofs.Common.{drop, take, ◌*◌, ◌+◌, ◌-◌, ◌≡◌}
 use Rattle.image.specs.Image.{all_zero}
 use Rattle.image.proofs.accept.zeros.Given as goal
 
 abbrev pub invariant-loop-k : goal.invariant-loop-k
-invariant-loop-k l = (all_zero (take (4 * (l.n - l.k)) (drop (l.at + 4 * l.k) l.image)) ≡ all_zero (take (4 * l.n) (drop l.at l.image))) × (l.k ≤ l.n)
-
-abbrev pub decreases-loop-k : goal.decreases-loop-k
-decreases-loop-k l = l.n - l.k
+invariant-loop-k l = all_zero (take (4 * (l.fn.n - l.k)) (drop (l.at + 4 * l.k) l.image)) ≡ all_zero (take (4 * l.fn.n) (drop l.at l.image))

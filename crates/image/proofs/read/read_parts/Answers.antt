@@ -6,13 +6,7 @@ use Rattle.image.proofs.Theory.Version.{two_version}
 use Rattle.image.proofs.read.read_parts.Goals as goal
 
 pub read_beside-requires : goal.read_beside-requires
-read_beside-requires c = (
-  c.requires.0,
-  c.requires.1,
-  c.requires.2.deques,
-  omega (arith, c.requires.2.frames, c.requires.2.most, same_places two_words two_version c.args.image.now c.requires.0),
-  c.requires.3,
-)
+read_beside-requires c = (c.requires.0, omega (arith, c.requires.1.frames, c.requires.1.most, same_places two_words two_version c.args.image.now c.requires.0), c.requires.2)
 
 pub read_table-requires : goal.read_table-requires
-read_table-requires c = (c.requires.0, c.requires.2.frames ∙ same_places two_words two_version c.args.image.now c.requires.0)
+read_table-requires c = (c.requires.0, c.requires.1.frames ∙ same_places two_words two_version c.args.image.now c.requires.0)

@@ -22,13 +22,11 @@ pub loop-p-preserved : goal.loop-p-preserved
 loop-p-preserved c =
     let a = c.args in
     let l = c.loop-p in
-    let read = c.read_record-f.ensures ∙ ap (λ (k : ℕ). record_in (read_words record_words a.image.now (10 + k + 12 * l.p))) c.deques_words-from.ensures.0 in (
-      omega arith,
-      c.put_frame.ensures ∙ stored_at l.frames l.p _
-          ∙ record_read a.image.now c.requires.0 c.places_in-places.result c.places_in-places.ensures a.frames.now l.frames _ l.p c.loop-p-test.true (c.requires.1 ∙ sym c.places_in-places.ensures) l.invariant.1 read,
-    )
+    let read = c.read_record-f.ensures ∙ ap (λ (k : ℕ). record_in (read_words record_words a.image.now (10 + k + 12 * l.p))) c.deques_words-from.ensures.0 in
+    c.put_frame.ensures ∙ stored_at l.frames l.p _
+    ∙ record_read a.image.now c.requires.0 c.places_in-places.result c.places_in-places.ensures a.frames.now l.frames _ l.p c.loop-p-test.true (c.requires.1 ∙ sym c.places_in-places.ensures) l.invariant read
 
 pub returns : goal.returns
 returns c =
     table_read c.args.image.now c.requires.0 c.places_in-places.result c.places_in-places.ensures c.args.frames.now c.loop-p.frames c.loop-p.p (omega arith)
-    (c.requires.1 ∙ sym c.places_in-places.ensures) c.loop-p.invariant.1
+    (c.requires.1 ∙ sym c.places_in-places.ensures) c.loop-p.invariant

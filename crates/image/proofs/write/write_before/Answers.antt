@@ -10,6 +10,6 @@ pub returns : goal.returns
 returns c =
     let a = c.args in
     let ns = a.numbers.now in (
-      put_next a.target.now _ _ (versioned two_words ns) (deques_for (get_or ns 9 0) a.deques.now) 0 10 c.write_numbers-after_numbers.ensures.0 (omega (arith, length-versioned two_words two_version ns, c.requires.0)) c.write_deques.ensures.0,
+      put_next a.target.now _ _ (versioned two_words ns) (deques_for (get_or ns 9 0) a.deques.now) 0 10 c.write_numbers-after_numbers.ensures.stored (omega (arith, length-versioned two_words two_version ns, c.told-numbers)) c.write_deques.ensures.0,
       c.write_deques.ensures.1,
     )

@@ -1,16 +1,7 @@
--- The first number, then the others.
-use Rattle.std.proofs.Common.{arith}
-use Rattle.image.proofs.Ends.{first-stored, numbers_stored}
+-- The numbers, the first one with the version.
+use Rattle.std.proofs.Common.{refl, sym}
+use Rattle.image.proofs.Stores.{sum-none}
 use Rattle.image.proofs.write.write_numbers.Goals as goal
 
-pub write_run-requires : goal.write_run-requires
-write_run-requires c =
-    let first = first-stored c.args.numbers.now c.args.target.now _ c.add-first.result c.requires.1 c.add-first.ensures c.put_word.ensures in
-    (omega arith, omega arith, omega arith, first.1)
-
-pub returns : goal.returns
-returns c =
-    let first = first-stored c.args.numbers.now c.args.target.now _ c.add-first.result c.requires.1 c.add-first.ensures c.put_word.ensures in (
-      numbers_stored c.args.numbers.now c.args.target.now _ _ c.add-first.result c.requires.0 c.add-first.ensures first.0 c.write_run.ensures.0,
-      c.write_run.ensures.1,
-    )
+pub write_run-requires-clause-sum_so_far : goal.write_run-requires-clause-sum_so_far
+write_run-requires-clause-sum_so_far c = sym (sum-none c.args.target.now 0 refl)

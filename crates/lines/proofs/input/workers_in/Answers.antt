@@ -4,4 +4,4 @@ use Rattle.lines.proofs.input.workers_in.Goals as goal
 
 pub returns : goal.returns
 unfolding workers_in
-returns c = rw (c.byte.ensures, c.byte-2.ensures) at c.number16.ensures
+returns c = c.number16_at.ensures

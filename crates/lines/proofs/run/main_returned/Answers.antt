@@ -1,13 +1,13 @@
--- A turn and the ends of the loop are in `proofs.Theory.Returned`.
-use Rattle.std.proofs.Common.{sym, ◌∙◌, arith}
-use Rattle.lines.proofs.Theory.Returned.{returned_here, returned_turn, returned_end}
+-- The pairs are those of the answer words.
+use Rattle.std.specs.Prelude.{List, [], ◌∷◌, ℕ, eqb}
+use Rattle.std.specs.List.{list_any}
+use Rattle.std.specs.Cmp.Lexicographic.{pointwise}
+use Rattle.std.proofs.Common.{ap, ◌∙◌}
+use Rattle.lines.proofs.Pairs.{pairs_returned}
 use Rattle.lines.proofs.run.main_returned.Goals as goal
 
-pub returns-then-answers-i : goal.returns-then-answers-i
-returns-then-answers-i c = sym (returned_here _ _ c.loop-i-test.true c.if-answers-i.true) ∙ c.loop-i.invariant.0
-
-pub loop-i-preserved : goal.loop-i-preserved
-loop-i-preserved c = (returned_turn _ _ c.loop-i-test.true c.if-answers-i.false ∙ c.loop-i.invariant.0, omega (arith, c.loop-i-test.true))
-
 pub returns : goal.returns
-returns c = sym (returned_end _ _ c.loop-i-test.false) ∙ c.loop-i.invariant.0
+returns c =
+    c.contains.ensures.value
+    ∙ ap (λ (ps : List (List ℕ)). list_any (λ p. pointwise eqb p (102 ∷ 3 ∷ [])) ps) c.as_chunks.ensures.front
+    ∙ pairs_returned c.args.answers.now

@@ -1,12 +1,12 @@
 -- Main has not returned, or the word and the four totals are the line.
-use Rattle.std.proofs.Common.{ap, not}
-use Rattle.lines.proofs.LastLines.{reduced_none, reduced_stored}
+use Rattle.std.proofs.Common.{sym, ◌∙◌}
+use Rattle.lines.proofs.LastLines.{reduced_none, reduced_written}
 use Rattle.lines.proofs.run.put_reduced.Goals as goal
 
 pub returns-then-not-main_returned : goal.returns-then-not-main_returned
-returns-then-not-main_returned c = reduced_none c.args.out.now c.args.at c.args.numbers.now c.main_returned.ensures (ap not c.if-not-main_returned.true)
+returns-then-not-main_returned c = reduced_none c.args.numbers.now (sym c.if-not-main_returned.true ∙ c.main_returned.ensures)
 
 pub returns : goal.returns
 returns c =
-    reduced_stored c.args.out.now c.args.at c.args.numbers.now c.main_returned.ensures _ _ _ _ (ap not c.if-not-main_returned.false)
-    c.word.ensures c.word-2.ensures c.word-3.ensures c.word-4.ensures c.put_bytes-to.ensures c.put_four.ensures
+    reduced_written c.args.numbers.now _ _ _ _ (sym c.if-not-main_returned.false ∙ c.main_returned.ensures) c.at_or.ensures c.at_or-2.ensures c.at_or-3.ensures c.at_or-4.ensures
+    c.at_or.type_inv c.at_or-2.type_inv c.at_or-3.type_inv c.at_or-4.type_inv c.bytes.ensures c.line.ensures

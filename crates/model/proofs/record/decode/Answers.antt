@@ -10,4 +10,4 @@ same_fields ek ew ef ev = λ i. record_of (ek i) (ew i) (ef i) (ev i)
 pub returns : goal.returns
 unfolding decode_at
 returns c =
-    rw (le-ltb (length c.args.tape.now) (c.args.at + 8) (omega arith)) (c.step_of.ensures ∙ same_fields c.wide.ensures c.wide-2.ensures c.number16-field.ensures c.number32-value.ensures)
+    rw (le-ltb (length c.args.tape.now) (c.args.at + 8) (omega arith)) (c.step_of.ensures ∙ same_fields c.from.ensures c.from-2.ensures (omega arith) (omega arith))

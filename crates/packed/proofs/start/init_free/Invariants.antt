@@ -3,8 +3,5 @@ use Rattle.std.proofs.Common.{◌≡◌}
 use Rattle.packed.specs.Pool.{init_free}
 use Rattle.packed.proofs.start.init_free.Given as goal
 
-abbrev pub invariant-loop-c : goal.invariant-loop-c
-invariant-loop-c l = init_free l.c l.pool l.i ≡ init_free l.count l.fn.pool l.first
-
-abbrev pub decreases-loop-c : goal.decreases-loop-c
-decreases-loop-c l = l.c
+abbrev pub invariant-loop-left : goal.invariant-loop-left
+invariant-loop-left l = init_free l.left l.pool l.i ≡ init_free l.count l.fn.pool l.first

@@ -5,6 +5,3 @@ use Rattle.packed.proofs.start.init_inner.Given as goal
 
 abbrev pub invariant-loop-l : goal.invariant-loop-l
 invariant-loop-l l = init_inner l.l l.pool l.n l.i ≡ init_inner l.height l.fn.pool l.n l.first
-
-abbrev pub decreases-loop-l : goal.decreases-loop-l
-decreases-loop-l l = l.l

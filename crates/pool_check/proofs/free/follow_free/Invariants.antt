@@ -1,10 +1,7 @@
 -- To follow the chain from here gives what to follow the whole chain gives.
-use Rattle.std.proofs.Common.{◌≡◌}
+use Rattle.std.proofs.Common.{◌≡◌, ◌-◌}
 use Rattle.pool_check.specs.Algorithm.{chain_from}
 use Rattle.pool_check.proofs.free.follow_free.Given as goal
 
-abbrev pub invariant-loop-left : goal.invariant-loop-left
-invariant-loop-left l = chain_from l.nodes l.pool l.work l.left l.a ≡ chain_from l.nodes l.pool l.work l.count l.first
-
-abbrev pub decreases-loop-left : goal.decreases-loop-left
-decreases-loop-left l = l.left
+abbrev pub invariant-loop : goal.invariant-loop
+invariant-loop g l = chain_from g.L.NodeLayout.reading l.nodes l.pool l.work (l.count - l.counter) l.a ≡ chain_from g.L.NodeLayout.reading l.nodes l.pool l.work l.count l.first

@@ -1,7 +1,6 @@
-use Rattle.pool.specs.Pool.{refcount}
 use Rattle.pool_check.specs.Algorithm.{node_right}
 use Rattle.pool_check.proofs.free.node_right.Goals as goal
 
 pub returns : goal.returns
-unfolding node_right refcount
-returns c = rw c.counted.ensures
+unfolding node_right
+returns g c = rw (c.holders.ensures, c.counted.ensures)

@@ -1,23 +1,16 @@
--- The laws of a node of level 1; a leaf that is met is done or refused.
-use Rattle.std.proofs.Common.{refl, sym, ◌∙◌, arith}
-use Rattle.pool.specs.Pool.{left, right}
-use Rattle.pool_check.proofs.Laws.{parts, met_yes, met_answer, met_no_more, walk_refused, walk_ends, walk-right}
+-- The laws of a node of level 1.
+use Rattle.std.proofs.Common.{sym, ◌∙◌, arith}
+use Rattle.pool_check.proofs.Laws.{parts, pair, walk_fails, walk_ends, walk-right}
 use Rattle.pool_check.proofs.trees.leaves.Goals as goal
 
-pub returns-then-meet-eq-REFUSED : goal.returns-then-meet-eq-REFUSED
-unfolding left
-returns-then-meet-eq-REFUSED c = parts (walk_refused _ _ 1 _ _ _ (omega arith) c.left_part-part.ensures refl c.meet.ensures c.if-meet-eq-REFUSED.true)
+pub returns-then-not-visit_leaf : goal.returns-then-not-visit_leaf
+returns-then-not-visit_leaf g c = parts (walk_fails g.L.NodeLayout.reading _ _ 1 _ _ _ (omega arith) c.left_part-part.ensures c.left-left.ensures (pair _ c.visit_leaf.ensures) c.if-not-visit_leaf.true)
 
 -- the left leaf is done
 pub returns-then-rest-eq0 : goal.returns-then-rest-eq0
-unfolding left right
-returns-then-rest-eq0 c =
-    let done = met_yes _ _ _ _ _ _ _ _ c.meet.ensures c.if-meet-eq-REFUSED.false (met_no_more _ _ _ _ _ _ _ _ c.meet.ensures refl) in
-    parts (walk_ends _ _ 1 _ _ _ (omega arith) c.left_part-part.ensures refl done refl c.if-rest-eq0.true)
+returns-then-rest-eq0 g c = rw c.is_none.ensures (parts (walk_ends g.L.NodeLayout.reading _ _ 1 _ _ _ (omega arith) c.left_part-part.ensures c.left-left.ensures (pair _ c.visit_leaf.ensures) c.if-not-visit_leaf.false c.right-right.ensures c.if-rest-eq0.true))
 
 pub returns : goal.returns
-unfolding left right
-returns c =
-    let done = met_yes _ _ _ _ _ _ _ _ c.meet.ensures c.if-meet-eq-REFUSED.false (met_no_more _ _ _ _ _ _ _ _ c.meet.ensures refl) in
-    parts (sym (met_answer _ _ _ _ _ _ _ _ c.meet-2.ensures (met_no_more _ _ _ _ _ _ _ _ c.meet-2.ensures refl))
-    ∙ walk-right _ _ 1 _ _ _ (omega arith) c.left_part-part.ensures refl done refl c.if-rest-eq0.false)
+returns g c =
+    parts (sym (pair _ c.visit_leaf-2.ensures)
+    ∙ walk-right g.L.NodeLayout.reading _ _ 1 _ _ _ (omega arith) c.left_part-part.ensures c.left-left.ensures (pair _ c.visit_leaf.ensures) c.if-not-visit_leaf.false c.right-right.ensures c.if-rest-eq0.false)

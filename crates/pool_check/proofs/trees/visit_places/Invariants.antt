@@ -1,10 +1,7 @@
--- The trees of the places below p are visited, which gave the work slice and sound.
-use Rattle.std.proofs.Common.{◌≡◌, ◌-◌, ◌≤◌}
-use Rattle.pool_check.proofs.Laws.{visited_to}
+-- The trees of the places below f-index are visited, which gave the work slice.
+use Rattle.std.proofs.Common.{◌≡◌, true}
+use Rattle.pool_check.specs.Algorithm.{visit_places}
 use Rattle.pool_check.proofs.trees.visit_places.Given as goal
 
-abbrev pub invariant-loop-p : goal.invariant-loop-p
-invariant-loop-p l = (visited_to l.n l.height l.nodes l.frames l.pool l.fn.work l.p ≡ (l.work, l.sound)) × (l.p ≤ l.end)
-
-abbrev pub decreases-loop-p : goal.decreases-loop-p
-decreases-loop-p l = l.end - l.p
+abbrev pub invariant-loop-f : goal.invariant-loop-f
+invariant-loop-f g l = visit_places g.L.NodeLayout.reading l.n l.height l.nodes l.frames l.pool l.f-index l.fn.work ≡ (l.work, true)

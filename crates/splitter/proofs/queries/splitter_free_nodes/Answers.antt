@@ -5,8 +5,8 @@ use Rattle.splitter.proofs.queries.splitter_free_nodes.Goals as goal
 pub returns-then-numbers-ne-NUMBER_COUNT : goal.returns-then-numbers-ne-NUMBER_COUNT
 returns-then-numbers-ne-NUMBER_COUNT c = free_other _ _ c.if-numbers-ne-NUMBER_COUNT.true
 
-pub returns-then-pool-nodes : goal.returns-then-pool-nodes
-returns-then-pool-nodes c = free_short _ _ c.if-numbers-ne-NUMBER_COUNT.false c.if-pool-nodes.true
+pub returns-then-pool-numbers : goal.returns-then-pool-numbers
+returns-then-pool-numbers c = free_short _ _ c.if-numbers-ne-NUMBER_COUNT.false c.if-pool-numbers.true
 
 pub returns : goal.returns
-returns c = free_counted _ _ _ c.if-numbers-ne-NUMBER_COUNT.false c.if-pool-nodes.false c.chain_length.ensures
+returns c = free_counted _ _ _ c.if-numbers-ne-NUMBER_COUNT.false c.if-pool-numbers.false c.count_free.ensures
