@@ -40,6 +40,10 @@ module _ (c : Core) (p : ℕ) (f : Frame) (e : f ≡ frame_at c.frames p) where
   unfolding end_at
   end_done ts fs ws node count er ef et = rw (er.0, er.1, er.2, ef, et, e)
 
+-- the totals stay if that frame has a parent
+pub totals_stay : (c : Core) (p : ℕ) (f : Frame) → f ≡ frame_at c.frames p → (frame_at c.frames p).parent ≢ none → c.totals ≡ cond (eqb f.parent none) (view_words f.view) c.totals
+totals_stay c p f e m = rw (ne_eqb f.parent none (λ y. m (sym (ap (λ (g : Frame). g.parent) e) ∙ y)))
+
 -- ---- the ends from there, up to the core a: its parent is at place q
 
 module _ (c : Core) (w n p : ℕ) (r : EndsFrom c w n p) where

@@ -2,7 +2,7 @@
 use Rattle.std.specs.Prelude.{Err, Ok}
 use mathlib.Core.Path.{◌≡◌, refl, sym, ap, ◌∙◌}
 use mathlib.Core.Bool.{Bool, true, false, not}
-use mathlib.Core.List.{List}
+use mathlib.Core.List.{List, []}
 use Prim.Native.Nat.{ℕ, ◌*◌, ◌/◌, ◌%◌, ◌≤◌}
 use lib.Dec.{eqb, ltb}
 use lib.ListN.{length}
@@ -10,14 +10,14 @@ use Rattle.words.specs.Tests.{neither, ge_of}
 use Rattle.frames.specs.declared.Frame.{Frame}
 use Rattle.soundness.specs.declared.CheckError.{CheckError}
 use Rattle.soundness.specs.declared.CheckError.TheVariants.{NoRoom}
-use Rattle.soundness.specs.Soundness.{Checked}
+use Rattle.soundness.specs.Soundness.{Checked, cleared}
 use Rattle.soundness.specs.Numbers.{numbers_in, totals_in}
 use Rattle.semantics.specs.declared.Refusal.TheVariants.{Tape}
 use Rattle.semantics.specs.Answers.{refusal_number, check_refusal}
-use Rattle.semantics.specs.Entries.{State, core_of, TapeResult, tape_checked, tape_with, unfit_tape, records_result, run_on, records_of}
+use Rattle.semantics.specs.Entries.{State, core_of, TapeResult, tape_checked, tape_with, unfit_tape, records_result, records_from, run_on, records_of}
 use Rattle.semantics.specs.Promises.{parts, Fits, IsTape}
 use Rattle.semantics.specs.Ranges.{Kept}
-use Rattle.semantics.proofs.Theory.Fitting.{totals_long}
+use Rattle.semantics.proofs.Theory.Fitting.{state_back, totals_long}
 use Rattle.semantics.proofs.Theory.WorkSlice.{no_room_keeps}
 use Rattle.semantics.proofs.Theory.Kept.{kept_start}
 use Rattle.engine.specs.Promises.{IsCheck, IsRun}
@@ -37,6 +37,10 @@ result s ws ks rs r = record { state = s; pool = ws; work = ks; answers = rs; re
 by_result : (o : TapeResult) (ns ds : List ℕ) (fs : List Frame) (ws ks rs : List ℕ) (r : ℕ) → result (parts ns ds fs) ws ks rs r ≡ o → IsTape o ns ds fs ws ks rs r
 by_result o ns ds fs ws ks rs r e =
     record { result = ap (λ q. q.result) e; state = ap (λ q. q.state) e; pool = ap (λ q. q.pool) e; work = ap (λ q. q.work) e; answers = ap (λ q. q.answers) e }
+
+no_records : (bytes : List ℕ) → length bytes ≡ 0 → records_of bytes ≡ []
+unfolding records_from
+no_records bytes z = rw z
 
 module _ (ns ds : List ℕ) (fs : List Frame) (ws ks bytes rs : List ℕ) (b : Bool) (eb : b ≡ unfit_tape bytes rs) where
   abbrev s : State
@@ -60,6 +64,12 @@ module _ (ns ds : List ℕ) (fs : List Frame) (ws ks bytes rs : List ℕ) (b : B
 
     pub unsound_tape : (e : CheckError) → k ≡ Err e → (r : ℕ) → r ≡ refusal_number (check_refusal e) → IsTape (tape_with two_words (parts ns ds fs) ws ks bytes rs) ns ds fs ws ks' rs r
     unsound_tape e q r er = by_result _ ns ds fs ws ks' rs r (by_check (result s ws ks' rs r) (ap (result s ws ks' rs) er ∙ refused_by_lem e q))
+
+    -- a tape of no records: the check is all
+    pub tape_empty : (free : ℕ) → k ≡ Ok free → length bytes ≡ 0 → Fits (parts ns ds fs) → IsTape (tape_with two_words (parts ns ds fs) ws ks bytes rs) ns ds fs ws ks' rs 0
+    unfolding run_on
+    tape_empty free e z F = by_result _ ns ds fs ws ks' rs 0 (by_check (result s ws ks' rs 0)
+        (rw (e, ek.0, no_records bytes z) (ap (λ (q : State). result q ws (cleared (numbers_in ns).nodes ks) rs 0) (sym (state_back s ws free F)))))
 
     pub tape_done_lem : (free : ℕ) (ns' ds' : List ℕ) (fs' : List Frame) (ws' rs' : List ℕ) → k ≡ Ok free
         → IsRun (run_on two_words (records_result (core_of (parts ns ds fs) ws free) rs) 0 (records_of bytes)) ns' ds' fs' ws' rs' → IsTape (tape_with two_words (parts ns ds fs) ws ks bytes rs) ns' ds' fs' ws' ks' rs' 0

@@ -17,7 +17,8 @@ mod state_ref;
 mod tapes;
 mod turns;
 
-pub use checking::check_state;
+// what a start, a tape and the change-over check
+pub use checking::{check_state, check_tables, totals_right};
 pub use entries::{load, report, save, start, tape};
 pub use numbers::numbers_in;
 pub use state_ref::StateRef;

@@ -1,5 +1,6 @@
 // A return: the bottom frame waits, or it ends, and upward from it the frames that waited in their returns for it alone.
-ghost use Rattle.std.specs.Prelude.{◌≡◌, ◌≤◌, length};
+ghost use Rattle.std.specs.Prelude.{◌≡◌, ◌≢◌, ◌≤◌, length};
+ghost use Rattle.words.specs.Basics.{none};
 ghost use Rattle.frames.specs.Frames.{frame_at};
 ghost use Rattle.frames.specs.Widths.{max_places};
 ghost use Rattle.model.specs.declared.Step.TheVariants.{Return};
@@ -10,11 +11,11 @@ ghost use Rattle.soundness.specs.Layout.{two_words};
 
 use crate::numbers::end_totals;
 use crate::run::Run;
-use frames::{NONE, Returned, end_frame, go_on, pop_off, wait_frame};
+use frames::{NONE, Returned, end_below, end_frame, go_on, pop_off, wait_frame};
 use semantics::{Done, Refusal};
 
 impl Run<'_, '_> {
-    // The frame at place p ends: its place is the first free one, and its tree is released; if it is Main, its view becomes the totals. Gives its parent's place.
+    // The frame at place p ends: its tree is released, and its place is the first free one; if it is Main, its view becomes the totals. Gives its parent's place.
     fn end_at(&mut self, p: u32) -> u32
         requires { (self.old.pool.now.nodes ≡ self.old.head.numbers.nodes) × EndsAt (core_in self.old) p × (length self.old.frames.now ≤ max_places) }
         ensures same { SameRun self.old self.new }
@@ -23,14 +24,32 @@ impl Run<'_, '_> {
     {
         let head = self.head;
         let free = self.free_nodes();
+        let root = self.frame(p).root;
+        let freed = self.pool.release(free, root, head.height);
         let f = self.frame(p);
         end_totals(self.numbers, f.parent, f.view);
         end_frame(self.frames, head.numbers.free_place, p, f.parent);
-        let freed = self.pool.release(free, f.root, head.height);
         self.head.numbers.free_node = freed.first;
         self.head.numbers.free_place = p;
         self.head.free_count = freed.count;
         f.parent
+    }
+
+    // The same for a frame that is not Main; its tree is released after its end, so that nothing is kept over the one for the other.
+    fn end_child_at(&mut self, p: u32)
+        requires { (self.old.pool.now.nodes ≡ self.old.head.numbers.nodes) × EndsAt (core_in self.old) p × (length self.old.frames.now ≤ max_places)
+            × ((frame_at self.old.frames.now p).parent ≢ none) }
+        ensures same { SameRun self.old self.new }
+        ensures ends { core_in self.new ≡ end_at two_words (core_in self.old) p }
+    {
+        let head = self.head;
+        let free = self.free_nodes();
+        let f = self.frame(p);
+        end_below(self.frames, head.numbers.free_place, p, f.parent);
+        let freed = self.pool.release(free, f.root, head.height);
+        self.head.numbers.free_node = freed.first;
+        self.head.numbers.free_place = p;
+        self.head.free_count = freed.count;
     }
 
     // The frame at place `first` ends; worker w has no frame left, so its parent may end too, and so on upward. Each turn is nearer to Main.
@@ -62,7 +81,7 @@ impl Run<'_, '_> {
         if n == 1 {
             return self.end_upward(w, p);
         }
-        let _ = self.end_at(p);
+        self.end_child_at(p);
         Returned::Continued
     }
 

@@ -34,6 +34,10 @@ pub fn tape_on(
     if unfit_tape(bytes, answers) {
         return Err(Refusal::Tape);
     }
+    if bytes.is_empty() {
+        check_state::<TwoWords>(state.shared(), pool, work)?;
+        return Ok(());
+    }
     let free_count = check_state::<TwoWords>(state.shared(), pool, work)?;
     run_tape(
         state.numbers,

@@ -13,6 +13,7 @@ ghost use Rattle.frame_check.specs.Algorithm.{live_end};
 use deques::{deques_fit, tally_deques};
 use frames::{DEQUE_WORDS, Frame, MAX_PLACES};
 use places::{follow_free, places_sound};
+pub use tallies::Census;
 use tallies::tally_children;
 
 // Are frames and deques sound? One more than the last place where a frame lives, or 0; None if they are not. first is the first free place.

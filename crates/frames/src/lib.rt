@@ -13,7 +13,9 @@ mod table;
 pub use deques::{acting_place, init_deques, place_at, pop_off, size_at, top_at};
 use reducers::View;
 pub use start::{clear_frames, init_frames};
-pub use steps::{end_frame, fold_at, go_on, spawn_frame, steal_frame, sync_frame, wait_frame};
+pub use steps::{
+    end_below, end_frame, fold_at, go_on, spawn_frame, steal_frame, sync_frame, wait_frame,
+};
 pub use table::{frame_at, frame_or_zero, put_frame};
 pub use words::NONE;
 

@@ -104,12 +104,12 @@ pub fn end_frame(frames: &mut [Frame], free: u32, p: u32, q: u32)
 }
 
 // The value v is folded into reducer r of the view of the frame at place p; a number that names no reducer folds nothing.
+#[tactic(auto, unfolding(crate::specs::Frames::frame_at, crate::specs::Frames::set_frame))]
 pub fn fold_at(frames: &mut [Frame], p: u32, r: u32, v: u32)
     requires { p < length frames.old }
     ensures { frames.new ≡ set_frame frames.old p (with_view (frame_at frames.old p) (fold_view (frame_at frames.old p).view r v)) }
 {
-    let f = frame_at(frames, p);
-    put_frame(frames, p, f.folded(r, v));
+    frames[p as usize].view.fold_in(r, v);
 }
 
 // The frame at place q resumes on worker w, whose deque is empty, or the worker is idle.

@@ -1,9 +1,9 @@
 #![tactic(auto)]
 // What each worker remembers (R-10), in lent words: for each worker an entry for each splitter, then a base for each worker. An entry above its worker's base is
 // the base, a leaf's number and one; another remembers none. The lent words are an array, so no function tests an index.
-ghost use Rattle.std.specs.Prelude.{◌≡◌, ◌<◌};
+ghost use Rattle.std.specs.Prelude.{◌≡◌, ◌<◌, length};
 ghost use Rattle.frames.specs.Widths.{max_workers};
-ghost use Rattle.memory.specs.Memory.{base, entry, remembered, remember, zeroed_from, emptied, row_at, max_splitters};
+ghost use Rattle.memory.specs.Memory.{base, entry, remembered, remember, zeroed_from, emptied, row_at, max_splitters, memory_words};
 
 // The widths of specs/Memory.antt.
 pub const MAX_SPLITTERS: u32 = 256;
@@ -21,7 +21,8 @@ pub const LAST_BASE: u32 = 4294950911;
 #[tactic(auto, unfolding(crate::specs::Memory::base))]
 pub fn base_at(memory: &[u32; MEMORY_WORDS], w: u32) -> u32
     requires { w < max_workers }
-    ensures { result ≡ base memory.now w }
+    ensures base { result ≡ base memory.now w }
+    ensures long { length memory.now ≡ memory_words }
 {
     memory[ENTRIES + (w as usize)]
 }

@@ -13,6 +13,7 @@ mod tree;
 pub use found::{FirstShared, Shared};
 pub use node::{NODE_WORDS, links_of, next_of};
 pub use node_pool::{Free, Pool};
+pub use refs::retain;
 pub use start::init_pool;
-pub use tree::Written;
+pub use tree::{Written, first_shared, read_at, set_value};
 pub use words::NONE;

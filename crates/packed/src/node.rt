@@ -1,5 +1,5 @@
 // A node's two words: holders, then the links, the value or the next free node. What is past the end reads as 0 and is not stored.
-ghost use Rattle.std.specs.Prelude.{◌≡◌, ◌<◌};
+ghost use Rattle.std.specs.Prelude.{◌≡◌, ◌*◌, ◌<◌, ◌≤◌, length};
 ghost use Rattle.packed.specs.Pool.{refcount, content, half, link_in, links, left, right, next_free, set_node};
 
 use crate::links::Links;
@@ -47,32 +47,47 @@ pub fn set_node(pool: &mut [u32], i: u32, c: u32, w: u32)
     put(pool, at + 1, w);
 }
 
-// Nodes in range, with no test.
-impl Pool<'_> {
-    #[tactic(auto, unfolding(crate::specs::Pool::refcount))]
-    pub(crate) fn holders(&self, i: usize) -> u32
-        requires { i < self.now.nodes }
-        ensures { result ≡ refcount self.now.words.now i }
-    {
-        self.words[2 * i]
-    }
+// ---- nodes in range, with no test
 
-    // The second word.
-    #[tactic(auto, unfolding(crate::specs::Pool::content))]
+#[tactic(auto, unfolding(crate::specs::Pool::refcount))]
+pub(crate) fn holders_in(pool: &[u32], nodes: u32, i: usize) -> u32
+    requires { (2 * nodes ≤ length pool.now) × (i < nodes) }
+    ensures { result ≡ refcount pool.now i }
+{
+    pool[2 * i]
+}
+
+// The second word.
+#[tactic(auto, unfolding(crate::specs::Pool::content))]
+pub(crate) fn content_in(pool: &[u32], nodes: u32, i: usize) -> u32
+    requires { (2 * nodes ≤ length pool.now) × (i < nodes) }
+    ensures { result ≡ content pool.now i }
+{
+    pool[2 * i + 1]
+}
+
+// Of an inner node.
+#[tactic(auto, using(crate::proofs::Words::left_half, crate::proofs::Words::right_half))]
+pub(crate) fn links_in(pool: &[u32], nodes: u32, i: usize) -> Links
+    requires { (2 * nodes ≤ length pool.now) × (i < nodes) }
+    ensures { (link_in result.left ≡ left pool.now i) × (link_in result.right ≡ right pool.now i) }
+{
+    Links::from(content_in(pool, nodes, i))
+}
+
+impl Pool<'_> {
     pub(crate) fn content(&self, i: usize) -> u32
         requires { i < self.now.nodes }
         ensures { result ≡ content self.now.words.now i }
     {
-        self.words[2 * i + 1]
+        content_in(self.words, self.nodes, i)
     }
 
-    // Of an inner node.
-    #[tactic(auto, using(crate::proofs::Words::left_half, crate::proofs::Words::right_half))]
     pub(crate) fn links(&self, i: usize) -> Links
         requires { i < self.now.nodes }
         ensures { (link_in result.left ≡ left self.now.words.now i) × (link_in result.right ≡ right self.now.words.now i) }
     {
-        Links::from(self.content(i))
+        links_in(self.words, self.nodes, i)
     }
 
     #[tactic(auto, unfolding(crate::specs::Pool::set_node))]

@@ -1,5 +1,5 @@
 // Reference counts: a node is freed when its last holder lets go. A half of a word that is no node is left alone, by one test.
-ghost use Rattle.std.specs.Prelude.{◌≡◌, ◌<◌, ◌≤◌};
+ghost use Rattle.std.specs.Prelude.{◌≡◌, ◌*◌, ◌<◌, ◌≤◌, length};
 ghost use Rattle.pool.specs.Links.{Link};
 ghost use Rattle.packed.specs.Links.{LetGo, Released};
 ghost use Rattle.packed.specs.Pool.{refcount, retain, release};
@@ -7,19 +7,27 @@ ghost use Rattle.packed.specs.Pool.{refcount, retain, release};
 use crate::node_pool::{Free, Pool};
 use words::NONE;
 
+// One holder more; no node, no change. (Of any words that hold the nodes; a `Pool` has 16,384 nodes at most.)
+#[tactic(auto, unfolding(crate::specs::Pool::retain, crate::specs::Pool::set_refcount, crate::specs::Pool::refcount))]
+pub fn retain(pool: &mut [u32], nodes: u32, i: u32)
+    requires { (2 * nodes ≤ length pool.old) × Link nodes i }
+    ensures { pool.new ≡ retain pool.old i }
+{
+    if i != NONE {
+        let at = 2 * (i as usize);
+        pool[at] = pool[at].wrapping_add(1);
+    }
+}
+
 impl Pool<'_> {
     // One holder more; no node, no change.
-    #[tactic(auto, unfolding(crate::specs::Pool::retain, crate::specs::Pool::set_refcount, crate::specs::Pool::refcount))]
     pub fn retain(&mut self, i: u32)
         requires { Link self.old.nodes i }
         ensures words { self.new.words.now ≡ retain self.old.words.now i }
         ensures nodes { self.new.nodes ≡ self.old.nodes }
         ensures same_reference { self.new.words.ghost_name ≡ self.old.words.ghost_name }
     {
-        if i != NONE {
-            let at = 2 * (i as usize);
-            self.words[at] = self.words[at].wrapping_add(1);
-        }
+        retain(self.words, self.nodes, i);
     }
 
     // One holder less. True if it was the last: node i is then to be freed, and nothing is stored.

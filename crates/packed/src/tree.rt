@@ -1,13 +1,13 @@
 // The walk to a splitter's leaf, and a write: from the root down, nodes with one holder are altered where they are; from the first
 // with more holders the rest of the path is new. No index is tested: the contracts ask that the nodes on the way are nodes.
-ghost use Rattle.std.specs.Prelude.{◌≡◌, ◌<◌, ◌≤◌};
+ghost use Rattle.std.specs.Prelude.{◌≡◌, ◌*◌, ◌<◌, ◌≤◌, length};
 ghost use Rattle.sizes.specs.Sizes.{bit};
 ghost use Rattle.pool.specs.Links.{Link};
 ghost use Rattle.packed.specs.Links.{PathIn, CopyIn, Finds, IsShared, WriteIn, Wrote};
 ghost use Rattle.packed.specs.Pool.{link_in, child, sibling, read_at, set_value, set_link, path_node, copy_path, renew, first_shared, write};
 
 use crate::found::{FirstShared, Shared};
-use crate::node::link_of;
+use crate::node::{content_in, holders_in, link_of, links_in};
 use crate::node_pool::{Free, Pool};
 
 // What a write leaves: the free list, and the frame's root.
@@ -17,26 +17,79 @@ pub struct Written {
     pub root: u32,
 }
 
+// The child of node i of level l + 1 on the way to splitter x, in 16 bits.
+#[tactic(auto, using(crate::proofs::Words::side_link), unfolding(crate::specs::Pool::child))]
+fn child_in(pool: &[u32], nodes: u32, i: usize, l: u32, x: u32) -> usize
+    requires { (2 * nodes ≤ length pool.now) × (i < nodes) × (l < 32) }
+    ensures { link_in result ≡ child pool.now i (bit l x) }
+{
+    links_in(pool, nodes, i).toward(l, x) as usize
+}
+
+// ---- over any words that hold the nodes (a `Pool` has 16,384 nodes at most, and its words are lent to be changed)
+
+// What the tree holds at splitter x. The walk meets nodes only, so no index is tested.
+pub fn read_at(pool: &[u32], nodes: u32, height: u32, root: u32, x: u32) -> u32
+    requires { (2 * nodes ≤ length pool.now) × (height ≤ 32) × PathIn nodes pool.now height root x }
+    ensures { result ≡ read_at height pool.now root x }
+{
+    let mut i = root as usize;
+    for l in (0..height).rev() {
+        i = child_in(pool, nodes, i, l, x);
+    }
+    content_in(pool, nodes, i)
+}
+
+// The first node with more than one holder on the way to splitter x.
+pub fn first_shared(pool: &[u32], nodes: u32, height: u32, root: u32, x: u32) -> FirstShared
+    requires { (2 * nodes ≤ length pool.now) × (height ≤ 32) × PathIn nodes pool.now height root x }
+    ensures { Finds height result (first_shared height pool.now root root x) }
+{
+    let mut node = root as usize;
+    if holders_in(pool, nodes, node) > 1 {
+        return FirstShared::Node(Shared {
+            level: height,
+            node: root,
+            above: root,
+        });
+    }
+    for level in (0..height).rev() {
+        let above = node;
+        node = child_in(pool, nodes, above, level, x);
+        if holders_in(pool, nodes, node) > 1 {
+            return FirstShared::Node(Shared {
+                level,
+                node: node as u32,
+                above: above as u32,
+            });
+        }
+    }
+    FirstShared::Leaf(node as u32)
+}
+
+// Stores a leaf's value.
+#[tactic(auto, unfolding(crate::specs::Pool::set_value, crate::specs::Pool::set_content))]
+pub fn set_value(pool: &mut [u32], nodes: u32, i: u32, v: u32)
+    requires { (2 * nodes ≤ length pool.old) × (i < nodes) }
+    ensures { pool.new ≡ set_value pool.old i v }
+{
+    pool[2 * (i as usize) + 1] = v;
+}
+
 impl Pool<'_> {
-    // The child of node i of level l + 1 on the way to splitter x, in 16 bits.
-    #[tactic(auto, using(crate::proofs::Words::side_link), unfolding(crate::specs::Pool::child))]
     fn child(&self, i: usize, l: u32, x: u32) -> usize
         requires { (i < self.now.nodes) × (l < 32) }
         ensures { link_in result ≡ child self.now.words.now i (bit l x) }
     {
-        self.links(i).toward(l, x) as usize
+        child_in(self.words, self.nodes, i, l, x)
     }
 
-    // What the tree holds at splitter x. The walk meets nodes only, so no index is tested.
+    // What the tree holds at splitter x.
     pub fn read_at(&self, height: u32, root: u32, x: u32) -> u32
         requires { (height ≤ 32) × PathIn self.now.nodes self.now.words.now height root x }
         ensures { result ≡ read_at height self.now.words.now root x }
     {
-        let mut i = root as usize;
-        for l in (0..height).rev() {
-            i = self.child(i, l, x);
-        }
-        self.content(i)
+        read_at(self.words, self.nodes, height, root, x)
     }
 
     // ---- the new path
@@ -92,14 +145,13 @@ impl Pool<'_> {
     }
 
     // Stores a leaf's value.
-    #[tactic(auto, unfolding(crate::specs::Pool::set_value, crate::specs::Pool::set_content))]
     pub fn set_value(&mut self, i: u32, v: u32)
         requires { i < self.old.nodes }
         ensures words { self.new.words.now ≡ set_value self.old.words.now i v }
         ensures nodes { self.new.nodes ≡ self.old.nodes }
         ensures same_reference { self.new.words.ghost_name ≡ self.old.words.ghost_name }
     {
-        self.words[2 * (i as usize) + 1] = v;
+        set_value(self.words, self.nodes, i, v);
     }
 
     // The link of node i of level l + 1 on the way to splitter x goes to node c.
@@ -120,26 +172,7 @@ impl Pool<'_> {
         requires { (height ≤ 32) × PathIn self.now.nodes self.now.words.now height root x }
         ensures { Finds height result (first_shared height self.now.words.now root root x) }
     {
-        let mut node = root as usize;
-        if self.holders(node) > 1 {
-            return FirstShared::Node(Shared {
-                level: height,
-                node: root,
-                above: root,
-            });
-        }
-        for level in (0..height).rev() {
-            let above = node;
-            node = self.child(above, level, x);
-            if self.holders(node) > 1 {
-                return FirstShared::Node(Shared {
-                    level,
-                    node: node as u32,
-                    above: above as u32,
-                });
-            }
-        }
-        FirstShared::Leaf(node as u32)
+        first_shared(self.words, self.nodes, height, root, x)
     }
 
     // Writes v at splitter x, where `found` is the first node with more than one holder on the way: the rest of the path is new, in

@@ -33,7 +33,7 @@ fn settle<L: NodeLayout>(pool: &[u32], work: &[u32], nodes: u32, first: u32) -> 
 }
 
 // Are n and the recorded nodes small enough, and have pool and work slice room for them?
-fn in_bounds<L: NodeLayout>(n: u32, nodes: u32, pool: &[u32], work: &[u32]) -> bool
+pub fn in_bounds<L: NodeLayout>(n: u32, nodes: u32, pool: &[u32], work: &[u32]) -> bool
     ensures { result ≡ in_bounds L.reading.layout n nodes pool.now work.now }
 {
     let room = L::has_room(pool, nodes) & (nodes as usize <= work.len());
@@ -41,7 +41,7 @@ fn in_bounds<L: NodeLayout>(n: u32, nodes: u32, pool: &[u32], work: &[u32]) -> b
 }
 
 // The answer when the trees are visited, which are trees or not; the work slice is cleared again.
-fn conclude<L: NodeLayout>(
+pub fn conclude<L: NodeLayout>(
     visited: bool,
     pool: &[u32],
     work: &mut [u32],

@@ -4,7 +4,9 @@
 ghost use Rattle.std.specs.Prelude.{◌≡◌};
 ghost use Rattle.reducers.specs.Law.{Law, SumWord, MinWord, AffineWord, ViewWord};
 ghost use Rattle.reducers.specs.Reducers.{identity_sum, join_sum, identity_min, join_min, identity_affine, join_affine, folded_sum, folded_min, folded_affine, identity_view, join_view, fold_view, number, Numbers};
-ghost use Rattle.reducers.specs.Theory.Laws.{sum_law, min_law, affine_law, view_law};
+ghost use Rattle.words.specs.Below.{plus_word};
+ghost use Rattle.reducers.specs.Theory.Modulo.{affine_twice};
+ghost use Rattle.reducers.specs.Theory.Laws.{sum_law, min_law, times_word, affine_law_by, view_law_by};
 
 // "Each operation has an identity that changes nothing when combined on either side, and grouping never matters", of the views that are words.
 pub trait Monoid: Copy {
@@ -120,20 +122,30 @@ impl Monoid for Affine {
         }
     }
 
-    ghost laws = { affine_law };
+    ghost laws = { affine_law_by join_affine (λ a b. (times_word _ _, plus_word _ _)) (λ a b x. affine_twice 4294967296 x a.multiplier a.addend b.multiplier b.addend) };
 }
 
 // "the value divided by 65,536 is the multiplier and its remainder the addend"
 impl From<u32> for Affine {
     ghost from_gives = { λ value affine. affine ≡ folded_affine value };
 
-    // Kept apart, so that the compiler reads a record's value with one load and not by these halves.
-    #[inline(never)]
     fn from(value: u32) -> Affine {
         Affine {
             multiplier: value / 65536,
             addend: value % 65536,
         }
+    }
+}
+
+impl Affine {
+    // A value folded in place. Kept apart, so that the compiler reads a record's value with one load and not by its halves.
+    #[inline(never)]
+    fn fold_in(&mut self, value: u32)
+        ensures { self.new ≡ join_affine self.old (folded_affine value) }
+    {
+        let joined = self.join(Affine::from(value));
+        self.multiplier = joined.multiplier;
+        self.addend = joined.addend;
     }
 }
 
@@ -170,7 +182,7 @@ impl Monoid for View {
         }
     }
 
-    ghost laws = { view_law };
+    ghost laws = { view_law_by (affine_law_by join_affine (λ a b. (times_word _ _, plus_word _ _)) (λ a b x. affine_twice 4294967296 x a.multiplier a.addend b.multiplier b.addend)) };
 }
 
 // The reducers, numbered in this order.
@@ -201,34 +213,42 @@ impl TryFrom<u32> for Reducer {
 }
 
 impl View {
-    // A value folded into a reducer.
+    // A value folded into a reducer, in place: no other reducer's words are read or stored.
     #[tactic(auto, unfolding(crate::specs::Reducers::fold_view))]
+    fn renew(&mut self, reducer: Reducer, value: u32)
+        ensures { self.new ≡ fold_view self.old (number reducer) value }
+    {
+        match reducer {
+            Reducer::Sum => self.sum.value = self.sum.join(Sum::from(value)).value,
+            Reducer::Min => self.min.value = self.min.join(Min::from(value)).value,
+            Reducer::Affine => self.affine.fold_in(value),
+        }
+    }
+
+    // The value v folded into reducer r in place; a number that names no reducer folds nothing.
+    pub fn fold_in(&mut self, r: u32, v: u32)
+        ensures { self.new ≡ fold_view self.old r v }
+    {
+        if let Ok(reducer) = Reducer::try_from(r) {
+            self.renew(reducer, v);
+        }
+    }
+
+    // A value folded into a reducer.
     pub fn fold(self, reducer: Reducer, value: u32) -> View
         ensures { result ≡ fold_view self (number reducer) value }
     {
-        match reducer {
-            Reducer::Sum => View {
-                sum: self.sum.join(Sum::from(value)),
-                ..self
-            },
-            Reducer::Min => View {
-                min: self.min.join(Min::from(value)),
-                ..self
-            },
-            Reducer::Affine => View {
-                affine: self.affine.join(Affine::from(value)),
-                ..self
-            },
-        }
+        let mut view = self;
+        view.renew(reducer, value);
+        view
     }
 
     // The value v folded into reducer r; a number that names no reducer folds nothing.
     pub fn folded(w: View, r: u32, v: u32) -> View
         ensures { result ≡ fold_view w r v }
     {
-        match Reducer::try_from(r) {
-            Ok(reducer) => w.fold(reducer, v),
-            Err(_) => w,
-        }
+        let mut view = w;
+        view.fold_in(r, v);
+        view
     }
 }

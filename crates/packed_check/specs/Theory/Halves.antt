@@ -12,15 +12,16 @@ use Rattle.frames.specs.Frames.{frame_at}
 use Rattle.soundness.specs.Layout.{two_words}
 use Rattle.soundness.specs.Soundness.{lives, cleared}
 use Rattle.pool_check.specs.Answer.{in_bounds}
+use Rattle.pool_check.specs.Reading.{Reading}
 use Rattle.pool_check.specs.Algorithm.{stamp, stamped, and_then, visit, below, visit_place, visit_places, unvisited, chain_from, node_right, settle, run_check, Answers}
 use Rattle.pool_check.specs.Theory.Ways.{on_left, visit_off, visit_again, visit-below, below_left, below_end, below_right, place-live, place_free_lem, run_out, run_off, run_on_lem}
 use Rattle.packed_check.specs.TwoWords.{vacant, two, halves, left_half, right_half}
 use Rattle.packed_check.specs.Theory.Correct.{check-answer}
 
--- a half leads where its link does
-visit-half : (N : ℕ) (ws : List ℕ) (l k a : ℕ) (w : List ℕ) → N ≤ 65535 → visit halves N ws l k (link_in a) w ≡ visit halves N ws l k a w
-visit-half N ws l k a w few = elim (ℕ_discrete a 65535) [
-  | yes e ↦ rw (eq-eqb a 65535 e) (visit_off halves N ws k none w l (omega arith) ∙ sym (visit_off halves N ws k a w l (omega arith)))
+-- a half of a word leads where its link does: that for none is no node's number
+pub visit-half : (R : Reading) (N : ℕ) (ws : List ℕ) (l k a : ℕ) (w : List ℕ) → N ≤ 65535 → visit R N ws l k (link_in a) w ≡ visit R N ws l k a w
+visit-half R N ws l k a w few = elim (ℕ_discrete a 65535) [
+  | yes e ↦ rw (eq-eqb a 65535 e) (visit_off R N ws k none w l (omega arith) ∙ sym (visit_off R N ws k a w l (omega arith)))
   | no e ↦ rw (ne_eqb a 65535 e)
 ]
 
@@ -64,10 +65,10 @@ module _ (N : ℕ) (ws : List ℕ) (few : N ≤ 65535) where
   ]
     where
       same : on_left two N ws l k i w ≡ on_left halves N ws l k i w
-      same = deep (min k (2 ^ l)) (left ws i) w ∙ visit-half N ws l (min k (2 ^ l)) (left_half ws i) w few
+      same = deep (min k (2 ^ l)) (left ws i) w ∙ visit-half halves N ws l (min k (2 ^ l)) (left_half ws i) w few
 
       on_right : (r : ℕ) (v : List ℕ) → visit two N ws l r (right ws i) v ≡ visit halves N ws l r (right_half ws i) v
-      on_right r v = deep r (right ws i) v ∙ visit-half N ws l r (right_half ws i) v few
+      on_right r v = deep r (right ws i) v ∙ visit-half halves N ws l r (right_half ws i) v few
 
   pub visits : (l : ℕ) → Visits l
   unfolding below

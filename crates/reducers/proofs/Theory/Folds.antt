@@ -11,7 +11,7 @@ use Rattle.reducers.specs.declared.View.{View}
 use Rattle.reducers.specs.Reducers.{identity_sum, identity_min, identity_affine, join_sum, join_min, join_affine, folded_sum, folded_min, folded_affine, identity_view, join_view, fold_view, joined_from, total_sum, total_min, total_affine, values_into, view_from, view_of}
 use Rattle.reducers.specs.Law.{MinWord, ViewWord}
 use Rattle.reducers.specs.Theory.Modulo.{mul_mod_mod}
-use Rattle.reducers.specs.Theory.Laws.{sum_law, min_law, affine_law, view_law, view_eq}
+use Rattle.reducers.proofs.Theory.Laws.{sum_law, min_law, affine_law, view_law, view_eq}
 
 -- ---- values of any size: the identity joined on the left reduces one to a word, which a join on its left does not see
 

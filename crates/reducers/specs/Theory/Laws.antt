@@ -1,4 +1,5 @@
--- The law of each reducer, by the shared argument, and of views.
+-- The law of each reducer, by the shared argument, and of views: of the affine map for any join that acts as it should, so that this reads whatever join_affine is.
+-- That join_affine does is shown where the law is asked for (`impl Monoid for Affine`), and in proofs/Theory/Laws.
 use Rattle.std.specs.Prelude.{◌≡◌, ◌⊎◌, cond, ℕ, ◌≤◌, ◌<◌, ltb}
 use Rattle.std.proofs.Common.{sym, ap, ◌∙◌, inl, inr, zero-mul, one-mul, mul-one, arith}
 use Rattle.words.specs.Basics.{none, plus, times}
@@ -11,7 +12,7 @@ use Rattle.reducers.specs.declared.View.{View}
 use Rattle.reducers.specs.Reducers.{identity_sum, join_sum, identity_min, join_min, identity_affine, join_affine, identity_view, join_view}
 use Rattle.reducers.specs.Law.{Law, SumWord, MinWord, AffineWord, ViewWord}
 use Rattle.reducers.specs.Theory.Shared.{Action, law}
-use Rattle.reducers.specs.Theory.Modulo.{plus_twice, affine_twice}
+use Rattle.reducers.specs.Theory.Modulo.{plus_twice}
 
 -- ---- 0, "the sum modulo 4,294,967,296"
 
@@ -124,26 +125,28 @@ affine_same a b p q h = affine_eq a b multipliers addends
     multipliers : a.multiplier ≡ b.multiplier
     multipliers = cancel a.multiplier b.multiplier b.addend p.0 q.0 q.1 (rw addends at sums)
 
-affine_action : Action Affine AffineWord identity_affine join_affine act_affine
-affine_action = record {
+pub times_word : (a b : ℕ) → times a b < 4294967296
+times_word a b = omega arith
+
+-- of any join that acts as its two maps one after the other, the earlier one first
+pub affine_law_by : (join : Affine → Affine → Affine) → ((a b : Affine) → AffineWord (join a b)) → ((a b : Affine) (x : ℕ) → act_affine (join a b) x ≡ act_affine b (act_affine a x))
+    → Law Affine AffineWord identity_affine join
+affine_law_by join fits after = law {act = act_affine} (record {
   identity_word = (omega arith, omega arith);
-  join_word = λ a b p q. (omega arith, omega arith);
+  join_word = λ a b p q. fits a b;
   act_word = λ a x p b. omega arith;
   act_identity = identity_at;
-  act_join = λ a b x. affine_twice 4294967296 x a.multiplier a.addend b.multiplier b.addend;
+  act_join = after;
   same = affine_same;
-}
-
-pub affine_law : Law Affine AffineWord identity_affine join_affine
-affine_law = law affine_action
+})
 
 -- ---- views, one of each
 
 pub view_eq : {a b : Sum} {c d : Min} {e f : Affine} → a ≡ b → c ≡ d → e ≡ f → ◌≡◌ {A = View} (record { sum = a; min = c; affine = e }) (record { sum = b; min = d; affine = f })
 view_eq p q r = rw (p, q, r)
 
-pub view_law : Law View ViewWord identity_view join_view
-view_law = record {
+pub view_law_by : Law Affine AffineWord identity_affine join_affine → Law View ViewWord identity_view join_view
+view_law_by affine_law = record {
   identity_word = (sum_law.identity_word, min_law.identity_word, affine_law.identity_word);
   join_word = λ a b p q. (
     sum_law.join_word a.sum b.sum p.0 q.0,

@@ -2,7 +2,7 @@
 use Rattle.std.proofs.Common.{◌≡◌}
 use Rattle.packed.specs.Links.{PathIn}
 use Rattle.packed.specs.Pool.{leaf_of}
-use Rattle.packed.proofs.node_pool.Pool.read_at.Given as goal
+use Rattle.packed.proofs.tree.read_at.Given as goal
 
 abbrev pub invariant-loop-l : goal.invariant-loop-l
-invariant-loop-l l = PathIn l.self.nodes l.self.words.now l.l l.i l.x × (leaf_of l.l l.self.words.now l.i l.x ≡ leaf_of l.height l.self.words.now l.root l.x)
+invariant-loop-l l = PathIn l.nodes l.pool l.l l.i l.x × (leaf_of l.l l.pool l.i l.x ≡ leaf_of l.height l.pool l.root l.x)
