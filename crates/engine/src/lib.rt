@@ -17,7 +17,7 @@ mod state_ref;
 mod tapes;
 mod turns;
 
-// what a start, a tape and the change-over check
+// the check of a state, and what it is made of
 pub use checking::{check_state, check_tables, totals_right};
 pub use entries::{load, report, save, start, tape};
 pub use numbers::numbers_in;
